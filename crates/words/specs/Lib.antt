@@ -1,0 +1,3 @@
+pub mod Words
+pub mod Moments
+pub mod ForkBits

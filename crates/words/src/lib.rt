@@ -1,0 +1,16 @@
+// The numbers of a board: words of 32 bits and their arithmetic, moments and delays, and the bits of a fork.
+// It may use the wrapping sums and differences that std supplies, and no other crate.
+pub mod fork;
+pub mod moment;
+pub mod word;
+
+pub use fork::fork_bits;
+pub use moment::Delay;
+pub use moment::Later;
+pub use moment::Moment;
+pub use moment::later_moment;
+pub use word::is_positive;
+pub use word::signed_less;
+pub use word::wrapping_add;
+pub use word::wrapping_multiply;
+pub use word::wrapping_subtract;

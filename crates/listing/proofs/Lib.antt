@@ -1,0 +1,17 @@
+pub mod Tests
+pub mod Splits
+pub mod Figures
+pub mod Separators
+pub mod Reading
+pub mod FieldsBack
+pub mod LinesBack
+pub mod Answers
+pub mod Records
+pub mod Texts
+pub mod Counts
+pub mod Causes
+pub mod Determine
+pub mod LineLengths
+pub mod ShortText
+pub mod Examples
+pub mod Ascii

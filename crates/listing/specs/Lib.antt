@@ -1,0 +1,12 @@
+pub mod Lists
+pub mod Listing
+pub mod Bytes
+pub mod Expressions
+pub mod Form
+pub mod Text
+pub mod Limits
+pub mod Questions
+pub mod Load
+pub mod WellFormed
+pub mod Evaluation
+pub mod Paper

@@ -1,0 +1,144 @@
+-- The start and an instant as a whole: due writes, inputs, the visit, outputs listed, next moment due.
+use mathlib.Core.Bool.{Bool, true, false}
+use mathlib.Core.List.{List, [], _∷_}
+use Prim.Native.Nat.{ℕ, suc, _+_, _-_}
+use lib.Dec.{eqb, leb}
+use lib.ListN.{drop, replicate}
+use Rattle.listing.specs.Listing.{Listing, Call}
+use Rattle.walk.specs.State.{Waiting, idle, due, Variable, fresh, Node, node, Forest, empty, more, liveInForest, State, Running, Turn, Result, ok, _>>=_}
+use Rattle.walk.specs.Memory.{writeAt, consecutive}
+use Rattle.walk.specs.Walk.{newRoutine, begin, run, visitForest}
+
+-- ── rule 1: "Every waiting write due at t is made, and is gone." ──────────────────────────────────
+unfoldable pub madeIfDue : Bool → ℕ → ℕ → ℕ → Variable
+madeIfDue true old m v = record { value = v; written = true; waiting = idle }
+madeIfDue false old m v = record { value = old; written = false; waiting = due m v }
+
+unfoldable pub dueWrite : ℕ → ℕ → Waiting → Variable
+dueWrite t old idle = record { value = old; written = false; waiting = idle }
+dueWrite t old (due m v) = madeIfDue (eqb m t) old m v
+
+unfoldable pub dueWrites : ℕ → List Variable → List Variable
+dueWrites t [] = []
+dueWrites t (x ∷ xs) = dueWrite t (x .value) (x .waiting) ∷ dueWrites t xs
+
+unfoldable mutual
+  pub dueInNode : Node → ℕ → Node
+  dueInNode (node r place names own children) t = node r place names (dueWrites t own) (dueInForest children t)
+
+  pub dueInForest : Forest → ℕ → Forest
+  dueInForest empty t = empty
+  dueInForest (more n ns) t = more (dueInNode n t) (dueInForest ns t)
+
+-- A write of a number: an input's or an output's, with its value.
+pub record Write : Type 0 where
+  pub number : ℕ
+  pub value : ℕ
+
+-- "Then the call's inputs are written."
+unfoldable pub applyInputs : List Write → List Variable → List Variable
+applyInputs [] environment = environment
+applyInputs (w ∷ ws) environment = applyInputs ws (writeAt environment (w .number) (w .value))
+
+-- ── after the visit: the marks of this instant go ─────────────────────────────────────────────────
+unfoldable pub unmarked : List Variable → List Variable
+unmarked [] = []
+unmarked (x ∷ xs) = record { value = x .value; written = false; waiting = x .waiting } ∷ unmarked xs
+
+unfoldable mutual
+  pub unmarkedNode : Node → Node
+  unmarkedNode (node r place names own children) = node r place names (unmarked own) (unmarkedForest children)
+
+  pub unmarkedForest : Forest → Forest
+  unmarkedForest empty = empty
+  unmarkedForest (more n ns) = more (unmarkedNode n) (unmarkedForest ns)
+
+-- ── "the next moment due or none" ─────────────────────────────────────────────────────────────────
+pub data NextDue : Type 0 where
+  never : NextDue
+  moment : ℕ → NextDue
+
+unfoldable pub earlierOf : Bool → ℕ → ℕ → NextDue
+earlierOf true a b = moment a
+earlierOf false a b = moment b
+
+unfoldable pub earlier : NextDue → NextDue → NextDue
+earlier never y = y
+earlier (moment a) never = moment a
+earlier (moment a) (moment b) = earlierOf (leb a b) a b
+
+unfoldable pub dueOf : Waiting → NextDue
+dueOf idle = never
+dueOf (due m v) = moment m
+
+unfoldable pub dueOfVariables : List Variable → NextDue
+dueOfVariables [] = never
+dueOfVariables (x ∷ xs) = earlier (dueOf (x .waiting)) (dueOfVariables xs)
+
+unfoldable mutual
+  pub dueOfNode : Node → NextDue
+  dueOfNode (node r place names own children) = earlier (dueOfVariables own) (dueOfForest children)
+
+  pub dueOfForest : Forest → NextDue
+  dueOfForest empty = never
+  dueOfForest (more n ns) = earlier (dueOfNode n) (dueOfForest ns)
+
+unfoldable pub nextDue : State → NextDue
+nextDue s = earlier (dueOfVariables (s .environment)) (dueOfForest (s .tree))
+
+-- ── "Outputs written in the instant .. (number, final value), rising by number" ───────────────────
+unfoldable pub listedIf : Bool → ℕ → ℕ → List Write → List Write
+listedIf true n v ws = record { number = n; value = v } ∷ ws
+listedIf false n v ws = ws
+
+-- The written ones of the variables numbered from n on.
+unfoldable pub writtenFrom : ℕ → List Variable → List Write
+writtenFrom n [] = []
+writtenFrom n (x ∷ xs) = listedIf (x .written) n (x .value) (writtenFrom (suc n) xs)
+
+-- The report's order stands here alone.
+unfoldable pub reported : Listing → List Variable → List Write
+reported listing environment = writtenFrom (listing .inputs) (drop (listing .inputs) environment)
+
+-- ── what an instant gives ─────────────────────────────────────────────────────────────────────────
+-- The state after it, the steps used, the outputs listed, the waits passed. (The next moment due is `nextDue` of the state.)
+pub record Done : Type 0 where
+  pub state : State
+  pub steps : ℕ
+  pub listed : List Write
+  pub woken : ℕ
+
+unfoldable pub finish : Listing → ℕ → ℕ → Turn → Result Done
+finish listing t allowance a =
+    ok (record {
+      state = record { now = t; environment = unmarked ((a .running) .memory); tree = unmarkedForest (a .tree) };
+      steps = allowance - (a .running) .left;
+      listed = reported listing ((a .running) .memory);
+      woken = (a .running) .woken;
+    })
+
+-- "Main has i + o arguments, all `r`: the environment's variables, inputs first."
+unfoldable pub environmentSize : Listing → ℕ
+environmentSize listing = listing .inputs + listing .outputs
+
+unfoldable pub mainCall : Listing → Call
+mainCall listing = record { callee = 0; arguments = consecutive (environmentSize listing) 0 }
+
+unfoldable pub environmentNames : Listing → List ℕ
+environmentNames listing = consecutive (environmentSize listing) 0
+
+-- "The start is the instant 0, with main newly called and no inputs."
+unfoldable pub start : Listing → ℕ → Result Done
+start listing allowance =
+    let environment = replicate (environmentSize listing) (fresh 0) in
+    let main = newRoutine listing environment (environmentNames listing) (mainCall listing) in
+    begin (run listing 0 allowance) 0 main (record { memory = environment; left = allowance; live = 1; woken = 0 })
+    >>= finish listing 0 allowance
+
+-- "An instant at t": rule 1, then the visit.
+unfoldable pub instant : Listing → State → ℕ → List Write → ℕ → Result Done
+instant listing s t inputs allowance =
+    let tree = dueInForest (s .tree) t in
+    visitForest listing t tree 0
+    (record { memory = applyInputs inputs (dueWrites t (s .environment)); left = allowance; live = liveInForest tree; woken = 0 })
+    >>= finish listing t allowance

@@ -1,0 +1,14 @@
+pub mod State
+pub mod Memory
+pub mod Walk
+pub mod Instant
+pub mod Question7
+pub mod Calls
+pub mod Comparison
+pub mod Events
+pub mod Trace
+pub mod Session
+pub mod Runs
+pub mod Promises
+pub mod Boards
+pub mod Evaluation

@@ -1,0 +1,91 @@
+-- Reading and writing variables, the binding of names, and the value of an expression.
+use mathlib.Core.Bool.{Bool, true, false, _||_}
+use mathlib.Core.List.{List, [], _∷_, _++_}
+use Prim.Native.Nat.{ℕ, zero, suc}
+use lib.ListN.{length, getD, set, replicate}
+use Rattle.words.specs.Words.{bit, wrappingAdd, wrappingSubtract, wrappingMultiply, signedLess}
+use Rattle.listing.specs.Listing.{Piece, literal, valueOf, writtenMark, plus, minus, times, less, Kind, byReference, byValue}
+use Rattle.walk.specs.State.{Variable, Waiting, idle, due, fresh}
+
+-- The variable at an address; past the last one, a fresh one.
+unfoldable pub variableAt : List Variable → ℕ → Variable
+variableAt memory a = getD memory a (fresh 0)
+
+-- A write: the new value, the mark; "`S` and inputs leave [the waiting write] there".
+unfoldable pub writeAt : List Variable → ℕ → ℕ → List Variable
+writeAt memory a v = set memory a (record { value = v; written = true; waiting = (variableAt memory a) .waiting })
+
+-- A waiting write of v due at t: "a new `A` on it replaces the old one, earlier or later".
+unfoldable pub scheduleAt : List Variable → ℕ → ℕ → ℕ → List Variable
+scheduleAt memory a t v =
+    set memory a (record { value = (variableAt memory a) .value; written = (variableAt memory a) .written; waiting = due t v })
+
+-- No variable has this address: there is none past 16 environment variables and 11 times 16 owned ones.
+-- Only a name that is not there (question 4) would have it.
+abbrev pub nowhere : ℕ
+nowhere = 65536
+
+-- The address of a name.
+unfoldable pub addressOf : List ℕ → ℕ → ℕ
+addressOf names n = getD names n nowhere
+
+unfoldable pub addressesOf : List ℕ → List ℕ → List ℕ
+addressesOf names [] = []
+addressesOf names (n ∷ ns) = addressOf names n ∷ addressesOf names ns
+
+-- "if a name of that wait has been written in this instant before its turn"
+unfoldable pub anyWritten : List Variable → List ℕ → List ℕ → Bool
+anyWritten memory names [] = false
+anyWritten memory names (n ∷ ns) = (variableAt memory (addressOf names n)) .written || anyWritten memory names ns
+
+-- ── expressions: "An expression is postfix"; the values held, the last one first ──────────────────
+-- The first value pushed is the left operand. (By its form an expression never lacks an operand.)
+unfoldable pub operate : (ℕ → ℕ → ℕ) → List ℕ → List ℕ
+operate f [] = []
+operate f (y ∷ []) = []
+operate f (y ∷ (x ∷ held)) = f x y ∷ held
+
+-- "`#v` (a signed 32-bit literal), `n` (a name's value), `@n` (1 if it was written in this instant, else 0), `+ - * <`"
+unfoldable pub evaluatePiece : List Variable → List ℕ → Piece → List ℕ → List ℕ
+evaluatePiece memory names (literal v) held = v ∷ held
+evaluatePiece memory names (valueOf n) held = (variableAt memory (addressOf names n)) .value ∷ held
+evaluatePiece memory names (writtenMark n) held = bit ((variableAt memory (addressOf names n)) .written) ∷ held
+evaluatePiece memory names plus held = operate wrappingAdd held
+evaluatePiece memory names minus held = operate wrappingSubtract held
+evaluatePiece memory names times held = operate wrappingMultiply held
+evaluatePiece memory names less held = operate (λ x y. bit (signedLess x y)) held
+
+unfoldable pub evaluatePieces : List Variable → List ℕ → List Piece → List ℕ → List ℕ
+evaluatePieces memory names [] held = held
+evaluatePieces memory names (p ∷ ps) held = evaluatePieces memory names ps (evaluatePiece memory names p held)
+
+unfoldable pub top : List ℕ → ℕ
+top [] = 0
+top (x ∷ held) = x
+
+-- "It leaves one value."
+unfoldable pub evaluate : List Variable → List ℕ → List Piece → ℕ
+evaluate memory names e = top (evaluatePieces memory names e [])
+
+-- ── names: "Names in a routine are its arguments, then its locals, numbered from 0." ──────────────
+-- k addresses from a on
+unfoldable pub consecutive : ℕ → ℕ → List ℕ
+consecutive zero a = []
+consecutive (suc k) a = a ∷ consecutive k (suc a)
+
+-- The addresses of a new routine's names: an argument by reference has the address passed,
+-- one by value and a local the next of the routine's own, which begin at `base`.
+unfoldable pub bindNames : List Kind → List ℕ → ℕ → ℕ → List ℕ
+bindNames [] passed locals base = consecutive locals base
+bindNames (byReference ∷ ks) [] locals base = nowhere ∷ bindNames ks [] locals base
+bindNames (byReference ∷ ks) (a ∷ passed) locals base = a ∷ bindNames ks passed locals base
+bindNames (byValue ∷ ks) [] locals base = base ∷ bindNames ks [] locals (suc base)
+bindNames (byValue ∷ ks) (a ∷ passed) locals base = base ∷ bindNames ks passed locals (suc base)
+
+-- The variables that a new routine owns: one for each argument by value, holding what was passed, and its locals.
+unfoldable pub ownVariables : List Kind → List ℕ → ℕ → List Variable → List Variable
+ownVariables [] passed locals memory = replicate locals (fresh 0)
+ownVariables (byReference ∷ ks) [] locals memory = ownVariables ks [] locals memory
+ownVariables (byReference ∷ ks) (a ∷ passed) locals memory = ownVariables ks passed locals memory
+ownVariables (byValue ∷ ks) [] locals memory = fresh 0 ∷ ownVariables ks [] locals memory
+ownVariables (byValue ∷ ks) (a ∷ passed) locals memory = fresh ((variableAt memory a) .value) ∷ ownVariables ks passed locals memory

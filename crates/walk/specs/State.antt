@@ -1,0 +1,79 @@
+-- The state of the walk: variables with their waiting writes, and the tree of live routines.
+-- A state is said by structure alone: nothing in it tells where a record sits.
+use mathlib.Core.Bool.{Bool, true, false}
+use mathlib.Core.List.{List, [], _∷_}
+use Prim.Native.Nat.{ℕ, suc, _+_}
+
+-- "Each variable has at most one waiting write": none, or one with its due moment and its value.
+pub data Waiting : Type 0 where
+  idle : Waiting
+  due : ℕ → ℕ → Waiting
+
+-- A variable: its value (a 32-bit word), whether it was written in this instant, its waiting write.
+pub record Variable : Type 0 where
+  pub value : ℕ
+  pub written : Bool
+  pub waiting : Waiting
+
+-- "New variables hold 0, or the passed value for `v`, and are not written."
+unfoldable pub fresh : ℕ → Variable
+fresh v = record { value = v; written = false; waiting = idle }
+
+-- A live routine, `node number place names own children`: its number in the listing, the instruction it is at,
+-- the address of each of its names, the variables it owns, its live children in the order of their `F`.
+-- An address counts the variables owned along the path from the environment down to the routine:
+-- first the environment's, then main's own, then those of main's child on the path, and so on.
+mutual
+  pub data Node : Type 0 where
+    node : ℕ → ℕ → List ℕ → List Variable → Forest → Node
+
+  pub data Forest : Type 0 where
+    empty : Forest
+    more : Node → Forest → Forest
+
+infixr 30 _⊕_
+-- One forest after the other.
+unfoldable pub _⊕_ : Forest → Forest → Forest
+empty ⊕ g = g
+more n f ⊕ g = more n (f ⊕ g)
+
+-- The number of live routines.
+unfoldable mutual
+  pub liveInNode : Node → ℕ
+  liveInNode (node number place names own children) = suc (liveInForest children)
+
+  pub liveInForest : Forest → ℕ
+  liveInForest empty = 0
+  liveInForest (more n f) = liveInNode n + liveInForest f
+
+-- Between two instants: the present moment, the environment's variables (inputs first, then outputs),
+-- and the tree: main with all below it, or nothing after main's end.
+-- "Environment variables live as long as the machine, also after main has ended."
+pub record State : Type 0 where
+  pub now : ℕ
+  pub environment : List Variable
+  pub tree : Forest
+
+-- While an instant runs: the variables in reach, the steps left, the number of live routines,
+-- and the number of waits passed so far.
+pub record Running : Type 0 where
+  pub memory : List Variable
+  pub left : ℕ
+  pub live : ℕ
+  pub woken : ℕ
+
+-- What a routine's turn leaves: what is running then, and the routine with its children, unless it ended.
+pub record Turn : Type 0 where
+  pub running : Running
+  pub tree : Forest
+
+-- An answer, or the number of the question that stopped the machine.
+pub data Result (A : Type 0) : Type 0 where
+  stop : ℕ → Result A
+  ok : A → Result A
+
+infixl 20 _>>=_
+-- Go on with the answer, unless stopped.
+unfoldable pub _>>=_ : {A B : Type 0} → Result A → (A → Result B) → Result B
+stop k >>= f = stop k
+ok a >>= f = f a

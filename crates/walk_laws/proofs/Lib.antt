@@ -1,0 +1,14 @@
+pub mod Booleans
+pub mod Results
+pub mod Steps
+pub mod Bound
+pub mod Allowance
+pub mod NextDue
+pub mod Idle
+pub mod AtRest
+pub mod Shape
+pub mod LiveCount
+pub mod Due
+pub mod Kept
+pub mod Stays
+pub mod Answers

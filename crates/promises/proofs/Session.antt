@@ -131,10 +131,16 @@ unfoldable pub resultsOn : List BoardCall → List Promises.Result
 resultsOn [] = []
 resultsOn (c ∷ cs) = c .result ∷ resultsOn cs
 
+-- Every stop among the answers has a number from 13 to 17.
+pub data StopsAre13To17 : List Answered → Type 0 where
+  no-answer : StopsAre13To17 []
+  one-answer : {a : Answered} {xs : List Answered} → ((k : ℕ) → a .outcome ≡ stopped k → isStop k ≡ true) → StopsAre13To17 xs → StopsAre13To17 (a ∷ xs)
+
 -- The calls' results and the writes in the lists they left are those of these answers of the walk.
 pub record AsTheWalk (calls : List BoardCall) (answers : List Answered) : Type 0 where
   pub results : resultsOn calls ≡ resultsOf answers
   pub writes : boardReported calls ≡ reported answers
+  pub stops : StopsAre13To17 answers
 
 module _ (layout : Layout) (listing : Listing) (exact : ExactMachine layout listing) (table : List ℕ)
     (reads : layout .readTable (firstWords table) ≡ some listing)
@@ -148,7 +154,7 @@ module _ (layout : Layout) (listing : Listing) (exact : ExactMachine layout list
     pub calls-are-the-walks : (machine : List ℕ) (m : Machine) (cs : List BoardCall) → Stands layout listing exact table reads machine m →
         BoardCalls layout table machine cs → AsTheWalk cs (answersFrom listing m (asInstantCalls table machine cs))
     unfolding answersFrom asInstantCalls asInstantCall resultsOf resultsOn boardReported reported
-    calls-are-the-walks machine m _ st no-more = record { results = refl; writes = refl }
+    calls-are-the-walks machine m _ st no-more = record { results = refl; writes = refl; stops = no-answer }
     calls-are-the-walks machine m _ st (and-then {c = c} {cs = cs} p small rest) =
         let e = call-answers-as-the-walk layout listing exact table reads machine m (st .machineReads) c in
         let o = callOn listing m (asInstantCall table machine c) in
@@ -160,4 +166,4 @@ module _ (layout : Layout) (listing : Listing) (exact : ExactMachine layout list
         let vs : c .valuesAfter ≡ valuesAfter o (c .values) = p .valuesAre ∙ ap (λ (x : Outcome). valuesAfter x (c .values)) e in
         let w : listedBy (c .time) (c .result) (c .numbersAfter) (c .valuesAfter) ≡ eventsAt (c .time) (outcomeListed o) =
         left-lists-hold-the-writes (c .time) o (c .numbers) (c .values) (c .numbersAfter) (c .valuesAfter) (c .result) r ns vs in
-        record { results = ap₂ _∷_ r (next .results); writes = ap₂ _++_ w (next .writes) }
+        record { results = ap₂ _∷_ r (next .results); writes = ap₂ _++_ w (next .writes); stops = one-answer stops (next .stops) }

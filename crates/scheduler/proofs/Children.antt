@@ -1,0 +1,136 @@
+-- A child's row from its parent's bindings; free slots by a count.
+-- Letters as in Place and Held.
+use mathlib.Core.Path.{_≡_, refl, sym, ap, ap₂, _∙_}
+use mathlib.Core.Bool.{Bool, true, false}
+use mathlib.Core.List.{List, [], _∷_}
+use Prim.Native.Nat.{ℕ, zero, suc, _+_, _-_, _≤_, _<_}
+use native.Mathlib.Nat.{le-refl, add-zero, add-suc}
+use native.Mathlib.Omega.{arith}
+use native.Mathlib.Decide.{ℕ-discrete}
+use lib.ListN.{length}
+use borrow.Author.Tests.{lt-ltb, le-ltb}
+use Rattle.listing.specs.Listing.{Kind, byReference, byValue, Call, Listing}
+use Rattle.walk.specs.Memory.{addressOf, addressesOf, bindNames, consecutive, ownVariables, variableAt}
+use Rattle.walk.specs.State.{Variable, fresh}
+use Rattle.walk.specs.Walk.{routineAt}
+use Rattle.scheduler.specs.Engine.{Caller, childBindings, childRow, childVariables, freeElse, freeSlot, ownBindings}
+use Rattle.scheduler.specs.Rows.{Row, Rows, inSlot, withRow}
+use Rattle.scheduler.proofs.Priority.{newChild}
+use Rattle.scheduler.proofs.Held.{Entry, ownerAt, ownersAt, pickOwner, parentSlot, rowFor, withRow-same, withRow-other}
+use Rattle.scheduler.proofs.Reading.{bound-owner}
+
+-- ── the bindings ────────────────────────────────────────────────────────────────────────────────
+
+-- as many arguments as letters, each a name of the caller
+pub data Passed (n : ℕ) : List Kind → List ℕ → Type 0 where
+  passed-nil : Passed n [] []
+  passed-put : {k : Kind} {ks : List Kind} {x : ℕ} {xs : List ℕ} → x < n → Passed n ks xs → Passed n (k ∷ ks) (x ∷ xs)
+
+own-at : (s b i : ℕ) (P : List Entry) → ownerAt (record { slot = s; base = b } ∷ P) (b + i) ≡ inSlot s i
+unfolding ownerAt pickOwner
+own-at s b i P = let e : b + i - b ≡ i = omega arith in rw (le-ltb (b + i) b (omega arith), e)
+
+below : (s b a : ℕ) (P : List Entry) → a < b → ownerAt (record { slot = s; base = b } ∷ P) a ≡ ownerAt P a
+unfolding ownerAt pickOwner
+below s b a P h = rw (lt-ltb a b h)
+
+ownBindings-of : (s b : ℕ) (P : List Entry) (k i : ℕ) → ownersAt (record { slot = s; base = b } ∷ P) (consecutive k (b + i)) ≡ ownBindings k s i
+unfolding ownersAt ownBindings consecutive
+ownBindings-of s b P zero i = refl
+ownBindings-of s b P (suc k) i = ap₂ _∷_ (own-at s b i P)
+    (ap (λ z. ownersAt (record { slot = s; base = b } ∷ P) (consecutive k z)) (sym (add-suc b i)) ∙ ownBindings-of s b P k (suc i))
+
+module _ (s b : ℕ) (P : List Entry) (ns : List ℕ) (near : (x : ℕ) → x < length ns → addressOf ns x < b) where
+  pub bind-same : (ks : List Kind) (xs : List ℕ) (loc i : ℕ) → Passed (length ns) ks xs →
+      ownersAt (record { slot = s; base = b } ∷ P) (bindNames ks (addressesOf ns xs) loc (b + i)) ≡ childBindings ks xs loc (ownersAt P ns) s i
+  unfolding bindNames addressesOf ownersAt childBindings
+  bind-same _ _ loc i passed-nil = ownBindings-of s b P loc i
+  bind-same _ _ loc i (passed-put {k = byReference} {ks = ks} {x = x} {xs = xs} h r) =
+      ap₂ _∷_ (below s b (addressOf ns x) P (near x h) ∙ sym (bound-owner P ns x h)) (bind-same ks xs loc i r)
+  bind-same _ _ loc i (passed-put {k = byValue} {ks = ks} {x = x} {xs = xs} h r) =
+      ap₂ _∷_ (own-at s b i P) (ap (λ z. ownersAt (record { slot = s; base = b } ∷ P) (bindNames ks (addressesOf ns xs) loc z)) (sym (add-suc b i)) ∙
+      bind-same ks xs loc (suc i) r)
+
+module _ (rd : ℕ → Variable) (m : List Variable) (ns : List ℕ) (same : (n : ℕ) → rd n ≡ variableAt m (addressOf ns n)) where
+  pub own-same : (ks : List Kind) (xs : List ℕ) (loc : ℕ) → ownVariables ks (addressesOf ns xs) loc m ≡ childVariables ks xs loc rd
+  unfolding ownVariables addressesOf childVariables
+  own-same [] xs loc = refl
+  own-same (byReference ∷ ks) [] loc = own-same ks [] loc
+  own-same (byReference ∷ ks) (x ∷ xs) loc = own-same ks xs loc
+  own-same (byValue ∷ ks) [] loc = ap (λ l. fresh 0 ∷ l) (own-same ks [] loc)
+  own-same (byValue ∷ ks) (x ∷ xs) loc = ap₂ (λ v l. fresh (v .value) ∷ l) (sym (same x)) (own-same ks xs loc)
+
+unfoldable pub callerOn : List Entry → List Variable → List ℕ → ℕ → ℕ → (ℕ → Variable) → Caller
+callerOn P m ns low b name = record {
+  slot = parentSlot P;
+  level = length P;
+  base = length m;
+  low = low;
+  bits = b;
+  bindings = ownersAt P ns;
+  name = name;
+}
+
+pub child-row : (listing : Listing) (m : List Variable) (ns : List ℕ) (c : Call) (i s low b : ℕ) (P : List Entry) (rd : ℕ → Variable) →
+    ((n : ℕ) → rd n ≡ variableAt m (addressOf ns n)) → ((x : ℕ) → x < length ns → addressOf ns x < length m) →
+    Passed (length ns) ((routineAt listing (c .callee)) .kinds) (c .arguments) →
+    childRow listing (callerOn P m ns low b rd) c i s ≡ rowFor false P (length m) 0 (newChild listing m ns c i s low b)
+unfolding childRow callerOn rowFor newChild
+child-row listing m ns c i s low d P rd same near fit =
+    let q = routineAt listing (c .callee) in
+    let b : childBindings (q .kinds) (c .arguments) (q .locals) (ownersAt P ns) s 0 ≡ ownersAt (record { slot = s; base = length m } ∷ P)
+    (bindNames (q .kinds) (addressesOf ns (c .arguments)) (q .locals) (length m)) =
+    sym (bind-same s (length m) P ns near (q .kinds) (c .arguments) (q .locals) 0 fit) ∙
+    ap (λ z. ownersAt (record { slot = s; base = length m } ∷ P) (bindNames (q .kinds) (addressesOf ns (c .arguments)) (q .locals) z))
+    (add-zero (length m)) in
+    let o : childVariables (q .kinds) (c .arguments) (q .locals) rd ≡ ownVariables (q .kinds) (addressesOf ns (c .arguments)) (q .locals) m =
+    sym (own-same rd m ns same (q .kinds) (c .arguments) (q .locals)) in
+    rw (b, o)
+
+-- ── free slots by a count ───────────────────────────────────────────────────────────────────────
+unfoldable pub one : Bool → ℕ
+one true = 1
+one false = 0
+
+unfoldable pub usedBelow : Rows → ℕ → ℕ
+usedBelow σ zero = 0
+usedBelow σ (suc n) = one ((σ n) .used) + usedBelow σ n
+
+one-le : (b : Bool) → one b ≤ 1
+unfolding one
+one-le true = omega arith
+one-le false = omega arith
+
+pub freeSlot-free : (σ : Rows) (n : ℕ) → usedBelow σ n < n → ((σ (freeSlot σ n)) .used ≡ false) × (freeSlot σ n < n)
+unfolding freeSlot freeElse usedBelow one
+freeSlot-free σ zero h = absurd (omega arith)
+freeSlot-free σ (suc n) h = go ((σ n) .used) refl (freeSlot-free σ n)
+  where
+    go : (b : Bool) → (σ n) .used ≡ b → (usedBelow σ n < n → ((σ (freeSlot σ n)) .used ≡ false) × (freeSlot σ n < n)) →
+        ((σ (freeElse b n (freeSlot σ n))) .used ≡ false) × (freeElse b n (freeSlot σ n) < suc n)
+    go true p deep =
+        let q : one ((σ n) .used) ≡ 1 = ap one p in
+        let d = deep (omega arith) in (d .0, omega (arith, d .1))
+    go false p deep = (p, le-refl (suc n))
+
+used-other : (σ : Rows) (s : ℕ) (r : Row) (n : ℕ) → n ≤ s → usedBelow (withRow σ s r) n ≡ usedBelow σ n
+unfolding usedBelow
+used-other σ s r zero h = refl
+used-other σ s r (suc n) h = ap₂ (λ x y. one x + y) (ap (λ y. y .used) (withRow-other σ s r n (λ e. omega arith))) (used-other σ s r n (omega arith))
+
+-- a row changed at s: the count moves by its flag
+pub used-withRow : (σ : Rows) (s : ℕ) (r : Row) (n : ℕ) → s < n → usedBelow (withRow σ s r) n + one ((σ s) .used) ≡ usedBelow σ n + one (r .used)
+unfolding usedBelow
+used-withRow σ s r zero h = absurd (omega arith)
+used-withRow σ s r (suc n) h = go (ℕ-discrete n s) (used-withRow σ s r n)
+  where
+    go : Dec (n ≡ s) → (s < n → usedBelow (withRow σ s r) n + one ((σ s) .used) ≡ usedBelow σ n + one (r .used)) →
+        one ((withRow σ s r n) .used) + usedBelow (withRow σ s r) n + one ((σ s) .used) ≡ one ((σ n) .used) + usedBelow σ n + one (r .used)
+    go (yes e) deep =
+        let a : one ((withRow σ s r n) .used) ≡ one (r .used) = ap (λ z. one ((withRow σ s r z) .used)) e ∙
+        ap (λ y. one (y .used)) (withRow-same σ s r) in
+        let b : one ((σ n) .used) ≡ one ((σ s) .used) = ap (λ z. one ((σ z) .used)) e in
+        omega (arith, used-other σ s r n (omega arith))
+    go (no e) deep =
+        let a : one ((withRow σ s r n) .used) ≡ one ((σ n) .used) = ap (λ y. one (y .used)) (withRow-other σ s r n e) in
+        omega (arith, deep (omega arith))

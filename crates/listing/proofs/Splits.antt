@@ -17,7 +17,7 @@ pub data All {A : Type 0} (P : A → Type 0) : List A → Type 0 where
   none-left : All P []
   also : {a : A} {as' : List A} → P a → All P as' → All P (a ∷ as')
 
-split-free : {c : ℕ} {text : Bytes} → Free c text → split c text ≡ text ∷ []
+pub split-free : {c : ℕ} {text : Bytes} → Free c text → split c text ≡ text ∷ []
 unfolding split extend
 split-free free = refl
 split-free {c} (freer {byte = byte} n f) = rw (ne-eqb byte c n, split-free f)
@@ -34,12 +34,12 @@ split-join part [] (also f fs) = split-free f
 split-join {c} part (next ∷ parts) (also f fs) = split-at (join c (next ∷ parts)) f ∙ rw (split-join next parts fs)
 
 -- every text has a part
-record Parts (parts : List Bytes) : Type 0 where
+pub record Parts (parts : List Bytes) : Type 0 where
   pub head : Bytes
   pub rest : List Bytes
   pub is : parts ≡ head ∷ rest
 
-split-has-part : (c : ℕ) (text : Bytes) → Parts (split c text)
+pub split-has-part : (c : ℕ) (text : Bytes) → Parts (split c text)
 unfolding split extend
 split-has-part c [] = record { head = []; rest = []; is = refl }
 split-has-part c (byte ∷ text) = go (eqb byte c) (split-has-part c text)

@@ -1,1 +1,9 @@
 pub mod Paper
+pub mod Cases
+pub mod StopCases
+pub mod SessionCases
+pub mod CallCases
+pub mod StateCases
+pub mod Question7Cases
+pub mod SessionEnds
+pub mod QuestionOrder

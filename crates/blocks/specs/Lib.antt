@@ -1,0 +1,5 @@
+pub mod Tabulate
+pub mod Blocks
+pub mod Store
+pub mod Changes
+pub mod Bindings

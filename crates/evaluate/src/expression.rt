@@ -1,0 +1,66 @@
+// An expression's pieces, one after the other. `t` is the table, `m` the machine's memory, `me` the running routine's slot.
+ghost use Prim.Native.Nat.{_≤_, _<_};
+ghost use lib.ListN.{length};
+ghost use Rattle.words.specs.Words.{bit};
+ghost use Rattle.table.specs.Decode.{piecesAt};
+ghost use Rattle.scheduler.specs.Expressions.{evaluateBy};
+ghost use Rattle.evaluate.specs.Bound.{bindingsOf, FromNames};
+ghost use Rattle.evaluate.specs.Evaluable.{Evaluable, MayCome, Past};
+use crate::stack::operate;
+use crate::stack::push;
+use blocks::owner;
+use blocks::value;
+use blocks::written;
+
+// "`n` (a name's value)"
+fn value_of(m: &[u32], me: usize, name: u32) -> u32
+    requires { ⌜ (12288 ≤ length (now m)) × (me < 64) × (name < length (bindingsOf (now m) me)) ⌝ }
+    ensures { λ r. ⌜ FromNames (now (m .entry)) me (λ names. (names name) .value) r ⌝ }
+{
+    let binding = owner(m, me, name as usize);
+    let block = binding.block;
+    let index = binding.index;
+    value(m, block, index)
+}
+
+// "`@n` (1 if it was written in this instant, else 0)"
+fn mark_of(m: &[u32], me: usize, name: u32) -> u32
+    requires { ⌜ (12288 ≤ length (now m)) × (me < 64) × (name < length (bindingsOf (now m) me)) ⌝ }
+    ensures { λ r. ⌜ FromNames (now (m .entry)) me (λ names. bit ((names name) .written)) r ⌝ }
+{
+    let binding = owner(m, me, name as usize);
+    let block = binding.block;
+    let index = binding.index;
+    if written(m, block, index) { 1 } else { 0 }
+}
+
+// What the piece in the cell at `at` makes of the `count` values held; the new count.
+fn piece(t: &[u32], m: &[u32], me: usize, at: usize, values: &mut [u32; 8], count: usize) -> usize
+    requires { ⌜ MayCome (now t) (now m) me at (now values) count ⌝ }
+    ensures { λ r. ⌜ Past (now (t .entry)) (now (m .entry)) me at (now (values .entry)) count (now (values .exit)) r ⌝ }
+{
+    let kind = t[at];
+    match kind {
+        0 => push(values, count, t[at + 1]),
+        1 => push(values, count, value_of(m, me, t[at + 1])),
+        2 => push(values, count, mark_of(m, me, t[at + 1])),
+        _ => operate(values, count, kind),
+    }
+}
+
+// The value of the `pieces` pieces whose cells stand from word `cells` of the table on.
+pub fn evaluate(t: &[u32], m: &[u32], me: usize, cells: usize, pieces: usize) -> u32
+    requires { ⌜ Evaluable (now t) (now m) me cells pieces ⌝ }
+    ensures { λ r. ⌜ FromNames (now (m .entry)) me (λ names. evaluateBy names (piecesAt (now (t .entry)) cells pieces)) r ⌝ }
+{
+    let mut values: [u32; 8] = [0; 8];
+    let mut count: usize = 0;
+    let mut at = cells;
+    let mut left = pieces;
+    while left > 0 {
+        count = piece(t, m, me, at, &mut values, count);
+        at += 2;
+        left -= 1;
+    }
+    values[0]
+}

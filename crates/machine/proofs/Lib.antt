@@ -1,0 +1,13 @@
+pub mod Basics
+pub mod StatesPass
+pub mod PassingIsState
+pub mod ForestBack
+pub mod RecordsExact
+pub mod HeldWordsPass
+pub mod LaidOutHolds
+pub mod InPlace
+pub mod PassingWordsHold
+pub mod StateRecords
+pub mod LaidOut32
+pub mod MachineWords
+pub mod NextDue

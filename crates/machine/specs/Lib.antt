@@ -1,0 +1,6 @@
+pub mod Records
+pub mod Words
+pub mod ReadMachine
+pub mod Layout
+pub mod Limits
+pub mod Due

@@ -1,0 +1,43 @@
+-- `machine_words::words_in_place` meets its contract.
+use mathlib.Core.Path.{sym, _∙_}
+use borrow.Author.Tests.{not-true, not-false}
+use Rattle.machine.specs.Words.{wordsInPlace}
+use Rattle.machine_words.proofs.Laws.{few-routines}
+use borrow.Author.Needs.{needs}
+use Rattle.machine_words.proofs.words_in_place.Statement.{statement}
+use Rattle.machine_words.proofs.words_in_place.Tie as tie
+
+header-in-place-requires : tie.Need-header-in-place-requires
+header-in-place-requires c κs = search needs
+
+returns : tie.Need-returns
+unfolding wordsInPlace
+returns c =
+    rw (sym (c .before .header-in-place .ensures) ∙ not-true _ (c .if1 .taken))
+
+shared-slice-read-number : tie.Need-shared-slice-read-number
+shared-slice-read-number c = search needs
+
+number-requires : tie.Need-number-requires
+number-requires c κs = search needs
+
+blocks-in-place-requires : tie.Need-blocks-in-place-requires
+blocks-in-place-requires c κs =
+    let few = few-routines _ (sym (c .before .before .before .header-in-place .ensures) ∙ not-false _ (c .before .before .if1 .left)) in
+    search needs
+
+returns-2 : tie.Need-returns-2
+unfolding wordsInPlace
+returns-2 c =
+    rw (sym (c .before .before .before .before .header-in-place .ensures) ∙ not-false _ (c .before .before .before .if1 .left)) (c .blocks-in-place .ensures)
+
+pub words-in-place-spec : {M : Type 1} → statement M
+words-in-place-spec =
+    tie.close
+    (tie.spec
+    header-in-place-requires
+    returns
+    shared-slice-read-number
+    number-requires
+    blocks-in-place-requires
+    returns-2)

@@ -1,0 +1,48 @@
+-- From words in place to the scan, and from the tests to question 7's answer.
+use mathlib.Core.Path.{_≡_}
+use mathlib.Core.Bool.{Bool, true, false}
+use mathlib.Core.List.{List}
+use Prim.Native.Nat.{ℕ, _+_}
+use lib.ListN.{getD}
+use Rattle.walk.specs.Instant.{environmentSize}
+use Rattle.table.specs.Decode.{word, tableListing}
+use Rattle.machine.specs.Words.{wordsInPlace, runningWords}
+use Rattle.machine.specs.ReadMachine.{stoppedWords, machineBy, readMachine}
+use Rattle.machine.proofs.InPlace.{knows-place, in-place}
+use Rattle.machine.proofs.PassingWordsHold.{Words32, own-rests}
+use Rattle.question7.specs.Tables.{TableBounds}
+use Rattle.question7.specs.Scan.{Ready, whole}
+use Rattle.question7.specs.Answer.{answerOf}
+use Rattle.question7.specs.declared.MachineCheck.the-variants.{NotAState, Stopped, Running}
+
+pub size-of : (w : List ℕ) (i o : ℕ) → i ≡ word w 0 → o ≡ word w 1 → i + o ≡ environmentSize (tableListing w)
+unfolding environmentSize tableListing
+size-of w i o a b = rw (a, b)
+
+pub ready : (w m : List ℕ) → TableBounds w → Words32 m → wordsInPlace (environmentSize (tableListing w)) m ≡ true → Ready w m
+ready w m T s e = record {
+  table = T;
+  few = in-place m (environmentSize (tableListing w)) e .few;
+  slot = λ k h. knows-place m (getD m 3 0) k h (in-place m (environmentSize (tableListing w)) e .places) .0;
+  rests = λ k h. own-rests m s (environmentSize (tableListing w)) e k h;
+}
+
+pub not-running : (w m : List ℕ) (size : ℕ) → size ≡ environmentSize (tableListing w) → wordsInPlace size m ≡ false → false ≡ runningWords (tableListing w) m
+unfolding runningWords
+not-running w m size e f = rw (← e, f)
+
+pub running-by-tree : (w m : List ℕ) (size : ℕ) (b : Bool) → size ≡ environmentSize (tableListing w) → wordsInPlace size m ≡ true → b ≡ whole w m → b ≡ runningWords (tableListing w) m
+unfolding runningWords
+running-by-tree w m size b e f g = rw (← e, f) g
+
+pub answer-stopped : (w m : List ℕ) (k : ℕ) → k ≡ getD m 0 0 → stoppedWords m ≡ true → Stopped k ≡ answerOf (readMachine (tableListing w) m)
+unfolding readMachine machineBy answerOf
+answer-stopped w m k a e = rw (e, a)
+
+pub answer-running : (w m : List ℕ) → stoppedWords m ≡ false → runningWords (tableListing w) m ≡ true → Running ≡ answerOf (readMachine (tableListing w) m)
+unfolding readMachine machineBy answerOf
+answer-running w m e f = rw (e, f)
+
+pub answer-none : (w m : List ℕ) → stoppedWords m ≡ false → runningWords (tableListing w) m ≡ false → NotAState ≡ answerOf (readMachine (tableListing w) m)
+unfolding readMachine machineBy answerOf
+answer-none w m e f = rw (e, f)

@@ -1,0 +1,5 @@
+pub mod TableLaws
+pub mod ScanLaws
+pub mod StepLaws
+pub mod AnswerLaws
+pub mod FromQuestion6

@@ -1,0 +1,61 @@
+-- `question7::running_words` meets its contract.
+use Rattle.question7.proofs.FromQuestion6.{table-bounds}
+use Prim.Native.Nat.{_+_}
+use mathlib.Core.Path.{_≡_, sym, _∙_}
+use mathlib.Core.Bool.{true}
+use native.Mathlib.Omega.{arith}
+use borrow.Author.Tests.{not-true, not-false}
+use Rattle.walk.specs.Instant.{environmentSize}
+use Rattle.table.specs.Decode.{tableListing}
+use Rattle.machine.specs.Words.{wordsInPlace}
+use Rattle.question7.proofs.AnswerLaws.{size-of, ready, not-running, running-by-tree}
+use borrow.Author.Needs.{needs}
+use Rattle.question7.proofs.running_words.Statement.{statement}
+use Rattle.question7.proofs.running_words.Tie as tie
+
+shared-slice-read-number : tie.Need-shared-slice-read-number
+shared-slice-read-number c = search needs
+
+number-requires : tie.Need-number-requires
+number-requires c κs = search needs
+
+shared-slice-read-number-2 : tie.Need-shared-slice-read-number-2
+shared-slice-read-number-2 c = search needs
+
+number-requires-2 : tie.Need-number-requires-2
+number-requires-2 c κs = search needs
+
+add-size : tie.Need-add-size
+add-size c = search needs
+
+words-in-place-requires : tie.Need-words-in-place-requires
+words-in-place-requires c κs = search needs
+
+returns : tie.Need-returns
+returns c =
+    not-running _ _ _ (size-of _ _ _ (c .before .before .before .before .number .ensures .0) (c .before .before .number2 .ensures .0)) (sym (c .before .words-in-place .ensures) ∙ not-true _ (c .if1 .taken))
+
+tree-passes-requires : tie.Need-tree-passes-requires
+tree-passes-requires c κs =
+    let a = c .before .before .before .before .before .before .before .before .args in
+    let e : c .before .before .before .before .number .result + c .before .before .number2 .result ≡ environmentSize (tableListing (a .t .now)) = size-of (a .t .now) _ _ (c .before .before .before .before .number .ensures .0) (c .before .before .number2 .ensures .0) in
+    let p : wordsInPlace (environmentSize (tableListing (a .t .now))) (a .m .now) ≡ true = rw e at (sym (c .before .words-in-place .ensures) ∙ not-false _ (c .if1 .left)) in
+    (c .before .before .before .before .before .before .before .before .pre .0, c .before .before .before .before .before .before .before .before .pre .1, ready (a .t .now) (a .m .now) (table-bounds (a .t .now) (c .before .before .before .before .before .before .before .before .pre .2)) (λ i. omega (arith, c .before .before .before .before .before .before .shared-slice-known2 .given i)) p)
+
+returns-2 : tie.Need-returns-2
+returns-2 c =
+    running-by-tree _ _ _ _ (size-of _ _ _ (c .before .before .before .before .before .number .ensures .0) (c .before .before .before .number2 .ensures .0)) (sym (c .before .before .words-in-place .ensures) ∙ not-false _ (c .before .if1 .left)) (c .tree-passes .ensures)
+
+pub running-words-spec : {M : Type 1} → statement M
+running-words-spec =
+    tie.close
+    (tie.spec
+    shared-slice-read-number
+    number-requires
+    shared-slice-read-number-2
+    number-requires-2
+    add-size
+    words-in-place-requires
+    returns
+    tree-passes-requires
+    returns-2)

@@ -1,0 +1,9 @@
+pub mod Figures
+pub mod Gather
+pub mod Letters
+pub mod Numbers
+pub mod OnField
+pub mod Pieces
+pub mod Places
+pub mod Rows
+pub mod Texts

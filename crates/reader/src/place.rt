@@ -1,0 +1,89 @@
+// The reading place. Document 01: "The loader has a reading place in the listing, moved past each piece and counting lines."
+ghost use mathlib.Core.Path.{_≡_};
+ghost use Prim.Native.Nat.{_+_, _≤_};
+ghost use lib.ListN.{length, drop};
+ghost use Rattle.reader.specs.Texts.{firstPiece, endsPiece, Within};
+ghost use Rattle.reader.specs.Answers.{takenAt};
+
+// The offset of the next byte, and the number of its line, from 1.
+pub struct Place {
+    pub offset: usize,
+    pub line: usize,
+}
+
+// A piece, from one offset up to another; the byte that closes it, 0 at the end of the text; and the place past both.
+pub struct Taken {
+    pub from: usize,
+    pub to: usize,
+    pub stop: u8,
+    pub next: Place,
+}
+
+// Whether a byte closes a piece: a tab, a line feed or a space.
+fn ends_piece(b: u8) -> bool
+    ensures { λ r. ⌜ r ≡ endsPiece b ⌝ }
+{
+    if b == 9 {
+        return true;
+    }
+    if b == 10 {
+        return true;
+    }
+    b == 32
+}
+
+fn piece_end(s: &[u8], at: usize) -> usize
+    requires { ⌜ at ≤ length (now s) ⌝ }
+    ensures { λ r. ⌜ r ≡ at + length (firstPiece (drop at (now (s .entry)))) ⌝ }
+{
+    let mut i = at;
+    while i < s.len() {
+        if ends_piece(s[i]) {
+            return i;
+        }
+        i += 1;
+    }
+    i
+}
+
+// The piece at a place.
+pub fn take_piece(s: &[u8], place: Place) -> Taken
+    requires { ⌜ Within (now s) (place .offset) (place .line) ⌝ }
+    ensures { λ r. ⌜ r ≡ takenAt (now (s .entry)) place ⌝ }
+{
+    let at = place.offset;
+    let line = place.line;
+    let to = piece_end(s, at);
+    if to < s.len() {
+        let b = s[to];
+        if b == 10 {
+            return Taken {
+                from: at,
+                to: to,
+                stop: b,
+                next: Place {
+                    offset: to + 1,
+                    line: line + 1,
+                },
+            };
+        }
+        return Taken {
+            from: at,
+            to: to,
+            stop: b,
+            next: Place {
+                offset: to + 1,
+                line: line,
+            },
+        };
+    }
+    Taken {
+        from: at,
+        to: to,
+        stop: 0,
+        next: Place {
+            offset: to,
+            line: line,
+        },
+    }
+}

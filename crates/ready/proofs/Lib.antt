@@ -1,0 +1,4 @@
+pub mod Falling
+pub mod Insertion
+pub mod Distinct
+pub mod SameLows

@@ -1,0 +1,123 @@
+-- `survey::there_place` meets its contract.
+use denote.Ref.{now}
+use mathlib.Core.Path.{refl, sym, ap, _∙_}
+use Prim.Native.Nat.{_-_}
+use native.Mathlib.Omega.{arith}
+use lib.ListN.{length}
+use Rattle.records.proofs.Lines as lines
+use Rattle.survey.proofs.Steps as steps
+use Rattle.survey.specs.Surveys.{answersHere, movedHere}
+use Rattle.survey.proofs.TherePass as pass
+use borrow.Author.Needs.{needs}
+use Rattle.survey.proofs.there.there_place.Statement.{statement}
+use Rattle.survey.proofs.there.there_place.Tie as tie
+
+abbrev Inv-loop : tie.InvT-loop
+Inv-loop s routines counts here₀ at₀ line₀ here at line =
+    pass.There s at line here
+
+abbrev μ-loop : tie.MeasureT-loop
+μ-loop s routines counts here₀ at₀ line₀ here at line =
+    length s - at
+
+survey-routines-requires : tie.Need-survey-routines-requires Inv-loop μ-loop
+survey-routines-requires c κs =
+    c .before .pre
+
+returns : tie.Need-returns Inv-loop μ-loop
+returns c =
+    let y = c .before .before .survey-routines .ensures in
+    pass.main-missing (now (c .before .before .before .before .args .s)) (c .before .before .before .before .pre .0) (c .before .before .before .before .pre .1) (sym (y .all-counted) ∙ c .if1 .taken)
+
+loop-holds : tie.Need-loop-holds Inv-loop μ-loop
+loop-holds c =
+    let y = c .before .before .survey-routines .ensures in
+    pass.there-begun (now (c .before .before .before .before .args .s)) (c .before .before .before .before .pre .0) (c .before .before .before .before .pre .1) (λ z. c .if1 .left (y .all-counted ∙ z))
+
+read-line-requires : tie.Need-read-line-requires Inv-loop μ-loop
+read-line-requires c κs =
+    (c .before .before .loop .inv .limiting .formed .within, c .before .before .before .before .before .survey-routines .ensures .fits .few, c .before .before .before .before .before .survey-routines .ensures .fits .long)
+
+enum-known-r : tie.Need-enum-known-r Inv-loop μ-loop
+enum-known-r c = search needs
+
+enum-told : tie.Need-enum-told Inv-loop μ-loop
+enum-told c = search needs
+
+returns-2 : tie.Need-returns-2 Inv-loop μ-loop
+returns-2 c =
+    let v = c .before .before .before .before .before .loop in
+    let s = now (c .before .before .before .before .before .before .before .before .before .before .args .s) in
+    absurd (steps.never-bad s (v .at) (v .line) (lines.next-line s (v .at) (v .line) (v .inv .limiting .formed) (c .before .before .before .before .loop-test .taken)) _ _ (sym (c .enum-told .given .1) ∙ c .before .before .read-line .ensures))
+
+answers-requires : tie.Need-answers-requires Inv-loop μ-loop
+answers-requires c κs = search needs
+
+moved-requires : tie.Need-moved-requires Inv-loop μ-loop
+moved-requires c κs =
+    let v = c .before .before .before .before .before .before .before .before .loop in
+    let s = now (c .before .before .before .before .before .before .before .before .before .before .before .before .before .args .s) in
+    let n = lines.next-line s (v .at) (v .line) (v .inv .limiting .formed) (c .before .before .before .before .before .before .before .loop-test .taken) in
+    let e = sym (c .before .before .before .r .given .1) ∙ c .before .before .before .before .before .read-line .ensures in
+    let o = steps.offset-is s (v .at) (v .line) n _ _ _ _ _ e in
+    let l = steps.line-is s (v .at) (v .line) n _ _ _ _ _ e in
+    rw (o, l) (n .formed)
+
+loop-less : tie.Need-loop-less Inv-loop μ-loop
+loop-less c =
+    let v = c .before .before .before .before .before .before .before .before .before .loop in
+    let s = now (c .before .before .before .before .before .before .before .before .before .before .before .before .before .before .args .s) in
+    let n = lines.next-line s (v .at) (v .line) (v .inv .limiting .formed) (c .before .before .before .before .before .before .before .before .loop-test .taken) in
+    let e = sym (c .before .before .before .before .r .given .1) ∙ c .before .before .before .before .before .before .read-line .ensures in
+    let o = steps.offset-is s (v .at) (v .line) n _ _ _ _ _ e in
+    omega (arith, o, c .before .before .before .before .before .before .before .before .loop-test .taken)
+
+loop-again : tie.Need-loop-again Inv-loop μ-loop
+loop-again c =
+    let v = c .before .before .before .before .before .before .before .before .before .loop in
+    let s = now (c .before .before .before .before .before .before .before .before .before .before .before .before .before .before .args .s) in
+    let n = lines.next-line s (v .at) (v .line) (v .inv .limiting .formed) (c .before .before .before .before .before .before .before .before .loop-test .taken) in
+    let e = sym (c .before .before .before .before .r .given .1) ∙ c .before .before .before .before .before .before .read-line .ensures in
+    let o = steps.offset-is s (v .at) (v .line) n _ _ _ _ _ e in
+    let l = steps.line-is s (v .at) (v .line) n _ _ _ _ _ e in
+    let r = steps.record-is s (v .at) (v .line) n _ _ _ _ _ e in
+    let y = c .before .before .before .before .before .before .before .before .before .before .before .before .survey-routines .ensures in
+    let a = ap (answersHere (v .here)) (sym r) ∙ sym (c .before .before .answers .ensures) ∙ c .before .if2 .taken in
+    let t = pass.there-on s (c .before .before .before .before .before .before .before .before .before .before .before .before .before .before .pre .0) (c .before .before .before .before .before .before .before .before .before .before .before .before .before .before .pre .1) (v .at) (v .line) (v .here) (v .inv) n _ y _ refl refl a in
+    let w = c .moved .ensures ∙ ap (movedHere _ (v .here)) r in
+    rw (w, o, l) t
+
+returns-3 : tie.Need-returns-3 Inv-loop μ-loop
+returns-3 c =
+    let v = c .before .before .before .before .before .before .before .before .loop in
+    let s = now (c .before .before .before .before .before .before .before .before .before .before .before .before .before .args .s) in
+    let n = lines.next-line s (v .at) (v .line) (v .inv .limiting .formed) (c .before .before .before .before .before .before .before .loop-test .taken) in
+    let e = sym (c .before .before .before .r .given .1) ∙ c .before .before .before .before .before .read-line .ensures in
+    let r = steps.record-is s (v .at) (v .line) n _ _ _ _ _ e in
+    let y = c .before .before .before .before .before .before .before .before .before .before .before .survey-routines .ensures in
+    pass.there-no s (c .before .before .before .before .before .before .before .before .before .before .before .before .before .pre .0) (c .before .before .before .before .before .before .before .before .before .before .before .before .before .pre .1) (v .at) (v .line) (v .here) (v .inv) n _ y _ refl refl (ap (answersHere (v .here)) (sym r) ∙ sym (c .before .answers .ensures) ∙ c .if2 .left)
+
+returns-4 : tie.Need-returns-4 Inv-loop μ-loop
+returns-4 c =
+    let v = c .before .loop in
+    pass.there-done (now (c .before .before .before .before .before .before .args .s)) (c .before .before .before .before .before .before .pre .0) (c .before .before .before .before .before .before .pre .1) (v .at) (v .line) (v .here) (v .inv) (c .loop-test .left)
+
+pub there-place-spec : {M : Type 1} → statement M
+there-place-spec =
+    tie.close
+    (tie.spec
+    Inv-loop
+    μ-loop
+    survey-routines-requires
+    returns
+    loop-holds
+    read-line-requires
+    enum-known-r
+    enum-told
+    returns-2
+    answers-requires
+    moved-requires
+    loop-less
+    loop-again
+    returns-3
+    returns-4)

@@ -1,0 +1,13 @@
+pub mod Lengths
+pub mod ReadBack
+pub mod Reach
+pub mod Tests
+pub mod Table
+pub mod Question6
+pub mod Pieces
+pub mod Stands
+pub mod Asked
+pub mod Entry
+pub mod Bounds
+pub mod WalkBounds
+pub mod Append

@@ -1,0 +1,5 @@
+pub mod Areas
+pub mod Decode
+pub mod Question6
+pub mod Entry
+pub mod Bounds

@@ -1,0 +1,259 @@
+// Question 6, "Is the table one that loading some listing leaves?": one pass over a table's words.
+// The routines' entries are taken in order, each with its instructions and their cells, by a running number of the instructions and a
+// running address of the cells; then the unused words must be 0. Names, jumps, counts, kinds and limits are asked where they stand.
+
+ghost use mathlib.Core.Path.{_≡_};
+ghost use mathlib.Core.Bool.{_&&_};
+ghost use Prim.Native.Nat.{_+_, _*_, _-_, _<_, _≤_};
+ghost use lib.ListN.{length, take};
+ghost use lib.Dec.{eqb, leb};
+ghost use Rattle.listing.specs.Lists.{all};
+ghost use Rattle.listing.specs.Questions.{isByReference, opensAsStated, mayBeLast};
+ghost use Rattle.table.specs.Areas.{operands, kindBits};
+ghost use Rattle.table.specs.Decode.{word, instructionAtEntry, kindsOfBits, routineAtEntry, tableListing};
+ghost use Rattle.table.specs.Question6.{isTable};
+ghost use Rattle.table_check.specs.Check.{zerosAt, entryTest, openingTest, routinePast, operandCount, tailTest, passFrom};
+use table_code::code_past;
+
+// The words of a table.
+const TABLE_SIZE: usize = 12288;
+
+// ---- a routine's entry ----
+
+// Do the bits say no more than so many kinds?
+fn kinds_fit(arguments: u32, bits: u32) -> bool
+    ensures { λ r. ⌜ r ≡ eqb bits (kindBits (kindsOfBits arguments bits)) ⌝ }
+{
+    let mut rest = bits;
+    let mut left = arguments;
+    while left > 0 {
+        rest = rest / 2;
+        left -= 1;
+    }
+    rest == 0
+}
+
+// Are all these kinds by reference?
+fn all_by_reference(arguments: u32, bits: u32) -> bool
+    ensures { λ r. ⌜ r ≡ all isByReference (kindsOfBits arguments bits) ⌝ }
+{
+    let mut rest = bits;
+    let mut left = arguments;
+    while left > 0 {
+        if rest % 2 != 1 {
+            return false;
+        }
+        rest = rest / 2;
+        left -= 1;
+    }
+    true
+}
+
+// At most 16 names, its first instruction the number `first`, 1 or more instructions, 512 in all up to here, kinds of its arguments alone.
+fn entry_passes(t: &[u32], a: usize, first: usize) -> bool
+    requires { ⌜ (a + 5 ≤ length (now t)) × (first ≤ 512) ⌝ }
+    ensures { λ r. ⌜ r ≡ entryTest (now (t .entry)) a first ⌝ }
+{
+    let arguments = t[a + 0];
+    let bits = t[a + 1];
+    let locals = t[a + 2] as usize;
+    let start = t[a + 3] as usize;
+    let size = t[a + 4] as usize;
+    if (arguments as usize) + locals > 16 {
+        return false;
+    }
+    if start != first {
+        return false;
+    }
+    if size < 1 {
+        return false;
+    }
+    if first + size > 512 {
+        return false;
+    }
+    kinds_fit(arguments, bits)
+}
+
+// "Main has i + o arguments, all `r`".
+fn main_passes(t: &[u32]) -> bool
+    requires { ⌜ 13 ≤ length (now t) ⌝ }
+    ensures { λ r. ⌜ r ≡ opensAsStated (tableListing (now (t .entry))) 0 (routineAtEntry (now (t .entry)) 8) ⌝ }
+{
+    let arguments = t[8];
+    let bits = t[9];
+    let inputs = t[0] as usize;
+    let outputs = t[1] as usize;
+    if (arguments as usize) != inputs + outputs {
+        return false;
+    }
+    all_by_reference(arguments, bits)
+}
+
+fn opening_passes(t: &[u32], number: usize, first: usize) -> bool
+    requires { ⌜ (length (now t) ≡ 12288) × (number < 64) × (first ≤ 512) ⌝ }
+    ensures { λ r. ⌜ r ≡ openingTest (now (t .entry)) number first ⌝ }
+{
+    if !entry_passes(t, 8 + 5 * number, first) {
+        return false;
+    }
+    if number > 0 {
+        return true;
+    }
+    main_passes(t)
+}
+
+// ---- a routine ----
+
+// May the instruction whose entry stands at `e` be the last of its routine: `E` or `G`?
+fn may_end(t: &[u32], e: usize) -> bool
+    requires { ⌜ e + 5 ≤ length (now t) ⌝ }
+    ensures { λ r. ⌜ r ≡ mayBeLast (instructionAtEntry (now (t .entry)) e) ⌝ }
+{
+    let kind = t[e + 0];
+    if kind == 0 {
+        return true;
+    }
+    if kind == 4 {
+        return true;
+    }
+    kind > 6
+}
+
+// The address behind the cells of routine `number`, 0 if the answer is no.
+fn routine_past(t: &[u32], number: usize, first: usize, cells: usize) -> usize
+    requires { ⌜ (length (now t) ≡ 12288) × (number < 64) × (first ≤ 512) × (1 ≤ cells) × (cells ≤ 11080) × (word (now t) 2 ≤ 64) ⌝ }
+    ensures { λ r. ⌜ r ≡ routinePast (now (t .entry)) number first cells ⌝ }
+{
+    if !opening_passes(t, number, first) {
+        return 0;
+    }
+    let a = 8 + 5 * number;
+    let names = t[a + 0] + t[a + 2];
+    let size = t[a + 4];
+    let n = size as usize;
+    let e = 328 + 5 * first;
+    let next = code_past(t, names, size, e, cells, n);
+    if next == 0 {
+        return 0;
+    }
+    if may_end(t, e + 5 * (n - 1)) {
+        return next;
+    }
+    0
+}
+
+// ---- behind the routines ----
+
+// Are the words from `from` to before `to` 0?
+fn zeros_pass(t: &[u32], from: usize, to: usize) -> bool
+    requires { ⌜ (from ≤ to) × (to ≤ length (now t)) ⌝ }
+    ensures { λ r. ⌜ r ≡ zerosAt (now (t .entry)) from (to - from) ⌝ }
+{
+    let mut i = from;
+    while i < to {
+        if t[i] != 0 {
+            return false;
+        }
+        i += 1;
+    }
+    true
+}
+
+// The pieces of the instruction at `e` that stand in its entry.
+fn operands_at(t: &[u32], e: usize) -> usize
+    requires { ⌜ e + 5 ≤ length (now t) ⌝ }
+    ensures { λ r. ⌜ r ≡ operands (instructionAtEntry (now (t .entry)) e) ⌝ }
+{
+    let kind = t[e + 0];
+    if kind == 0 {
+        return 0;
+    }
+    if kind <= 4 {
+        return 1;
+    }
+    0
+}
+
+// Those of all `n` instructions.
+fn operand_count(t: &[u32], n: usize) -> usize
+    requires { ⌜ (328 + 5 * n ≤ length (now t)) × (n ≤ 512) ⌝ }
+    ensures { λ r. ⌜ r ≡ operandCount (now (t .entry)) 328 n ⌝ }
+{
+    let mut e: usize = 328;
+    let mut sum: usize = 0;
+    let mut left = n;
+    while left > 0 {
+        sum += operands_at(t, e);
+        e += 5;
+        left -= 1;
+    }
+    sum
+}
+
+// Behind `n` routines, `first` instructions and their cells: words of 0, and at most 4,096 pieces.
+fn tail_passes(t: &[u32], n: usize, first: usize, cells: usize) -> bool
+    requires { ⌜ (length (now t) ≡ 12288) × (n ≤ 64) × (first ≤ 512) × (cells ≤ 11080) ⌝ }
+    ensures { λ r. ⌜ r ≡ tailTest (now (t .entry)) n first cells ⌝ }
+{
+    if !zeros_pass(t, 3, 8) {
+        return false;
+    }
+    if !zeros_pass(t, 8 + 5 * n, 328) {
+        return false;
+    }
+    if !zeros_pass(t, 328 + 5 * first, 2888) {
+        return false;
+    }
+    if !zeros_pass(t, cells, TABLE_SIZE) {
+        return false;
+    }
+    cells + 2 * operand_count(t, first) <= 11080
+}
+
+// ---- the whole ----
+
+fn routines_pass(t: &[u32], n: usize) -> bool
+    requires { ⌜ (length (now t) ≡ 12288) × (n ≤ 64) × (word (now t) 2 ≤ 64) ⌝ }
+    ensures { λ r. ⌜ r ≡ passFrom (now (t .entry)) 0 0 2888 n ⌝ }
+{
+    let mut number: usize = 0;
+    let mut first: usize = 0;
+    let mut cells: usize = 2888;
+    while number < n {
+        let next = routine_past(t, number, first, cells);
+        if next == 0 {
+            return false;
+        }
+        let a = 8 + 5 * number;
+        first += t[a + 4] as usize;
+        cells = next;
+        number += 1;
+    }
+    tail_passes(t, n, first, cells)
+}
+
+// Question 6 of 12,288 words.
+fn words_pass(t: &[u32]) -> bool
+    requires { ⌜ length (now t) ≡ 12288 ⌝ }
+    ensures { λ r. ⌜ r ≡ isTable (now (t .entry)) ⌝ }
+{
+    let n = t[2] as usize;
+    if n < 1 {
+        return false;
+    }
+    if n > 64 {
+        return false;
+    }
+    routines_pass(t, n)
+}
+
+// Question 6 of a table's first 12,288 words; fewer are no table.
+pub fn is_table(t: &[u32]) -> bool
+    ensures { λ r. ⌜ r ≡ isTable (take 12288 (now (t .entry))) ⌝ }
+{
+    if t.len() < TABLE_SIZE {
+        return false;
+    }
+    let size = TABLE_SIZE;
+    words_pass(&t[0..size])
+}

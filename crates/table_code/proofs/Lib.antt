@@ -1,0 +1,5 @@
+pub mod Words
+pub mod Expressions
+pub mod Cells
+pub mod Entries
+pub mod Instructions

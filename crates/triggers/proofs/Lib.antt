@@ -1,0 +1,5 @@
+pub mod Owners
+pub mod Chaining
+pub mod Waking
+pub mod Listing
+pub mod Slots

@@ -1,0 +1,156 @@
+// The trigger lists of an instant, as linked lists in the machine's words: for each variable, the slots of those who await
+// it. They are made once, at the instant's beginning; a write passes along one. `m` is the machine's memory, `t` the table.
+ghost use mathlib.Core.Path.{_≡_};
+ghost use mathlib.Core.Bool.{true};
+ghost use mathlib.Core.List.{List};
+ghost use Prim.Native.Nat.{ℕ, suc, _+_, _*_, _≤_, _<_};
+ghost use lib.ListN.{length};
+ghost use Rattle.listing.specs.Listing.{Listing};
+ghost use Rattle.table.specs.Decode.{word, namesAt, instructionEntry};
+ghost use Rattle.scheduler.specs.Rows.{Owner, ownerOf};
+ghost use Rattle.scheduler.specs.Ready.{insertAll, insertIf};
+ghost use Rattle.scheduler.specs.Triggers.{sameOwner, consIf, listIf, triggered, triggersOf};
+ghost use Rattle.blocks.specs.Blocks.{ownerAt, rowsOf};
+ghost use Rattle.ready.specs.Slots.{slotsOf};
+ghost use Rattle.ready.specs.Ordered.{Ordered};
+ghost use Rattle.triggers.specs.Chains.{triggersAt, NoTriggers, Chains, OnlyTriggers};
+ghost use Rattle.triggers.specs.Awaited.{awaitedNames, FewNames, Sleepers, NamesOf, listsWith};
+ghost use Rattle.triggers.specs.Wakes.{wakes};
+use ready::ReadyList;
+
+// The number of an instruction's kind in the table: `W`.
+const WAIT: usize = 5;
+
+// ---- at a write ----
+
+// Slot s put into the ready list, if the write wakes it.
+fn wake_one(m: &[u32], q: ReadyList, s: usize, low: u32) -> ReadyList
+    requires { ⌜ (12288 ≤ length (now m)) × (s < 64) × (Ordered (rowsOf (now m)) (slotsOf q)) ⌝ }
+    ensures { λ r. ⌜ slotsOf r ≡ insertIf (wakes (rowsOf (now (m .entry))) low s) (rowsOf (now (m .entry))) s (slotsOf q) ⌝ }
+{
+    if !blocks::asleep(m, s) {
+        return q;
+    }
+    if blocks::low(m, s) <= low {
+        return q;
+    }
+    ready::push(m, q, s)
+}
+
+// The ready list after a write to variable `index` of block s, by a routine whose lowest priority is `low`.
+pub fn wake(m: &[u32], q: ReadyList, s: usize, index: usize, low: u32) -> ReadyList
+    requires { ⌜ (12288 ≤ length (now m)) × (s ≤ 64) × (index < 16) × (Ordered (rowsOf (now m)) (slotsOf q)) ⌝ }
+    ensures { λ r. ⌜ (slotsOf r ≡ insertAll (rowsOf (now (m .entry))) (triggered (rowsOf (now (m .entry))) low (triggersAt (now (m .entry)) s index)) (slotsOf q))
+        × (Ordered (rowsOf (now (m .entry))) (slotsOf r)) ⌝ }
+{
+    let mut next = number(blocks::word_at(m, s, 144 + index));
+    if next > 256 {
+        return q;
+    }
+    let mut woken = q;
+    while next > 0 {
+        let n = next - 1;
+        let slot = n / 4;
+        woken = wake_one(m, woken, slot, low);
+        next = number(blocks::word_at(m, slot, 160 + n % 4));
+        if next > n {
+            return woken;
+        }
+    }
+    woken
+}
+
+// ---- at the beginning of an instant ----
+
+fn number(x: u32) -> usize
+    ensures { λ r. ⌜ (r ≡ x) × (r < 4294967296) ⌝ }
+{
+    x as usize
+}
+
+// A word of the table; there is 0 past its end.
+fn table_word(t: &[u32], address: usize) -> usize
+    ensures { λ r. ⌜ (r ≡ word (now (t .entry)) address) × (r < 4294967296) ⌝ }
+{
+    if address < t.len() {
+        return number(t[address]);
+    }
+    0
+}
+
+// Slot s put before the list of the variable that a name of its routine stands for: name j of its wait.
+fn list_name(m: &mut [u32], s: usize, j: usize, name: usize)
+    requires { ⌜ (12288 ≤ length (now m)) × (s < 64) × (j < 4) × (name < 16) × (name < length ((rowsOf (now m) s) .bindings)) ⌝ }
+    ensures { λ _. ⌜ (OnlyTriggers (now (m .entry)) (now (m .exit)))
+        × ((lists : Owner → List ℕ) → Chains (now (m .entry)) (4 * s + j) lists
+        → Chains (now (m .exit)) (suc (4 * s + j)) (λ o. consIf (sameOwner (ownerOf ((rowsOf (now (m .entry)) s) .bindings) name) o) s (lists o))) ⌝ }
+{
+    let binding = blocks::owner(m, s, name);
+    let block = binding.block;
+    let index = binding.index;
+    let first = blocks::word_at(m, block, 144 + index);
+    let number = 4 * s + j + 1;
+    blocks::put_word(m, s, 160 + j, first);
+    blocks::put_word(m, block, 144 + index, number as u32);
+}
+
+// The same for the names of a wait, which stand in the table's cells.
+fn list_names(m: &mut [u32], t: &[u32], s: usize, cells: usize, count: usize)
+    requires { ⌜ (12288 ≤ length (now m)) × (s < 64) × (cells < 4294967296) × (FewNames (rowsOf (now m) s) (namesAt (now t) cells count)) ⌝ }
+    ensures { λ _. ⌜ (OnlyTriggers (now (m .entry)) (now (m .exit)))
+        × ((lists : Owner → List ℕ) → Chains (now (m .entry)) (4 * s) lists
+        → Chains (now (m .exit)) (4 * s + count) (listsWith ((rowsOf (now (m .entry)) s) .bindings) s (namesAt (now (t .entry)) cells count) lists)) ⌝ }
+{
+    let mut j: usize = 0;
+    while j < count {
+        let name = table_word(t, cells + 2 * j + 1);
+        list_name(m, s, j, name);
+        j += 1;
+    }
+}
+
+// Where the instruction that slot s is at has its entry in the table.
+fn entry_of(m: &[u32], t: &[u32], s: usize) -> usize
+    requires { ⌜ (12288 ≤ length (now m)) × (s < 64) ⌝ }
+    ensures { λ r. ⌜ (r ≡ instructionEntry (now (t .entry)) ((rowsOf (now (m .entry)) s) .routine) ((rowsOf (now (m .entry)) s) .place)) × (r < 68719476736) ⌝ }
+{
+    let routine = number(blocks::routine(m, s));
+    let place = number(blocks::place(m, s));
+    let first = table_word(t, 8 + 5 * routine + 3);
+    328 + 5 * first + 5 * place
+}
+
+// Slot s in the lists of the variables that it awaits, if it sleeps.
+fn list_slot(m: &mut [u32], t: &[u32], s: usize)
+    requires { ⌜ (12288 ≤ length (now m)) × (s < 64)
+        × ((rowsOf (now m) s) .asleep ≡ true → FewNames (rowsOf (now m) s) (awaitedNames (now t) (rowsOf (now m) s))) ⌝ }
+    ensures { λ _. ⌜ (OnlyTriggers (now (m .entry)) (now (m .exit)))
+        × ((lists : Owner → List ℕ) → Chains (now (m .entry)) (4 * s) lists
+        → Chains (now (m .exit)) (4 * suc s) (λ o. listIf ((rowsOf (now (m .entry)) s) .asleep) ((rowsOf (now (m .entry)) s) .bindings) s
+        (awaitedNames (now (t .entry)) (rowsOf (now (m .entry)) s)) o (lists o))) ⌝ }
+{
+    if !blocks::asleep(m, s) {
+        return;
+    }
+    let entry = entry_of(m, t, s);
+    if table_word(t, entry + 0) != WAIT {
+        return;
+    }
+    let cells = table_word(t, entry + 2);
+    let count = table_word(t, entry + 3);
+    list_names(m, t, s, cells, count);
+}
+
+// The lists of all sleepers, where there are none yet: those of the listing that the table stands for.
+pub fn list_sleepers(m: &mut [u32], t: &[u32])
+    requires { ⌜ (12288 ≤ length (now m)) × (NoTriggers (now m)) × (Sleepers (now t) (now m)) ⌝ }
+    ensures { λ _. ⌜ (OnlyTriggers (now (m .entry)) (now (m .exit)))
+        × ((listing : Listing) → NamesOf listing (now (t .entry)) (now (m .entry)) → (s index : ℕ) → s ≤ 64 → index < 16
+        → triggersAt (now (m .exit)) s index ≡ triggersOf listing (rowsOf (now (m .entry))) (ownerAt s index)) ⌝ }
+{
+    let mut s: usize = 0;
+    while s < 64 {
+        list_slot(m, t, s);
+        s += 1;
+    }
+}

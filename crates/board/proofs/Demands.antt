@@ -1,0 +1,25 @@
+-- The demands, as they stand for our board: the file to open first. Nothing that a reader must believe stands here: the definitions are in
+-- `listing` and `walk` (the text, the walk, the calls' promises, boards), `halves` and `board_halves` (demand 3's terms).
+-- Open: the code of the loader's writing, the start and the instant call, which is to keep these promises (docs/PROOFS.md).
+use mathlib.Core.List.{List, List·Memᴰ}
+use mathlib.Core.Path.{_≡_}
+use Rattle.listing.specs.Listing.{Listing, Call}
+use Rattle.walk.specs.Boards.{BoardRun}
+use Rattle.halves.specs.Halves.{onlyOf}
+use Rattle.board_halves.specs.Boards.{BoardRunFor, BoardsAgree, boardWrites}
+use Rattle.promises.proofs.Board.{BoardSession, board-session}
+use Rattle.board_halves.proofs.Demand3 as Halves
+use Rattle.board.specs.Board.{layout}
+use Rattle.board.proofs.LayoutIsExact.{layout-is-exact}
+
+-- Demand 2, the session clause: over any list of calls from the start, refused ones among them, whose calls keep their promises,
+-- results, lists and states are the walk's on the lines of the listing loaded.
+pub any-session-is-the-walks : (run : BoardRun layout) → BoardSession layout run
+any-session-is-the-walks run = board-session layout layout-is-exact run
+
+-- Demand 3, whole: two runs of boards let to growers, that agree in what is a grower's, report the same writes of that grower.
+pub nobody-alters-anothers-water : (run run′ : BoardRun layout) (listing listing′ : Listing) (growers : List Call) (c : Call) → List·Memᴰ c growers →
+    BoardRunFor growers listing run → BoardRunFor growers listing′ run′ → BoardsAgree c listing listing′ run run′ →
+    onlyOf c (boardWrites run) ≡ onlyOf c (boardWrites run′)
+nobody-alters-anothers-water run run′ listing listing′ growers c m r r′ agree =
+    Halves.demand-3 layout layout layout-is-exact layout-is-exact run run′ listing listing′ growers c m r r′ agree

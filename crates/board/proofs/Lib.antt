@@ -1,0 +1,2 @@
+pub mod LayoutIsExact
+pub mod Demands

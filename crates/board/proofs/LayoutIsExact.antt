@@ -30,11 +30,11 @@ table-is-exact =
     record {
       only = λ words listing size e. let p = table-read-exactly-if words listing .0 e in record { text = p .0; loads = p .1 };
       every = λ text listing h.
-        record { words = tableWords listing; long = bounds (tableWords listing) (loaded-table-passes text listing h) .words; reads = table-read-exactly-if (tableWords listing) listing .1 (text, h, refl) };
+          record { words = tableWords listing; long = bounds (tableWords listing) (loaded-table-passes text listing h) .words; reads = table-read-exactly-if (tableWords listing) listing .1 (text, h, refl) };
       one = λ words words′ listing size size′ e e′.
-        let p = table-read-exactly-if words listing .0 e in
-        let q = table-read-exactly-if words′ listing .0 e′ in
-        sym (p .2) ∙ q .2
+          let p = table-read-exactly-if words listing .0 e in
+          let q = table-read-exactly-if words′ listing .0 e′ in
+          sym (p .2) ∙ q .2;
     }
 
 -- ── question 7 ────────────────────────────────────────────────────────────────────────────────────
@@ -44,6 +44,7 @@ loaded-within-limits listing from =
   where
     meets : Meets (tableListing (tableWords listing))
     meets = table-meets (tableWords listing) (loaded-table-passes (from .text) listing (from .loads))
+
     limits : (l : Listing) → Meets l → WithinLimits l
     limits l m = record { owned = owned-few l m; code = code-few l m; children = children-few l m; ports = ports-few l m }
 
@@ -54,8 +55,8 @@ machine-is-exact listing from =
       halted-only = read-halted-is-the-stopped-form listing;
       state-only = read-is-a-state listing;
       state-every = λ s h.
-        let w = every-state-has-words listing (loaded-within-limits listing from) s h in
-        record { words = wordsOf (s .now) (s .environment) (recordsOf (h .tree) 0); long = w .long; reads = w .read }
+          let w = every-state-has-words listing (loaded-within-limits listing from) s h in
+          record { words = wordsOf (s .now) (s .environment) (recordsOf (h .tree) 0); long = w .long; reads = w .read };
     }
 
 pub layout-is-exact : Exact layout

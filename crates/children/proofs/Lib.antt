@@ -1,0 +1,12 @@
+pub mod Lists
+pub mod FreeSlot
+pub mod Naming
+pub mod OwnNames
+pub mod CallerNames
+pub mod Passing
+pub mod Priorities
+pub mod ChildSteps
+pub mod NewChild
+pub mod ChildMade
+pub mod Forking
+pub mod Asked

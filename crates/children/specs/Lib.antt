@@ -1,0 +1,5 @@
+pub mod Naming
+pub mod Passing
+pub mod NewRow
+pub mod NewChild
+pub mod Fork

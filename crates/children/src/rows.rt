@@ -1,0 +1,86 @@
+// The words of a new routine's row but for its variables and names.
+ghost use mathlib.Core.Path.{_≡_};
+ghost use Prim.Native.Nat.{_+_, _*_, _^_, _≤_, _<_};
+ghost use lib.ListN.{length};
+ghost use Rattle.blocks.specs.Blocks.{block, rowsOf};
+ghost use Rattle.blocks.specs.Changes.{InBlock};
+ghost use Rattle.children.specs.NewRow.{MayDivide, ParentIs, Reaches, keptBlock, workingBlock};
+use blocks::put_word;
+use blocks::word_at;
+use words::fork_bits;
+
+// What a new routine's row takes from its parent: the parent's slot (main's is 64), the new routine's level, the address of its
+// first own variable, the lowest of the parent's priorities, the bits of each child's range.
+pub struct Parent {
+    pub slot: usize,
+    pub level: u32,
+    pub base: u32,
+    pub low: u32,
+    pub bits: u32,
+}
+
+// The number of a routine's own variables.
+fn own_count(m: &[u32], s: usize) -> u32
+    requires { ⌜ (12288 ≤ length (now m)) × (s < 64) ⌝ }
+    ensures { λ r. ⌜ r ≡ length ((rowsOf (now (m .entry)) s) .own) ⌝ }
+{
+    let count = word_at(m, s, 4);
+    if count < 16 {
+        return count;
+    }
+    16
+}
+
+// The routine in slot `me` as the parent of n children: "A fork of n children divides its priority range by the fewest bits that
+// number n children".
+pub fn parent_of(m: &[u32], me: usize, n: u32) -> Parent
+    requires { ⌜ (12288 ≤ length (now m)) × (me < 64) × MayDivide (rowsOf (now m)) me n ⌝ }
+    ensures { λ r. ⌜ ParentIs (rowsOf (now (m .entry))) me n r ⌝ }
+{
+    let bits = blocks::bits(m, me) - fork_bits(n);
+    let level = blocks::level(m, me) + 1;
+    let base = blocks::base(m, me) + own_count(m, me);
+    let low = blocks::low(m, me);
+    Parent {
+        slot: me,
+        level,
+        base,
+        low,
+        bits,
+    }
+}
+
+// The lowest priority of child number i.
+fn low_of(p: Parent, i: u32) -> u32
+    requires { ⌜ Reaches p i ⌝ }
+    ensures { λ r. ⌜ r ≡ p .low + i * 2 ^ p .bits ⌝ }
+{
+    let bits = p.bits;
+    let before = (i as u64) << bits;
+    (p.low as u64 + before) as u32
+}
+
+// In use, level, child field, number of own variables.
+pub fn put_kept(m: &mut [u32], s: usize, level: u32, i: u32, own: u32)
+    requires { ⌜ (12288 ≤ length (now m)) × (s < 64) ⌝ }
+    ensures { λ _. ⌜ InBlock s (now (m .entry)) (now (m .exit)) (keptBlock (block (now (m .entry)) s) level i own) ⌝ }
+{
+    put_word(m, s, 0, 1);
+    put_word(m, s, 1, level);
+    put_word(m, s, 2, i);
+    put_word(m, s, 4, own);
+}
+
+// The working words of child number i, which runs this routine.
+pub fn put_working(m: &mut [u32], s: usize, p: Parent, i: u32, asleep: u32, routine: u32)
+    requires { ⌜ (12288 ≤ length (now m)) × (s < 64) × (p .slot ≤ 64) × Reaches p i ⌝ }
+    ensures { λ _. ⌜ InBlock s (now (m .entry)) (now (m .exit)) (workingBlock (block (now (m .entry)) s) p i asleep routine) ⌝ }
+{
+    put_word(m, s, 104, asleep);
+    put_word(m, s, 105, p.slot as u32);
+    put_word(m, s, 106, 0);
+    put_word(m, s, 107, low_of(p, i));
+    put_word(m, s, 108, p.bits);
+    put_word(m, s, 109, routine);
+    put_word(m, s, 111, p.base);
+}

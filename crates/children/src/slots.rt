@@ -1,0 +1,22 @@
+// The slot that a new routine takes: "room freed by an end serves the next fork".
+ghost use mathlib.Core.Path.{_≡_};
+ghost use Prim.Native.Nat.{_≤_};
+ghost use lib.ListN.{length};
+ghost use Rattle.scheduler.specs.Engine.{freeSlot};
+ghost use Rattle.blocks.specs.Blocks.{rowsOf};
+use blocks::used;
+
+// The highest free slot, 0 if there is none.
+pub fn free_slot(m: &[u32]) -> usize
+    requires { ⌜ 12288 ≤ length (now m) ⌝ }
+    ensures { λ r. ⌜ r ≡ freeSlot (rowsOf (now (m .entry))) 64 ⌝ }
+{
+    let mut n: usize = 64;
+    while n > 0 {
+        n -= 1;
+        if !used(m, n) {
+            return n;
+        }
+    }
+    0
+}

@@ -1,0 +1,10 @@
+pub mod Asked
+pub mod Fetching
+pub mod Fields
+pub mod WorkingRows
+pub mod TidyFilled
+pub mod ChildFilled
+pub mod MainNames
+pub mod MainRows
+pub mod Passes
+pub mod PassSteps

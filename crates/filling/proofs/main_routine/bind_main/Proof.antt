@@ -1,0 +1,62 @@
+-- `filling::main_routine::bind_main` meets its contract.
+use mathlib.Core.Path.{ap, _∙_}
+use mathlib.Core.List.{List, _++_}
+use native.Mathlib.Omega.{arith}
+use denote.Ref.{now}
+use Rattle.scheduler.specs.Rows.{Owner}
+use Rattle.scheduler.specs.Engine.{ownBindings}
+use Rattle.children.proofs.OwnNames.{all-names}
+use Rattle.filling.proofs.MainNames.{main-there, main-bound}
+use Rattle.filling.proofs.main_routine.bind_main.Statement.{statement}
+use Rattle.filling.proofs.main_routine.bind_main.Tie as tie
+
+opening-of-requires : tie.Need-opening-of-requires
+opening-of-requires c κs =
+    (c .before .before .pre .0, main-there (now (c .before .before .args .t)) (c .before .before .pre .0))
+
+bind-environment-requires : tie.Need-bind-environment-requires
+bind-environment-requires c κs =
+    (c .before .before .before .before .pre .1, c .before .before .before .before .pre .2, omega (arith, c .before .opening-of .ensures .names))
+
+bind-own-requires : tie.Need-bind-own-requires
+bind-own-requires c κs =
+    let O = c .before .before .before .before .before .opening-of .ensures in
+    (omega (arith, c .before .before .before .before .before .before .before .before .pre .1, c .before .before .before .bind-environment .ensures .inBlock .size), c .before .before .before .before .before .before .before .before .pre .2, O .names, omega (arith, O .names))
+
+add-put-word : tie.Need-add-put-word
+add-put-word c =
+    omega (arith, c .before .before .before .before .before .before .before .before .before .opening-of .ensures .names)
+
+cast-put-word : tie.Need-cast-put-word
+cast-put-word c =
+    omega (arith, c .before .before .before .before .before .before .before .before .before .opening-of .ensures .names)
+
+put-word-requires : tie.Need-put-word-requires
+put-word-requires c κs =
+    (omega (arith, c .before .before .before .before .before .before .before .before .before .before .before .before .pre .1, c .before .before .before .before .before .before .before .bind-environment .ensures .inBlock .size, c .before .before .before .bind-own .ensures .inBlock .size), omega (arith, c .before .before .before .before .before .before .before .before .before .before .before .before .pre .2), omega arith)
+
+same-length : tie.Need-same-length
+same-length c =
+    omega (arith, c .before .before .before .before .before .before .before .before .before .before .bind-environment .ensures .inBlock .size, c .before .before .before .before .before .before .bind-own .ensures .inBlock .size, c .before .before .put-word .ensures .size)
+
+returns : tie.Need-returns
+returns c =
+    let a = c .before .before .before .before .before .before .before .before .before .before .before .before .before .before .before .args in
+    let E = c .before .before .before .before .before .before .before .before .before .before .bind-environment .ensures in
+    let O = c .before .before .before .before .before .before .before .before .before .before .before .before .opening-of .ensures in
+    all-names (E .inBlock) (E .others)
+    (ap (λ (l : List Owner). l ++ ownBindings (c .before .before .before .before .before .before .before .before .before .before .before .before .opening-of .result .locals) (a .s) 0) (E .names) ∙ main-bound (now (a .t)) (c .before .before .before .before .before .before .before .before .before .before .before .before .before .before .before .pre .0) (a .s) O)
+    (O .names) (c .before .before .before .before .before .before .bind-own .ensures) (c .before .before .put-word .ensures)
+
+pub bind-main-spec : {M : Type 1} → statement M
+bind-main-spec =
+    tie.close
+    (tie.spec
+    opening-of-requires
+    bind-environment-requires
+    bind-own-requires
+    add-put-word
+    cast-put-word
+    put-word-requires
+    same-length
+    returns)

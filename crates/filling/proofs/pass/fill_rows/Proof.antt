@@ -1,0 +1,120 @@
+-- `filling::pass::fill_rows` meets its contract.
+use mathlib.Core.Path.{subst}
+use Prim.Native.Nat.{ℕ, _<_, _-_}
+use native.Mathlib.Omega.{arith}
+use Rattle.filling.proofs.Passes.{Passing, pass-start, pass-end}
+use Rattle.filling.proofs.PassSteps.{slot-small, level-small, may-fill-now, pass-turn}
+use borrow.Author.Needs.{needs}
+use Rattle.filling.proofs.pass.fill_rows.Statement.{statement}
+use Rattle.filling.proofs.pass.fill_rows.Tie as tie
+
+abbrev Inv-loop : tie.InvT-loop
+Inv-loop t m₀ n above₀ k₀ m above k =
+    Passing t m₀ m above k
+
+abbrev μ-loop : tie.MeasureT-loop
+μ-loop t m₀ n above₀ k₀ m above k =
+    n - k
+
+header-requires : tie.Need-header-requires Inv-loop μ-loop
+header-requires c κs =
+    omega (arith, c .before .before .before .pre .size)
+
+loop-holds : tie.Need-loop-holds Inv-loop μ-loop
+loop-holds c =
+    pass-start (c .before .before .before .before .pre)
+
+add-header : tie.Need-add-header Inv-loop μ-loop
+add-header c =
+    omega (arith, c .before .before .before .before .before .before .before .pre .few, c .before .before .before .header .ensures, c .before .loop-test .taken)
+
+header-requires-2 : tie.Need-header-requires-2 Inv-loop μ-loop
+header-requires-2 c κs =
+    omega (arith, c .before .before .before .before .before .before .before .pre .few, c .before .before .before .header .ensures, c .before .loop-test .taken, c .before .before .loop .inv .outside .size, c .before .before .before .before .before .before .before .pre .size)
+
+level-requires : tie.Need-level-requires Inv-loop μ-loop
+level-requires c κs =
+    let G = c .before .before .before .before .loop .inv in
+    let more = subst (λ (x : ℕ). c .before .before .before .before .loop .k < x) (c .before .before .before .before .before .header .ensures) (c .before .before .before .loop-test .taken) in
+    (omega (arith, c .before .before .before .before .before .before .before .before .before .pre .size, G .outside .size), slot-small (c .before .before .before .before .before .before .before .before .before .pre) G more _ (c .before .header2 .ensures))
+
+cast-level : tie.Need-cast-level Inv-loop μ-loop
+cast-level c = search needs
+
+array-read-number : tie.Need-array-read-number Inv-loop μ-loop
+array-read-number c =
+    let G = c .before .before .before .before .before .loop .inv in
+    let more = subst (λ (x : ℕ). c .before .before .before .before .before .loop .k < x) (c .before .before .before .before .before .before .header .ensures) (c .before .before .before .before .loop-test .taken) in
+    omega (arith, G .size, level-small (c .before .before .before .before .before .before .before .before .before .before .pre) G more _ (c .before .before .header2 .ensures) _ (c .level .ensures))
+
+number-requires : tie.Need-number-requires Inv-loop μ-loop
+number-requires c κs = search needs
+
+fill-slot-requires : tie.Need-fill-slot-requires Inv-loop μ-loop
+fill-slot-requires c κs =
+    let G = c .before .before .before .before .before .before .before .loop .inv in
+    let more = subst (λ (x : ℕ). c .before .before .before .before .before .before .before .loop .k < x) (c .before .before .before .before .before .before .before .before .header .ensures) (c .before .before .before .before .before .before .loop-test .taken) in
+    (c .before .before .before .before .before .before .before .before .before .before .before .before .pre .table, omega (arith, c .before .before .before .before .before .before .before .before .before .before .before .before .pre .size, G .outside .size), may-fill-now (c .before .before .before .before .before .before .before .before .before .before .before .before .pre) G more _ (c .before .before .before .before .header2 .ensures) _ (c .before .before .level .ensures) _ (c .before .number .ensures))
+
+cast-above : tie.Need-cast-above Inv-loop μ-loop
+cast-above c =
+    let G = c .before .before .before .before .before .before .before .before .before .before .loop .inv in
+    let more = subst (λ (x : ℕ). c .before .before .before .before .before .before .before .before .before .before .loop .k < x) (c .before .before .before .before .before .before .before .before .before .before .before .header .ensures) (c .before .before .before .before .before .before .before .before .before .loop-test .taken) in
+    omega (arith, slot-small (c .before .before .before .before .before .before .before .before .before .before .before .before .before .before .before .pre) G more _ (c .before .before .before .before .before .before .before .header2 .ensures))
+
+add-above : tie.Need-add-above Inv-loop μ-loop
+add-above c =
+    let G = c .before .before .before .before .before .before .before .before .before .before .loop .inv in
+    let more = subst (λ (x : ℕ). c .before .before .before .before .before .before .before .before .before .before .loop .k < x) (c .before .before .before .before .before .before .before .before .before .before .before .header .ensures) (c .before .before .before .before .before .before .before .before .before .loop-test .taken) in
+    omega (arith, level-small (c .before .before .before .before .before .before .before .before .before .before .before .before .before .before .before .pre) G more _ (c .before .before .before .before .before .before .before .header2 .ensures) _ (c .before .before .before .before .before .level .ensures))
+
+array-write-above : tie.Need-array-write-above Inv-loop μ-loop
+array-write-above c =
+    let G = c .before .before .before .before .before .before .before .before .before .before .loop .inv in
+    let more = subst (λ (x : ℕ). c .before .before .before .before .before .before .before .before .before .before .loop .k < x) (c .before .before .before .before .before .before .before .before .before .before .before .header .ensures) (c .before .before .before .before .before .before .before .before .before .loop-test .taken) in
+    omega (arith, G .size, level-small (c .before .before .before .before .before .before .before .before .before .before .before .before .before .before .before .pre) G more _ (c .before .before .before .before .before .before .before .header2 .ensures) _ (c .before .before .before .before .before .level .ensures))
+
+add-k : tie.Need-add-k Inv-loop μ-loop
+add-k c =
+    omega (arith, c .before .before .before .before .before .before .before .before .before .before .before .before .before .before .before .pre .few, c .before .before .before .before .before .before .before .before .before .before .before .header .ensures, c .before .before .before .before .before .before .before .before .before .loop-test .taken)
+
+loop-less : tie.Need-loop-less Inv-loop μ-loop
+loop-less c = search needs
+
+loop-again : tie.Need-loop-again Inv-loop μ-loop
+loop-again c =
+    let G = c .before .before .before .before .before .before .before .before .before .before .loop .inv in
+    let more = subst (λ (x : ℕ). c .before .before .before .before .before .before .before .before .before .before .loop .k < x) (c .before .before .before .before .before .before .before .before .before .before .before .header .ensures) (c .before .before .before .before .before .before .before .before .before .loop-test .taken) in
+    pass-turn (c .before .before .before .before .before .before .before .before .before .before .before .before .before .before .before .pre) G more _ (c .before .before .before .before .before .before .before .header2 .ensures) _ (c .before .before .before .before .before .level .ensures) _ (c .before .before .before .before .number .ensures) (c .before .before .fill-slot .ensures)
+
+same-length : tie.Need-same-length Inv-loop μ-loop
+same-length c =
+    c .before .loop .inv .outside .size
+
+returns : tie.Need-returns Inv-loop μ-loop
+returns c =
+    pass-end (c .before .before .before .before .before .before .pre) (c .before .loop .inv) (omega (arith, c .before .before .header .ensures, c .loop-test .left))
+
+pub fill-rows-spec : {M : Type 1} → statement M
+fill-rows-spec =
+    tie.close
+    (tie.spec
+    Inv-loop
+    μ-loop
+    header-requires
+    loop-holds
+    add-header
+    header-requires-2
+    level-requires
+    cast-level
+    array-read-number
+    number-requires
+    fill-slot-requires
+    cast-above
+    add-above
+    array-write-above
+    add-k
+    loop-less
+    loop-again
+    same-length
+    returns)

@@ -1,0 +1,56 @@
+-- `filling::row::fill_child` meets its contract.
+use native.Mathlib.Omega.{arith}
+use denote.Ref.{now}
+use Rattle.filling.proofs.ChildFilled.{count-divides, may-fill-row, child-filled}
+use borrow.Author.Needs.{needs}
+use Rattle.filling.proofs.row.fill_child.Statement.{statement}
+use Rattle.filling.proofs.row.fill_child.Tie as tie
+
+field-of-requires : tie.Need-field-of-requires
+field-of-requires c κs = search needs
+
+cast-parent-of : tie.Need-cast-parent-of
+cast-parent-of c =
+    omega (arith, c .before .before .field-of .ensures .count, c .before .before .before .before .before .before .pre .2 .divides .most)
+
+parent-of-requires : tie.Need-parent-of-requires
+parent-of-requires c κs =
+    let M = c .before .before .before .before .before .before .pre .2 in (c .before .before .before .before .before .before .pre .1, M .parent, count-divides (now (c .before .before .before .before .before .before .args .m)) M (c .before .before .field-of .ensures))
+
+children-requires : tie.Need-children-requires
+children-requires c κs =
+    (c .before .before .before .before .before .before .before .before .pre .1, c .before .before .before .before .before .before .before .before .pre .2 .parent)
+
+add-set-children : tie.Need-add-set-children
+add-set-children c =
+    omega (arith, c .before .children .ensures, c .before .before .before .before .before .before .before .before .before .before .pre .2 .children)
+
+set-children-requires : tie.Need-set-children-requires
+set-children-requires c κs =
+    (c .before .before .before .before .before .before .before .before .before .before .pre .1, c .before .before .before .before .before .before .before .before .before .before .pre .2 .parent)
+
+fill-row-requires : tie.Need-fill-row-requires
+fill-row-requires c κs =
+    may-fill-row (now (c .before .before .before .before .before .before .before .before .before .before .before .before .before .before .args .m)) (c .before .before .before .before .before .before .before .before .before .before .before .before .before .before .pre .2) (c .before .before .before .before .before .before .before .before .before .before .field-of .ensures) (c .before .before .before .before .before .children .ensures) (c .before .before .before .before .before .before .before .parent-of .ensures) (c .before .before .before .set-children .ensures) (c .before .before .before .before .before .before .before .before .before .before .before .before .before .before .pre .0) (c .before .before .before .before .before .before .before .before .before .before .before .before .before .before .pre .1)
+
+same-length : tie.Need-same-length
+same-length c =
+    omega (arith, c .before .before .before .before .before .before .set-children .ensures .outside .size, c .before .before .fill-row .ensures .inBlock .size)
+
+returns : tie.Need-returns
+returns c =
+    child-filled (now (c .before .before .before .before .before .before .before .before .before .before .before .before .before .before .before .before .before .args .m)) (c .before .before .before .before .before .before .before .before .before .before .before .before .before .before .before .before .before .pre .2) (c .before .before .before .before .before .before .before .before .before .before .before .before .before .field-of .ensures) (c .before .before .before .before .before .before .before .before .children .ensures) (c .before .before .before .before .before .before .before .before .before .before .parent-of .ensures) (c .before .before .before .before .before .before .set-children .ensures) (c .before .before .fill-row .ensures)
+
+pub fill-child-spec : {M : Type 1} → statement M
+fill-child-spec =
+    tie.close
+    (tie.spec
+    field-of-requires
+    cast-parent-of
+    parent-of-requires
+    children-requires
+    add-set-children
+    set-children-requires
+    fill-row-requires
+    same-length
+    returns)

@@ -1,0 +1,5 @@
+pub mod Filling
+pub mod Field
+pub mod Row
+pub mod MainRoutine
+pub mod Pass

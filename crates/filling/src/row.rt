@@ -1,0 +1,52 @@
+// One routine's working words.
+ghost use mathlib.Core.Path.{_≡_};
+ghost use mathlib.Core.Bool.{true};
+ghost use Prim.Native.Nat.{_≤_};
+ghost use lib.ListN.{length};
+ghost use Rattle.table.specs.Question6.{isTable};
+ghost use Rattle.blocks.specs.Blocks.{rowsOf};
+ghost use Rattle.filling.specs.Filling.{MayFillChild};
+ghost use Rattle.filling.specs.Row.{MayFillRow, RowFilled, childWorking, ChildFilled};
+use crate::field::field_of;
+use crate::field::wait_mark;
+use children::Parent;
+use children::bind_names;
+use children::parent_of;
+use children::put_working;
+use table_read::opening_of;
+
+// The working words of the routine in slot s, which child field number i of the routine in slot p made; its head stands at `head`.
+fn fill_row(
+    t: &[u32],
+    m: &mut [u32],
+    p: usize,
+    s: usize,
+    head: usize,
+    callee: usize,
+    parent: Parent,
+)
+    requires { ⌜ MayFillRow (now t) (now m) p s head callee parent ⌝ }
+    ensures { λ _. ⌜ RowFilled (now (m .entry)) s (childWorking (now (t .entry)) (now (m .entry)) p s head callee parent) (now (m .exit)) ⌝ }
+{
+    let opening = opening_of(t, callee);
+    let count = opening.arguments;
+    let bits = opening.bits;
+    let locals = opening.locals;
+    let place = blocks::place(m, s) as usize;
+    let asleep = wait_mark(t, callee, place);
+    let i = blocks::child(m, s);
+    put_working(m, s, parent, i, asleep, callee as u32);
+    bind_names(t, m, p, s, head + 2, count, bits, locals);
+}
+
+// A child's row, and one live child more in its parent's.
+pub fn fill_child(t: &[u32], m: &mut [u32], p: usize, s: usize)
+    requires { ⌜ (isTable (now t) ≡ true) × (12288 ≤ length (now m)) × MayFillChild (now t) (rowsOf (now m)) p s ⌝ }
+    ensures { λ _. ⌜ ChildFilled (now (t .entry)) (now (m .entry)) p s (now (m .exit)) ⌝ }
+{
+    let field = field_of(t, m, p, s);
+    let parent = parent_of(m, p, field.count as u32);
+    let count = blocks::children(m, p);
+    blocks::set_children(m, p, count + 1);
+    fill_row(t, m, p, s, field.head, field.callee, parent);
+}

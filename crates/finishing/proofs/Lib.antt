@@ -1,0 +1,9 @@
+pub mod VariableWords
+pub mod RestingBlocks
+pub mod KeptRecords
+pub mod EndedIsRead
+pub mod Ordering
+pub mod OrderTurns
+pub mod PlaceTurns
+pub mod Clearing
+pub mod Composed

@@ -1,0 +1,46 @@
+use Rattle.finishing.proofs.OrderTurns.{built-below}
+use Rattle.finishing.proofs.PlaceTurns.{built-differ}
+use Rattle.finishing.proofs.Composed.{instant-ended}
+use Rattle.finishing.specs.Ended.{Ended}
+use Rattle.scheduler.specs.Order.{walkingOrder}
+use Rattle.blocks.specs.Blocks.{rowsOf}
+use mathlib.Core.Path.{_≡_, sym, subst}
+use mathlib.Core.List.{List}
+use Prim.Native.Nat.{ℕ}
+use native.Mathlib.Omega.{arith}
+use denote.Ref.{now}
+use borrow.Author.Needs.{needs}
+use Rattle.finishing.proofs.ending.finish.Statement.{statement}
+use Rattle.finishing.proofs.ending.finish.Tie as tie
+
+clear-header-requires : tie.Need-clear-header-requires
+clear-header-requires c κs = search needs
+
+order-slots-requires : tie.Need-order-slots-requires
+order-slots-requires c κs = search needs
+
+set-places-requires : tie.Need-set-places-requires
+set-places-requires c κs =
+    let o = c .before .before .before .order-slots .ensures in
+    (search needs, search needs, built-below (omega arith) o, built-differ o)
+
+clear-working-requires : tie.Need-clear-working-requires
+clear-working-requires c κs = search needs
+
+cast-store-header : tie.Need-cast-store-header
+cast-store-header c = search needs
+
+store-header-requires : tie.Need-store-header-requires
+store-header-requires c κs = search needs
+
+same-length : tie.Need-same-length
+same-length c = search needs
+
+returns : tie.Need-returns
+returns c =
+    let a = c .before .before .before .before .before .before .before .before .before .before .before .before .before .before .before .before .before .before .before .before .before .args in
+    subst (λ (l : List ℕ). Ended (a .t) (walkingOrder (rowsOf (now (a .m)))) (now (a .m)) l) (sym (c .before .before .store-header .ensures))
+    (instant-ended (a .t) _ (search needs) (c .before .before .before .before .before .before .before .before .before .before .before .before .before .before .before .before .before .before .clear-header .ensures) (c .before .before .before .before .before .before .before .before .before .before .before .before .before .before .order-slots .ensures) (c .before .before .before .before .before .before .before .before .before .before .set-places .ensures) (c .before .before .before .before .before .before .clear-working .ensures))
+
+pub finish-spec : {M : Type 1} → statement M
+finish-spec = tie.close (tie.spec clear-header-requires order-slots-requires set-places-requires clear-working-requires cast-store-header store-header-requires same-length returns)

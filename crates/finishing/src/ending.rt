@@ -1,0 +1,36 @@
+// The machine's words brought to the form that they have between calls.
+ghost use mathlib.Core.Path.{_≡_};
+ghost use Prim.Native.Nat.{_≤_, _/_, _%_};
+ghost use lib.ListN.{length};
+ghost use Rattle.scheduler.specs.Order.{walkingOrder};
+ghost use Rattle.blocks.specs.Blocks.{rowsOf};
+ghost use Rattle.finishing.specs.Ended.{stored, Ended};
+use crate::order::order_slots;
+use crate::places::clear_header;
+use crate::places::set_places;
+use crate::working::clear_working;
+
+// 2 to the 32: a moment's low word counts to here.
+const SIZE: u64 = 4294967296;
+
+// The present moment and the number of live routines.
+fn store_header(m: &mut [u32], t: u64, count: u32)
+    requires { ⌜ 12288 ≤ length (now m) ⌝ }
+    ensures { λ _. ⌜ now (m .exit) ≡ stored (now (m .entry)) (t % 4294967296) (t / 4294967296) count ⌝ }
+{
+    m[1] = (t % SIZE) as u32;
+    m[2] = (t / SIZE) as u32;
+    m[3] = count;
+}
+
+// At moment t: header, order list and places written, working words cleared.
+pub fn finish(m: &mut [u32], t: u64)
+    requires { ⌜ 12288 ≤ length (now m) ⌝ }
+    ensures { λ _. ⌜ Ended t (walkingOrder (rowsOf (now (m .entry)))) (now (m .entry)) (now (m .exit)) ⌝ }
+{
+    clear_header(m);
+    let count = order_slots(m);
+    set_places(m, count);
+    clear_working(m);
+    store_header(m, t, count as u32);
+}

@@ -1,0 +1,3 @@
+pub mod NewSlots
+pub mod Counted
+pub mod Forked

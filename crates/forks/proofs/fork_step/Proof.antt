@@ -1,0 +1,99 @@
+-- `fork_step` meets its contract.
+use denote.Ref.{now}
+use mathlib.Core.Path.{_≡_, refl, sym, ap, _∙_}
+use Prim.Native.Nat.{ℕ, suc, _+_, _≤_, _<_}
+use native.Mathlib.Omega.{arith}
+use borrow.Author.Needs.{needs}
+use Rattle.scheduler.specs.Rows.{Row}
+use Rattle.blocks.specs.Blocks.{rowsOf}
+use Rattle.steps.specs.declared.running.Running.{Running}
+use Rattle.forks.proofs.Counted.{may-fork}
+use Rattle.forks.proofs.Forked.{too-many, too-deep, may-put, may-pop-child, forks}
+use Rattle.forks.proofs.fork_step.Statement.{statement}
+use Rattle.forks.proofs.fork_step.Tie as tie
+
+cast-count : tie.Need-cast-count
+cast-count c = let few = c .before .before .pre .most in search needs
+
+add-live : tie.Need-add-live
+add-live c = let few = c .before .before .before .pre .most in let room = c .before .before .before .pre .room in record { fits = omega arith }
+
+returns : tie.Need-returns
+returns c = λ moment.
+    let a = c .before .before .before .before .args in
+    too-many (now (a .t)) (now (a .m)) (a .running) (a .cells) (a .n) moment (c .if1 .taken)
+
+level-requires : tie.Need-level-requires
+level-requires c κs = search needs
+
+same-length : tie.Need-same-length
+same-length c = search needs
+
+returns-2 : tie.Need-returns-2
+returns-2 c = λ moment.
+    let a = c .before .before .before .before .before .before .before .args in
+    let over = c .before .before .before .if1 .left in
+    let room : a .running .live + a .n ≤ 64 = omega (arith, over) in
+    let is = c .before .level .ensures in
+    let deep : 9 < (rowsOf (now (a .m)) (a .running .me)) .level = omega (arith, c .if2 .taken) in
+    too-deep (now (a .t)) (now (a .m)) (a .running) (a .cells) (a .n) moment room deep
+
+set-children-requires : tie.Need-set-children-requires
+set-children-requires c κs = search needs
+
+fork-children-requires : tie.Need-fork-children-requires
+fork-children-requires c κs =
+    let a = c .before .before .before .before .before .before .before .before .before .before .before .before .args in
+    let over = c .before .before .before .before .before .before .before .before .if1 .left in
+    let room : a .running .live + a .n ≤ 64 = omega (arith, over) in
+    let is = c .before .before .before .before .before .before .level .ensures in
+    let level : (rowsOf (now (a .m)) (a .running .me)) .level ≤ 9 = omega (arith, c .before .before .before .before .before .if2 .left) in
+    may-fork (a .n) (c .before .before .before .set-children .ensures) (a .running) refl (c .before .before .before .before .before .before .before .before .before .before .before .before .pre) level room
+
+put-first-requires : tie.Need-put-first-requires
+put-first-requires c κs =
+    let a = c .before .before .before .before .before .before .before .before .before .before .before .before .before .before .before .before .args in
+    let over = c .before .before .before .before .before .before .before .before .before .before .before .before .if1 .left in
+    let room : a .running .live + a .n ≤ 64 = omega (arith, over) in
+    may-put (c .before .before .before .before .before .before .before .set-children .ensures) (c .before .before .before .fork-children .ensures) (c .before .before .before .before .before .before .before .before .before .before .before .before .before .before .before .before .pre) room
+
+next-ready-requires : tie.Need-next-ready-requires
+next-ready-requires c κs =
+    let a = c .before .before .before .before .before .before .before .before .before .before .before .before .before .before .before .before .before .before .args in
+    let u = a .running in
+    let over = c .before .before .before .before .before .before .before .before .before .before .before .before .before .before .if1 .left in
+    let room : u .live + a .n ≤ 64 = omega (arith, over) in
+    may-pop-child (c .before .before .before .before .before .before .before .before .before .set-children .ensures) (c .before .before .before .before .before .fork-children .ensures) (c .before .before .before .before .before .before .before .before .before .before .before .before .before .before .before .before .before .before .pre)
+    (record { ready = c .before .put-first .result; live = u .live + a .n; woken = u .woken; me = u .me }) (c .before .put-first .ensures .1) refl (c .before .put-first .ensures .0) room
+
+same-length-2 : tie.Need-same-length-2
+same-length-2 c = search needs
+
+returns-3 : tie.Need-returns-3
+returns-3 c = λ moment.
+    let a = c .before .before .before .before .before .before .before .before .before .before .before .before .before .before .before .before .before .before .before .before .before .args in
+    let u = a .running in
+    let over = c .before .before .before .before .before .before .before .before .before .before .before .before .before .before .before .before .before .if1 .left in
+    let room : u .live + a .n ≤ 64 = omega (arith, over) in
+    let is = c .before .before .before .before .before .before .before .before .before .before .before .before .before .before .before .level .ensures in
+    let level : (rowsOf (now (a .m)) (u .me)) .level ≤ 9 = omega (arith, c .before .before .before .before .before .before .before .before .before .before .before .before .before .before .if2 .left) in
+    forks (c .before .before .before .before .before .before .before .before .before .before .before .before .set-children .ensures) (c .before .before .before .before .before .before .before .before .fork-children .ensures) (c .before .before .before .before .before .before .before .before .before .before .before .before .before .before .before .before .before .before .before .before .before .pre)
+    (record { ready = c .before .before .before .before .put-first .result; live = u .live + a .n; woken = u .woken; me = u .me }) (c .before .before .before .before .put-first .ensures .1) refl moment refl room level
+    (c .before .before .next-ready .ensures)
+
+pub fork-step-spec : {M : Type 1} → statement M
+fork-step-spec =
+    tie.close
+    (tie.spec
+    cast-count
+    add-live
+    returns
+    level-requires
+    same-length
+    returns-2
+    set-children-requires
+    fork-children-requires
+    put-first-requires
+    next-ready-requires
+    same-length-2
+    returns-3)

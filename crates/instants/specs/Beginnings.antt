@@ -1,0 +1,30 @@
+-- What the beginning of an instant does to rows and environment.
+use mathlib.Core.Path.{_≡_}
+use mathlib.Core.List.{List}
+use Prim.Native.Nat.{ℕ, _<_}
+use lib.ListN.{length, getD}
+use Rattle.walk.specs.Instant.{dueWrites, Write, applyInputs}
+use Rattle.scheduler.specs.Beginning.{dueInRows}
+use Rattle.blocks.specs.Blocks.{rowsOf, environmentOf}
+use Rattle.blocks.specs.Changes.{SameOutside, SameTriggers}
+use Rattle.tidy.specs.Tidy.{Tidy}
+
+-- Due writes made everywhere.
+pub record DueMade (n t : ℕ) (before after : List ℕ) : Type 0 where
+  pub rows : rowsOf after ≡ dueInRows t (rowsOf before)
+  pub environment : environmentOf n after ≡ dueWrites t (environmentOf n before)
+  pub outside : SameOutside before after
+  pub triggers : SameTriggers before after
+  pub tidy : Tidy n before → Tidy n after
+
+-- Inputs written.
+pub record InputsWritten (n : ℕ) (inputs : List Write) (before after : List ℕ) : Type 0 where
+  pub rows : rowsOf after ≡ rowsOf before
+  pub environment : environmentOf n after ≡ applyInputs inputs (environmentOf n before)
+  pub outside : SameOutside before after
+  pub triggers : SameTriggers before after
+  pub tidy : Tidy n before → Tidy n after
+
+-- 11 "Are the input numbers below i ..?"
+pub record NumbersBelow (i : ℕ) (numbers : List ℕ) : Type 0 where
+  pub below : (k : ℕ) → k < length numbers → getD numbers k 0 < i

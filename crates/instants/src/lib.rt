@@ -1,0 +1,9 @@
+// What an instant does to all blocks before its run, due writes and inputs, and the outputs listed after it.
+// Uses `blocks`; its contracts speak of rows and environment. `m` is the machine's memory.
+pub mod due;
+pub mod inputs;
+pub mod outputs;
+
+pub use due::make_due_all;
+pub use inputs::write_inputs;
+pub use outputs::list_outputs;

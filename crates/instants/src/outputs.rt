@@ -1,0 +1,42 @@
+// "Outputs written in the instant are put in the two lent lists (number, final value), rising by number; places after them stay."
+ghost use mathlib.Core.Path.{_≡_};
+ghost use Prim.Native.Nat.{_+_, _≤_, _<_};
+ghost use lib.ListN.{length, drop};
+ghost use Rattle.walk.specs.Instant.{writtenFrom};
+ghost use Rattle.blocks.specs.Blocks.{environmentOf};
+ghost use Rattle.instants.specs.Outputs.{ListedOne, Listed};
+
+// Environment variable i, if it was written, at place `count` of the lists; how many are listed then.
+fn list_output(m: &[u32], i: usize, numbers: &mut [u32], values: &mut [u32], count: usize) -> usize
+    requires { ⌜ (12288 ≤ length (now m)) × (i < 16) × (count < 16) × (16 ≤ length (now numbers)) × (16 ≤ length (now values)) ⌝ }
+    ensures { λ r. ⌜ ListedOne (now (m .entry)) i count (now (numbers .entry)) (now (values .entry)) (now (numbers .exit)) (now (values .exit)) r ⌝ }
+{
+    if blocks::written(m, 64, i) {
+        numbers[count] = i as u32;
+        values[count] = blocks::value(m, 64, i);
+        return count + 1;
+    }
+    count
+}
+
+// The outputs: the environment's variables after the inputs. Gives the number of those listed.
+pub fn list_outputs(
+    m: &[u32],
+    inputs: usize,
+    outputs: usize,
+    numbers: &mut [u32],
+    values: &mut [u32],
+) -> usize
+    requires { ⌜ (12288 ≤ length (now m)) × (inputs + outputs ≤ 16) × (16 ≤ length (now numbers)) × (16 ≤ length (now values)) ⌝ }
+    ensures { λ r. ⌜ Listed (writtenFrom inputs (drop inputs (environmentOf (inputs + outputs) (now (m .entry)))))
+        (now (numbers .entry)) (now (values .entry)) (now (numbers .exit)) (now (values .exit)) r ⌝ }
+{
+    let end = inputs + outputs;
+    let mut i = inputs;
+    let mut count: usize = 0;
+    while i < end {
+        count = list_output(m, i, numbers, values, count);
+        i += 1;
+    }
+    count
+}

@@ -1,0 +1,138 @@
+-- A state that is reached, with every routine at an instruction and tidy words, meets all that one step asks, and is read as a step is read.
+-- Letters: t the table's words, w the machine's, n the number of environment variables, u the running state; the others as in scheduler's Reachable.
+use mathlib.Core.Path.{_≡_, refl, sym, ap, subst, _∙_}
+use mathlib.Core.Bool.{Bool, true, false}
+use mathlib.Core.List.{List, [], _∷_}
+use Prim.Native.Nat.{ℕ, zero, suc, _+_, _*_, _^_, _≤_, _<_, min}
+use native.Mathlib.Omega.{arith}
+use lib.Dec.{ltb}
+use lib.ListN.{length}
+use Rattle.listing.specs.Listing.{Listing}
+use Rattle.walk.specs.State.{Variable}
+use Rattle.table.specs.Decode.{word, namesOf, sizeOf, tableListing}
+use Rattle.table.specs.Question6.{isTable}
+use Rattle.table.proofs.Bounds.{bounds}
+use Rattle.scheduler.specs.Rows.{Owner, Row, Rows}
+use Rattle.scheduler.specs.Engine.{chooseBits, fewestBits}
+use Rattle.scheduler.proofs.Place.{nil, Frame, memoryOf}
+use Rattle.scheduler.proofs.Held.{pathOf, rowFor, path-length}
+use Rattle.scheduler.proofs.Standing.{head-of}
+use Rattle.scheduler.proofs.Steady.{TableFits, steady-record}
+use Rattle.scheduler.proofs.Reachable.{Reached}
+use Rattle.scheduler.proofs.Bounds.{Bounds, reached-bounds}
+use Rattle.scheduler.proofs.RowBounds.{ready-rises}
+use Rattle.blocks.specs.Blocks.{block, nonzero, ownerAt, variablesIn, rowAt, rowsOf, environmentOf}
+use Rattle.blocks.specs.Store.{storeOf}
+use Rattle.blocks.specs.Tabulate.{tabulateFrom}
+use Rattle.blocks.proofs.RowChanges.{row-of}
+use Rattle.tidy.specs.Tidy.{Tidy}
+use Rattle.ready.specs.Slots.{slotsOf}
+use Rattle.ready.specs.Ordered.{Ordered}
+use Rattle.ready.proofs.Falling.{length-slots}
+use Rattle.ready.proofs.Distinct.{ordered-few}
+use Rattle.triggers.specs.Chains.{triggersAt}
+use Rattle.evaluate.specs.Bound.{Bound, bindingsOf}
+use Rattle.evaluate.proofs.Bound.{running-bound}
+use Rattle.evaluate.proofs.Standing.{table-names}
+use Rattle.children.specs.NewRow.{MayDivide}
+use Rattle.steps.specs.declared.running.Running.{Running}
+use Rattle.steps.specs.Asked.{MayPop}
+use Rattle.steps.specs.Outcome.{Reading}
+use Rattle.run.specs.Asked.{MayStep}
+use Rattle.run.specs.Placed.{GoesOn, Placed}
+use Rattle.run.proofs.Reaching.{ordered-of-rise, slots-of-order}
+use Rattle.run.proofs.ReadyLive.{live-few, ready-live}
+use Rattle.run.proofs.Parents.{parent-apart, parent-children}
+
+few-bits : (n : ℕ) → fewestBits n ≤ 3
+unfolding fewestBits chooseBits
+few-bits n = go (ltb 1 n) (ltb 2 n) (ltb 4 n)
+  where
+    go : (a b c : Bool) → chooseBits a b c ≤ 3
+    go false b c = omega arith
+    go true false c = omega arith
+    go true true false = omega arith
+    go true true true = omega arith
+
+zero-of : (k : ℕ) → nonzero k ≡ false → k ≡ 0
+unfolding nonzero
+zero-of zero e = refl
+zero-of (suc k) e = let z : _≡_ {A = ℕ} 0 1 = cc in absurd (omega arith)
+
+-- A free slot of tidy words has no variables.
+free-owns-none : {n : ℕ} {w : List ℕ} → Tidy n w → (s : ℕ) → s < 64 → (rowsOf w s) .used ≡ false → (rowsOf w s) .own ≡ []
+unfolding rowAt variablesIn tabulateFrom
+free-owns-none {n} {w} tidy s h free =
+    let e = row-of w s h in
+    let first : block w s 0 ≡ 0 = zero-of (block w s 0) (sym (ap (λ (r : Row). r .used) e) ∙ free) in
+    let none : block w s 4 ≡ 0 = tidy .slots s h .free first 4 (omega arith) in
+    ap (λ (r : Row). r .own) e ∙ rw none
+
+module _ (t w : List ℕ) (n moment : ℕ) (triggers : Owner → List ℕ) (T : TableFits (tableListing t)) (left : ℕ) (u : Running) (table : isTable t ≡ true)
+    (R : Reached (tableListing t) moment triggers T left (rowsOf w) (environmentOf n w) (slotsOf (u .ready)) (u .live) (u .woken) (u .me)) where
+  bound-by : Bounds (tableListing t) (rowsOf w) (environmentOf n w) (u .live) (u .me)
+  bound-by = reached-bounds (tableListing t) moment triggers T left (rowsOf w) (environmentOf n w) (slotsOf (u .ready)) (u .live) (u .woken) (u .me) R
+
+  in-order : Ordered (rowsOf w) (slotsOf (u .ready))
+  in-order = ordered-of-rise (ready-rises (tableListing t) moment triggers T left (rowsOf w) (environmentOf n w) (slotsOf (u .ready)) (u .live) (u .woken) (u .me) R)
+
+  names-bound : Bound (storeOf n w) (bindingsOf w (u .me))
+  unfolding storeOf
+  names-bound = subst (λ z. Bound (record { rows = rowsOf w; environment = environmentOf n w }) (bindingsOf w z)) (sym (R .here))
+      (running-bound (R .runs .held) (tableListing t) nil (R .sound .steady))
+
+  -- enough priorities for children of children
+  bits-left : 32 ≤ (rowsOf w (u .me)) .bits + 3 * (rowsOf w (u .me)) .level
+  unfolding rowFor
+  bits-left = subst (λ z. 32 ≤ (rowsOf w z) .bits + 3 * (rowsOf w z) .level) (sym (R .here))
+      (rw (head-of (R .runs .held) .row) (rw (path-length (environmentOf n w) (R .frames)) (steady-record (tableListing t) (environmentOf n w) (R .frame) (R .frames) nil (R .sound .steady) .deep)))
+
+  small : (r : Row) → GoesOn t r → suc (r .place) < 4294967296
+  small r g = let b = bounds t table .code (r .routine) (g .routine) in let h = g .next in omega arith
+
+  pub may-step : 12288 ≤ length w → u .woken < 4294967295 → Placed t (rowsOf w) → Tidy n w → MayStep t w u
+  may-step size woken placed tidy =
+      record {
+        table = table;
+        pops = record {
+          size = size;
+          few = let e = length-slots (u .ready) in let f = ordered-few (rowsOf w) (slotsOf (u .ready)) in-order in omega arith;
+          slots = slots-of-order in-order;
+          woken = woken;
+          sleepers = λ s h. small (rowsOf w s) (placed .sleeper s h);
+        };
+        slot = bound-by .slot;
+        live = bound-by .sits;
+        ready = in-order;
+        routine = placed .routine (u .me) (bound-by .sits);
+        place = placed .place (u .me) (bound-by .sits);
+        names = bound-by .names ∙ table-names t ((rowsOf w (u .me)) .routine) (placed .routine (u .me) (bound-by .sits));
+        parent = λ k e. (
+          bound-by .parent k e .0,
+          small _ (placed .parent _
+              (parent-children (tableListing t) moment triggers T left (rowsOf w) (environmentOf n w) (slotsOf (u .ready)) (u .live) (u .woken) (u .me) R k e)),
+        );
+        divides = λ k few level.
+            let b = few-bits k in let c = bits-left in let d = bound-by .base in
+            record { level = level; base = omega arith; most = few; bits = omega arith; range = bound-by .priorities };
+        counted = R .sound .used;
+        room = bound-by .room;
+        waiting =
+            let e = length-slots (u .ready) in
+            let f = live-few in-order (ready-live (tableListing t) moment triggers T left (rowsOf w) (environmentOf n w) (slotsOf (u .ready)) (u .live) (u .woken) (u .me) R) in
+            let g = R .sound .used in omega arith;
+        empty = λ s h free. free-owns-none tidy s h free;
+        variables = n;
+        bound = names-bound;
+      }
+
+  pub reading : ((s index : ℕ) → s ≤ 64 → index < 16 → triggersAt w s index ≡ triggers (ownerAt s index)) → Reading w (u .me) n triggers
+  reading lists =
+      record {
+        bound = names-bound;
+        lists = lists;
+        parent = λ k e. (
+          bound-by .parent k e .1,
+          parent-apart (tableListing t) moment triggers T left (rowsOf w) (environmentOf n w) (slotsOf (u .ready)) (u .live) (u .woken) (u .me) R k e,
+        );
+      }

@@ -1,0 +1,70 @@
+// The run of the routines of an instant, instruction by instruction. `t` is the table, `m` the machine's memory.
+ghost use mathlib.Core.Path.{_≡_};
+ghost use Rattle.walk.specs.Walk.{instructionAt};
+ghost use Rattle.table.specs.Decode.{tableListing};
+ghost use Rattle.table.specs.Entry.{Fetched};
+ghost use Rattle.blocks.specs.Blocks.{rowsOf};
+ghost use Rattle.steps.specs.Outcome.{Executes};
+ghost use Rattle.run.specs.Asked.{MayStep};
+use steps::Running;
+use steps::Stepped;
+use table_read::Entry;
+use words::Moment;
+
+// The instruction whose entry was read, executed. The cases are those of its number in the table.
+fn execute(t: &[u32], m: &mut [u32], present: Moment, running: Running, entry: Entry) -> Stepped
+    requires { ⌜ (MayStep (now t) (now m) running)
+        × (Fetched (now t) ((rowsOf (now m) (running .me)) .routine) ((rowsOf (now m) (running .me)) .place) (entry .kind) (entry .operand) (entry .cells) (entry .first) (entry .second)) ⌝ }
+    ensures { λ r. ⌜ Executes (tableListing (now (t .entry))) (present .0)
+        (instructionAt (tableListing (now (t .entry))) ((rowsOf (now (m .entry)) (running .me)) .routine) ((rowsOf (now (m .entry)) (running .me)) .place))
+        (now (m .entry)) (now (m .exit)) running r ⌝ }
+{
+    let kind = entry.kind;
+    let operand = entry.operand;
+    let cells = entry.cells;
+    let first = entry.first;
+    let second = entry.second;
+    match kind {
+        1 => {
+            return steps::assign_step(t, m, running, operand, cells, first);
+        }
+        2 => {
+            return steps::schedule_step(t, m, present, running, operand, cells, first, second);
+        }
+        3 => {
+            return steps::branch_step(t, m, running, cells, first, operand as u32);
+        }
+        4 => {
+            return steps::jump_step(m, running, operand as u32);
+        }
+        5 => {
+            return steps::wait_step(m, running);
+        }
+        6 => {
+            return forks::fork_step(t, m, running, cells, first);
+        }
+        _ => {
+            return steps::end_step(m, running);
+        }
+    }
+}
+
+// One instruction of the running routine.
+pub fn step(t: &[u32], m: &mut [u32], present: Moment, running: Running) -> Stepped
+    requires { ⌜ MayStep (now t) (now m) running ⌝ }
+    ensures { λ r. ⌜ Executes (tableListing (now (t .entry))) (present .0)
+        (instructionAt (tableListing (now (t .entry))) ((rowsOf (now (m .entry)) (running .me)) .routine) ((rowsOf (now (m .entry)) (running .me)) .place))
+        (now (m .entry)) (now (m .exit)) running r ⌝ }
+{
+    let me = running.me;
+    let routine = number(blocks::routine(m, me));
+    let place = number(blocks::place(m, me));
+    let entry = table_read::fetch(t, routine, place);
+    execute(t, m, present, running, entry)
+}
+
+fn number(x: u32) -> usize
+    ensures { λ r. ⌜ r ≡ x ⌝ }
+{
+    x as usize
+}

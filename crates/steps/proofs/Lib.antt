@@ -1,0 +1,5 @@
+pub mod Stores
+pub mod Going
+pub mod Writing
+pub mod Changing
+pub mod Joining

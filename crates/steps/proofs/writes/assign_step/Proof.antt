@@ -1,0 +1,82 @@
+-- `assign_step` meets its contract.
+use denote.Ref.{now}
+use mathlib.Core.Path.{_≡_, refl, ap}
+use Prim.Native.Nat.{ℕ, suc, _+_}
+use native.Mathlib.Numerals.{add-one}
+use native.Mathlib.Omega.{arith}
+use borrow.Author.Needs.{needs}
+use Rattle.walk.specs.State.{Variable}
+use Rattle.table.specs.Decode.{piecesAt}
+use Rattle.scheduler.specs.Rows.{Row}
+use Rattle.scheduler.specs.Engine.{assigned}
+use Rattle.blocks.specs.Blocks.{rowsOf}
+use Rattle.evaluate.proofs.Names.{names-few}
+use Rattle.steps.specs.declared.running.Running.{Running}
+use Rattle.steps.proofs.Stores.{placed-as}
+use Rattle.steps.proofs.Writing.{changes-name, assigned-all}
+use Rattle.steps.proofs.Changing.{assigns}
+use Rattle.steps.proofs.writes.assign_step.Statement.{statement}
+use Rattle.steps.proofs.writes.assign_step.Tie as tie
+
+evaluate-requires : tie.Need-evaluate-requires
+evaluate-requires c κs = search needs
+
+owner-requires : tie.Need-owner-requires
+owner-requires c κs =
+    let few = names-few (now (c .before .before .before .before .before .args .m)) (c .before .before .before .before .before .args .running .me) (c .before .before .before .before .before .pre .0 .runs .slot) in
+    let there = c .before .before .before .before .before .pre .0 .there in
+    (c .before .before .before .before .before .pre .0 .runs .size, c .before .before .before .before .before .pre .0 .runs .slot, omega arith)
+
+low-requires : tie.Need-low-requires
+low-requires c κs = search needs
+
+wake-requires : tie.Need-wake-requires
+wake-requires c κs = search needs
+
+place-requires : tie.Need-place-requires
+place-requires c κs = search needs
+
+add-next : tie.Need-add-next
+add-next c = let e = c .place .ensures in let n = c .before .before .before .before .before .before .before .before .before .before .before .before .before .pre .0 .runs .next in record { fits = omega arith }
+
+assign-requires : tie.Need-assign-requires
+assign-requires c κs = search needs
+
+set-place-requires : tie.Need-set-place-requires
+set-place-requires c κs = search needs
+
+same-length : tie.Need-same-length
+same-length c = search needs
+
+returns : tie.Need-returns
+returns c = λ listing moment.
+    let a = c .before .before .before .before .before .before .before .before .before .before .before .before .before .before .before .before .before .before .before .before .before .args in
+    let u = a .running in
+    let value = c .before .before .before .before .before .before .before .before .before .before .before .before .before .before .before .before .before .evaluate .result in
+    let binding = c .before .before .before .before .before .before .before .before .before .before .before .before .before .before .before .owner .result in
+    let bound = c .before .before .before .before .before .before .before .before .before .before .before .before .before .before .before .owner .ensures in
+    let few = c .before .before .before .before .before .before .before .before .before .before .before .before .before .before .before .before .before .before .before .before .before .pre .0 .there in
+    let here = (rowsOf (now (a .m)) (u .me)) .place in
+    let next : c .before .before .before .before .before .before .before .before .place .result + 1 ≡ suc here = rw add-one (ap suc (c .before .before .before .before .before .before .before .before .place .ensures)) in
+    let p = c .before .before .before .before .before .before .assign .ensures in
+    let q = placed-as (c .before .before .before .before .before .before .before .before .place .result + 1) (suc here) next (c .before .before .set-place .ensures) in
+    let changed = changes-name u (a .name) binding bound few (c .before .before .before .before .before .before .before .before .before .before .before .before .before .before .before .before .before .before .before .before .before .pre .0 .runs .slot) (λ (y : Variable). assigned y value) p q
+    (λ n there. assigned-all (binding .index) (bound .block) there value p) in
+    let ready = rw (c .before .before .before .before .before .before .before .before .before .before .before .before .before .low .ensures) at (c .before .before .before .before .before .before .before .before .before .before .wake .ensures .0) in
+    assigns u (record { ready = c .before .before .before .before .before .before .before .before .before .before .wake .result; live = u .live; woken = u .woken; me = u .me }) (a .name) value
+    (piecesAt (now (a .t)) (a .cells) (a .pieces)) binding changed bound few (c .before .before .before .before .before .before .before .before .before .before .before .before .before .before .before .before .before .evaluate .ensures) ready refl refl refl listing moment
+
+pub assign-step-spec : {M : Type 1} → statement M
+assign-step-spec =
+    tie.close
+    (tie.spec
+    evaluate-requires
+    owner-requires
+    low-requires
+    wake-requires
+    place-requires
+    add-next
+    assign-requires
+    set-place-requires
+    same-length
+    returns)

@@ -1,0 +1,107 @@
+// The instructions that change a variable: `S` and `A`.
+ghost use Prim.Native.Nat.{ℕ, _+_, _*_, _<_};
+ghost use Rattle.listing.specs.Listing.{Listing, assign, schedule};
+ghost use Rattle.scheduler.specs.Engine.{scheduled};
+ghost use Rattle.table.specs.Decode.{piecesAt};
+ghost use Rattle.evaluate.specs.Evaluable.{Evaluable};
+ghost use Rattle.steps.specs.Asked.{MayChange};
+ghost use Rattle.steps.specs.Outcome.{Executes, ChangesName};
+use crate::running::Answer;
+use crate::running::Running;
+use crate::running::Stepped;
+use words::Delay;
+use words::Later;
+use words::Moment;
+
+// "`S|n|e` writes expression e to name n." The sleepers that it wakes are put into the ready list.
+pub fn assign_step(
+    t: &[u32],
+    m: &mut [u32],
+    running: Running,
+    name: usize,
+    cells: usize,
+    pieces: usize,
+) -> Stepped
+    requires { ⌜ (MayChange (now m) running name) × (Evaluable (now t) (now m) (running .me) cells pieces) ⌝ }
+    ensures { λ r. ⌜ ((listing : Listing) (moment : ℕ) → Executes listing moment (assign name (piecesAt (now (t .entry)) cells pieces))
+        (now (m .entry)) (now (m .exit)) running r) ⌝ }
+{
+    let me = running.me;
+    let live = running.live;
+    let woken = running.woken;
+    let value = evaluate::evaluate(t, m, me, cells, pieces);
+    let binding = blocks::owner(m, me, name);
+    let block = binding.block;
+    let index = binding.index;
+    let low = blocks::low(m, me);
+    let q = running.ready;
+    let ready = triggers::wake(m, q, block, index, low);
+    let next = blocks::place(m, me) + 1;
+    blocks::assign(m, block, index, value);
+    blocks::set_place(m, me, next);
+    Stepped {
+        answer: Answer::Goes,
+        running: Running {
+            ready,
+            live,
+            woken,
+            me,
+        },
+    }
+}
+
+// The waiting write put on the name's variable, and the next instruction.
+fn schedule_at(m: &mut [u32], running: Running, name: usize, moment: u64, value: u32) -> Stepped
+    requires { ⌜ (MayChange (now m) running name) × (0 < moment) ⌝ }
+    ensures { λ r. ⌜ ChangesName (now (m .entry)) (now (m .exit)) running name (λ x. scheduled x moment value) r ⌝ }
+{
+    let me = running.me;
+    let binding = blocks::owner(m, me, name);
+    let block = binding.block;
+    let index = binding.index;
+    let next = blocks::place(m, me) + 1;
+    blocks::schedule(m, block, index, moment, value);
+    blocks::set_place(m, me, next);
+    Stepped {
+        answer: Answer::Goes,
+        running,
+    }
+}
+
+// "`A|n|d|e` puts a waiting write of e on n, d milliseconds from now". Questions 16 and 17.
+pub fn schedule_step(
+    t: &[u32],
+    m: &mut [u32],
+    present: Moment,
+    running: Running,
+    name: usize,
+    cells: usize,
+    first: usize,
+    second: usize,
+) -> Stepped
+    requires { ⌜ (MayChange (now m) running name) × (Evaluable (now t) (now m) (running .me) cells first)
+        × (Evaluable (now t) (now m) (running .me) (cells + 2 * first) second) ⌝ }
+    ensures { λ r. ⌜ ((listing : Listing) → Executes listing (present .0)
+        (schedule name (piecesAt (now (t .entry)) cells first) (piecesAt (now (t .entry)) (cells + 2 * first) second))
+        (now (m .entry)) (now (m .exit)) running r) ⌝ }
+{
+    let me = running.me;
+    let delay = evaluate::evaluate(t, m, me, cells, first);
+    let value = evaluate::evaluate(t, m, me, cells + 2 * first, second);
+    if !words::is_positive(delay) {
+        return Stepped {
+            answer: Answer::Halts(16),
+            running,
+        };
+    }
+    match words::later_moment(present, Delay(delay)) {
+        Later::At(moment) => {
+            let due = moment.0;
+            schedule_at(m, running, name, due, value)
+        }
+        Later::TooLate => Stepped {
+            answer: Answer::Halts(17),
+            running,
+        },
+    }
+}

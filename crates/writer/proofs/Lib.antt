@@ -1,0 +1,2 @@
+pub mod CellLoop
+pub mod Entry

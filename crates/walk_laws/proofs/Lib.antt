@@ -12,3 +12,5 @@ pub mod Due
 pub mod Kept
 pub mod Stays
 pub mod Answers
+pub mod Causes
+pub mod DueInstants

@@ -1,1 +1,1 @@
-// The demands on whole lists of calls, from the calls' promises: demand 2 over any session, demand 3 on boards. Uses `walk`, `walk_laws` and `halves`; has no code.
+// The demands on whole lists of calls, from what the calls promise: demand 2 over any session. Uses `walk` and `walk_laws`; has no code.

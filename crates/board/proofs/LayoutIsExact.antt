@@ -20,7 +20,7 @@ use Rattle.table.proofs.WalkBounds.{owned-few, code-few, children-few, ports-fe
 use Rattle.machine.specs.Records.{recordsOf}
 use Rattle.machine.specs.Layout.{wordsOf}
 use Rattle.machine.specs.Limits.{WithinLimits}
-use Rattle.machine.proofs.MachineWords.{read-is-a-state, every-state-has-words, halted-words-are-read, read-halted-is-the-stopped-form}
+use Rattle.machine.proofs.MachineWords.{read-is-a-state, running-first-word-is-0, every-state-has-words, halted-words-are-read, read-halted-is-the-stopped-form}
 use Rattle.promises.specs.Exact.{LoadedFrom, TableWords, MachineWords, ExactTable, ExactMachine, Exact}
 use Rattle.board.specs.Board.{layout}
 
@@ -54,6 +54,7 @@ machine-is-exact listing from =
       halted-every = halted-words-are-read listing;
       halted-only = read-halted-is-the-stopped-form listing;
       state-only = read-is-a-state listing;
+      running-first = running-first-word-is-0 listing;
       state-every = λ s h.
           let w = every-state-has-words listing (loaded-within-limits listing from) s h in
           record { words = wordsOf (s .now) (s .environment) (recordsOf (h .tree) 0); long = w .long; reads = w .read };

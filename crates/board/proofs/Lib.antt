@@ -1,2 +1,3 @@
 pub mod LayoutIsExact
+pub mod Causes
 pub mod Demands

@@ -30,7 +30,7 @@ unfolding State.fresh State._⊕_ State._>>=_ State.liveInNode Memory.variableAt
     Walk.newRoutines Walk.childCount Walk.withMemory Walk.enter Walk.sleep Walk.leave Walk.inTurn Walk.begin Walk.join Walk.forkWith
     Walk.scheduleWith Walk.branchWith Walk.execute Walk.step Walk.run Walk.passedWait Walk.wake Walk.resume Walk.visit Instant.madeIfDue
     Instant.dueWrite Instant.dueWrites Instant.applyInputs Instant.unmarked Instant.earlierOf Instant.earlier Instant.dueOf
-    Instant.dueOfVariables Instant.nextDue Instant.listedIf Instant.writtenFrom Instant.reported Instant.finish Instant.environmentSize
+    Instant.dueOfVariables Instant.nextDue Instant.listedIf Instant.writtenFrom Instant.writtenOutputs Instant.finish Instant.environmentSize
     Instant.mainCall Instant.environmentNames Instant.start Instant.instant Instant.dueInNode Instant.unmarkedNode Instant.dueOfNode
     Calls.outcomeNumber Calls.outcomeListed Calls.ask Calls.unstopped Calls.dueBefore Calls.inputsRise Calls.allowed Calls.answered
     Calls.startOn Calls.instantFrom Runs.callOn Runs.machineAfter Runs.answersFrom Events.eventsAt Runs.acceptedBy Runs.accepted

@@ -11,7 +11,7 @@ use lib.Seq.{take-all, take-at}
 use Rattle.listing.specs.Listing.{Listing, Call, fork, end}
 use Rattle.walk.specs.State.{Variable, Node, node, Forest, empty, more, _⊕_, liveInForest, State, Running, Turn, Result, ok, _>>=_}
 use Rattle.walk.specs.Walk.{instructionAt, withMemory, enter, inTurn, resume, visit, visitForest}
-use Rattle.walk.specs.Instant.{dueWrites, dueInForest, Write, applyInputs, unmarked, unmarkedForest, dueOfVariables, dueOfNode, dueOfForest, nextDue, writtenFrom, reported, Done, finish, environmentSize, instant}
+use Rattle.walk.specs.Instant.{dueWrites, dueInForest, Write, applyInputs, unmarked, unmarkedForest, dueOfVariables, dueOfNode, dueOfForest, nextDue, writtenFrom, writtenOutputs, Done, finish, environmentSize, instant}
 use Rattle.walk.specs.Calls.{inputsRise}
 use Rattle.walk.specs.Events.{eventsAt}
 use Rattle.halves.specs.Halves.{onlyOf}
@@ -29,7 +29,7 @@ use Rattle.halves.proofs.Standing.{MainRests, main-rests, Place, main-e
 -- ── what an instant leaves ────────────────────────────────────────────────────────────────────────
 pub record Leaves (listing : Listing) (t : ℕ) (x : Turn) (d : Done) : Type 0 where
   pub state : d .state ≡ record { now = t; environment = unmarked ((x .running) .memory); tree = unmarkedForest (x .tree) }
-  pub listed : d .listed ≡ reported listing ((x .running) .memory)
+  pub listed : d .listed ≡ writtenOutputs listing ((x .running) .memory)
 
 pub finished : (listing : Listing) (t allowance : ℕ) (x : Turn) (d : Done) → finish listing t allowance x ≡ ok d → Leaves listing t x d
 unfolding finish
@@ -132,7 +132,7 @@ module _ (g : Grower) (listing : Listing) where
 
       ended-turned : p .tree ≡ empty → p .variables ≡ lent (args g) (s .environment) → Leaves listing t nobody d →
           Turned g t (ownWrites (args g) ws) p (partAfter g nobody) (onlyOf (g .field) (eventsAt t (d .listed)))
-      unfolding nobody seen nextOf dueOfForest visitForest dueInForest reported reportsAfter
+      unfolding nobody seen nextOf dueOfForest visitForest dueInForest writtenOutputs reportsAfter
       ended-turned no-tree variables left = record {
         listing = listing;
         has = setting .has;

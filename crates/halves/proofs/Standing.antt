@@ -11,7 +11,7 @@ use lib.Seq.{length-take-le}
 use Rattle.listing.specs.Listing.{Listing, end}
 use Rattle.walk.specs.State.{Variable, Node, node, Forest, empty, more, _⊕_, State, Running, Turn, Result, ok}
 use Rattle.walk.specs.Walk.{instructionAt, withMemory, sleep, leave, join, execute, step, run}
-use Rattle.walk.specs.Instant.{unmarked, unmarkedForest, dueOfVariables, writtenFrom, reported}
+use Rattle.walk.specs.Instant.{unmarked, unmarkedForest, dueOfVariables, writtenFrom, writtenOutputs}
 use Rattle.walk.specs.Events.{eventsAt}
 use Rattle.halves.specs.Halves.{onlyOf}
 use Rattle.walk_laws.proofs.AtRest.{length-unmarked}
@@ -154,8 +154,8 @@ module _ (g : Grower) (listing : Listing) where
     }
 
     pub reports-after : (x : Turn) → listing .inputs ≡ (g .model) .inputs → MainRests names (size g) y x →
-        onlyOf (g .field) (eventsAt t (reported listing ((x .running) .memory))) ≡ reportsAfter g t (all .b)
-    unfolding reported reportsAfter
+        onlyOf (g .field) (eventsAt t (writtenOutputs listing ((x .running) .memory))) ≡ reportsAfter g t (all .b)
+    unfolding writtenOutputs reportsAfter
     reports-after x inputs r =
         let shown = ap (lent (args g)) (r .memory) ∙ sym (take-lent (args g) (size g) last) ∙ ap (take (size g)) (all .end-shown) in
         only-events (g .field) t _ ∙ ap (eventsAt t) (rw inputs (reports-lent (args g) ((g .model) .inputs) ((x .running) .memory) ∙

@@ -110,6 +110,13 @@ cases =
     ∷ "P\t0\t0\nR\t-\t1\nS\t0\t#1 #2\nE\n" gives 2 at 3
     ∷ "P\t0\t0\nR\t-\t1\nS\t0\t0 +\nE\n" gives 2 at 3
     ∷ "P\t0\t0\nR\t-\t1\nS\t0\t+ 0 0\nE\n" gives 2 at 3
+    ∷ "P\t0\t0\nR\t-\t1\nS\t0\t0 + 0\nE\n" gives 2 at 3
+    ∷ "P\t0\t0\nR\t-\t1\nS\t0\t0 - 0\nE\n" gives 2 at 3
+    ∷ "P\t0\t0\nR\t-\t1\nS\t0\t0 * 0\nE\n" gives 2 at 3
+    ∷ "P\t0\t0\nR\t-\t1\nS\t0\t0 < 0\nE\n" gives 2 at 3
+    ∷ "P\t0\t0\nR\t-\t1\nS\t0\t#1 #1 #1 #1 #1 #1 #1 #1 #1 + + + + + + + +\nE\n" gives 2 at 3
+    ∷ "P\t0\t0\nR\t-\t1\nS\t0\t@0 @0 @0 @0 @0 @0 @0 @0 @0 - - - - - - - -\nE\n" gives 2 at 3
+    ∷ "P\t0\t0\nR\t-\t1\nS\t0\t0 0 0 0 0 0 0 0 + 0 0 + + + + + + + +\nE\n" gives 2 at 3
     ∷ "P\t0\t0\nR\t-\t1\nS\t0\t0 0 0 0 0 0 0 0 0 + + + + + + + +\nE\n" gives 2 at 3
     ∷ "P\t0\t0\nR\t-\t1\nS\t0\t0 0 0 0 0 0 0 0 + + + + + + +\nE\n" gives 0 at 0
     -- question 2: 1 to 4 names, 1 to 8 children
@@ -156,6 +163,10 @@ cases =
     ∷ "P\t0\t0\nR\t-\t1\nW\t0\n" gives 5 at 3
     ∷ "P\t0\t0\nR\t-\t0\nE\nR\tv\t0\nR\t-\t0\nE\n" gives 5 at 4
     ∷ "P\t0\t0\nR\t-\t1\nE\nU\t0\t0\n" gives 5 at 4
+    ∷ "P\t0\t0\nR\t-\t1\nS\t0\t#1\n" gives 5 at 3
+    ∷ "P\t0\t0\nR\t-\t1\nA\t0\t#1\t#1\n" gives 5 at 3
+    ∷ "P\t0\t0\nR\t-\t0\nF\t0\n" gives 5 at 3
+    ∷ "P\t0\t0\nR\t-\t1\nW\t0\nR\t-\t0\n" gives 5 at 3
     ∷ "P\t0\t0\nR\t-\t0\nG\t0\n" gives 0 at 0
     -- each question is put to the whole listing before the next
     ∷ "P\t0\t0\nR\t-\t17\nE\nX\n" gives 2 at 4
@@ -186,6 +197,8 @@ longCases =
     ∷ case (bytesOf "P\t0\t0\nR\t-\t0\n" ++ repeated 513 "W\t0\n") 3 515
     -- a name of a thousand digits has form
     ∷ case (bytesOf "P\t0\t0\nR\t-\t1\nS\t" ++ repeated 1000 "7" ++ bytesOf "\t#1\nE\n") 4 3
+    -- a byte 0
+    ∷ case (bytesOf "P\t0\t0\nR\t-\t0\nE" ++ 0 ∷ 10 ∷ []) 2 3
     -- a byte that is not ASCII
     ∷ case (bytesOf "P\t0\t0\nR\t-\t0\nE" ++ 200 ∷ 10 ∷ []) 2 3
     ∷ []

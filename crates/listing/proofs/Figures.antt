@@ -110,7 +110,7 @@ digits-enough (suc most) (suc more) n h k = go (digits-enough most more (n / 10)
         let big : 10 ≤ n = ltb-false n 10 e in
         rw (i (omega arith) (omega arith))
 
-figure-more : (n d : ℕ) → 1 ≤ n → d < 10 → figure (n * 10 + d) ≡ figure n ++ ((48 + d) ∷ [])
+pub figure-more : (n d : ℕ) → 1 ≤ n → d < 10 → figure (n * 10 + d) ≡ figure n ++ ((48 + d) ∷ [])
 unfolding figure digits
 figure-more n d p l =
     let big : ltb (n * 10 + d) 10 ≡ false = le-ltb (n * 10 + d) 10 (omega arith) in
@@ -118,7 +118,7 @@ figure-more n d p l =
     let r : (n * 10 + d) % 10 ≡ d = omega arith in
     rw (big, q, r, digits-enough (n * 10 + d) (suc n) n (omega arith) (omega arith))
 
-figure-digit : (d : ℕ) → d < 10 → figure d ≡ (48 + d) ∷ []
+pub figure-digit : (d : ℕ) → d < 10 → figure d ≡ (48 + d) ∷ []
 unfolding figure digits
 figure-digit d l = rw (lt-ltb d 10 l)
 

@@ -53,6 +53,10 @@ ten-digits : (n : ℕ) → n < 10000000000 → length (figure n) ≤ 10
 unfolding tens
 ten-digits n h = figure-length 9 n h
 
+pub twenty-digits : (n : ℕ) → n < 100000000000000000000 → length (figure n) ≤ 20
+unfolding tens
+twenty-digits n h = figure-length 19 n h
+
 signedFigure-length : (v : ℕ) → v < wordRange → length (signedFigure v) ≤ 11
 unfolding signedFigure
 signedFigure-length v h = go (ltb v halfRange) refl

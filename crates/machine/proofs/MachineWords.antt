@@ -24,7 +24,7 @@ use Rattle.machine.proofs.Basics.{and-left, and-right}
 use Rattle.machine.proofs.RecordsExact.{record-count, state-records-pass, state-from-records, PassingState, passing-records-are-a-state}
 use Rattle.machine.proofs.HeldWordsPass.{getD-nil, zero-from, RecordsRest, held-first, held-moment, held-records, held-environment, held-in-place}
 use Rattle.machine.proofs.LaidOutHolds.{laid-out-length, laid-out-holds, holds-determines}
-use Rattle.machine.proofs.InPlace.{zeros-read}
+use Rattle.machine.proofs.InPlace.{zeros-read, in-place}
 use Rattle.machine.proofs.PassingWordsHold.{Words32, slotsHere, environmentHere, recordsHere, slots-here, records-rest-here, words-hold, environment-rests, environment-size, few-here}
 use Rattle.machine.proofs.StateRecords.{plain-rests, state-records-plain}
 use Rattle.machine.proofs.LaidOut32.{laid-out-32}
@@ -122,6 +122,13 @@ read-is-laid-out listing w s small e =
 
 pub read-is-a-state : (listing : Listing) (w : List ℕ) (s : State) → Words32 w → readMachine listing w ≡ some (running s) → IsState listing s
 read-is-a-state listing w s small e = read-is-laid-out listing w s small e .state
+
+-- "The machine's first word holds the number (0 while running)"
+pub running-first-word-is-0 : (listing : Listing) (w : List ℕ) (s : State) → readMachine listing w ≡ some (running s) → getD w 0 0 ≡ 0
+unfolding readMachine runningWords
+running-first-word-is-0 listing w s e =
+    let (p, q) = running-case (stoppedWords w) (runningWords listing w) (getD w 0 0) (stateOf listing w) s e in
+    in-place w (environmentSize listing) (and-left (wordsInPlace (environmentSize listing) w) _ p) .first
 
 -- ── words that hold a state are read as that state ────────────────────────────────────────────────
 module _ (listing : Listing) (L : WithinLimits listing) (s : State) (h : IsState listing s) where

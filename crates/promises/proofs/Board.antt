@@ -104,7 +104,7 @@ module _ (layout : Layout) (exact : Exact layout) (run : BoardRun layout) where
       MachineAfter layout (run .table) (run .machineBefore) (run .machine) o → o ≡ done d → layout .readMachine listing (firstWords (run .machine)) ≡ some (running (d .state))
   machine-reads listing d t (untouched e) q = let z : _≡_ {A = ℕ} 0 1 = cc in absurd (let y : ⊥ = omega arith in y)
   machine-reads listing d t (halts e) q = let z : _≡_ {A = ℕ} 0 1 = cc in absurd (let y : ⊥ = omega arith in y)
-  machine-reads listing d t (runs {d = d′} {listing = l} r m a b) q =
+  machine-reads listing d t (runs {d = d′} {listing = l} r m z a b) q =
       let e : l ≡ listing = cc in
       let f : d′ ≡ d = cc in
       rw (e, f) at m

@@ -90,7 +90,7 @@ module _ (layout : Layout) (listing : Listing) (exact : ExactMachine layout list
     machine-after machine machine′ m _ st (halts {k = k} e) stops =
         let first : take 12288 (haltedWords k ++ laterWords machine) ≡ haltedWords k = take-at (haltedWords k) (laterWords machine) 12288 (length-halted k) in
         rw (e, first) (exact .halted-every k (stops k refl))
-    machine-after machine machine′ m _ st (runs {d = d} {listing = l} e r a b) stops =
+    machine-after machine machine′ m _ st (runs {d = d} {listing = l} e r z a b) stops =
         let q : l ≡ listing = cc in rw q at r
 
 -- ── what a call listed, read off the lists it left ────────────────────────────────────────────────

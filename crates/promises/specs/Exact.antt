@@ -4,7 +4,7 @@ use mathlib.Core.Bool.{true}
 use mathlib.Core.List.{List}
 use mathlib.Core.Option.{some}
 use Prim.Native.Nat.{ℕ}
-use lib.ListN.{length}
+use lib.ListN.{length, getD}
 use Rattle.listing.specs.Listing.{Listing}
 use Rattle.listing.specs.Load.{Loads}
 use Rattle.walk.specs.State.{State}
@@ -41,6 +41,8 @@ pub record ExactMachine (layout : Layout) (listing : Listing) : Type 0 where
       (isStop k ≡ true) × (words ≡ haltedWords k)
   pub state-only : (words : List ℕ) (s : State) → Words32 words → layout .readMachine listing words ≡ some (running s) →
       IsState listing s
+  -- "The machine's first word holds the number (0 while running)"
+  pub running-first : (words : List ℕ) (s : State) → layout .readMachine listing words ≡ some (running s) → getD words 0 0 ≡ 0
   pub state-every : (s : State) → IsState listing s → MachineWords layout listing (running s)
 
 -- Both, for every listing that loads.

@@ -9,7 +9,7 @@ use lib.ListN.{length}
 use Rattle.listing.specs.Listing.{Listing}
 use Rattle.walk.specs.State.{Variable, liveInForest, State, Turn, Result, stop, ok, _>>=_}
 use Rattle.walk.specs.Walk.{visitForest}
-use Rattle.walk.specs.Instant.{dueWrites, dueInForest, Write, applyInputs, unmarked, unmarkedForest, reported, Done, finish, nextDue, instant}
+use Rattle.walk.specs.Instant.{dueWrites, dueInForest, Write, applyInputs, unmarked, unmarkedForest, writtenOutputs, Done, finish, nextDue, instant}
 use Rattle.walk.specs.Question7.{IsState, allAtRest}
 use Rattle.walk_laws.proofs.Steps.{Within, leaves, instantTurn-within}
 use Rattle.scheduler.specs.Rows.{Owner, Rows}
@@ -40,7 +40,7 @@ pub record Agrees (listing : Listing) (t allowance : ℕ) (d : Done) (σ : Rows)
   pub within : left ≤ allowance
   pub steps : d .steps ≡ allowance - left
   pub passed : d .woken ≡ woken
-  pub listed : d .listed ≡ reported listing environment
+  pub listed : d .listed ≡ writtenOutputs listing environment
   pub number : live ≡ liveInForest ((d .state) .tree)
   -- before the written marks are cleared
   pub last : State

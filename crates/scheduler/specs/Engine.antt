@@ -6,6 +6,7 @@ use Prim.Native.Nat.{ℕ, zero, suc, _+_, _*_, _-_, _^_}
 use lib.Dec.{eqb, ltb, leb}
 use lib.ListN.{length, replicate}
 use Rattle.words.specs.Words.{isPositive}
+use Rattle.words.specs.Moments.{momentRange}
 use Rattle.listing.specs.Listing.{Listing, Routine, Call, Kind, byReference, byValue, Instruction, assign, schedule, branch, jump, wait, fork, end}
 use Rattle.walk.specs.State.{Variable, Waiting, due, fresh}
 use Rattle.walk.specs.Walk.{routineAt, instructionAt, childCount}
@@ -189,7 +190,7 @@ module _ (listing : Listing) where
         let o = ownerOf (r .bindings) n in
         let delay = evaluateBy (named rows environment (r .bindings)) d in
         let x = scheduled (variableOf rows environment o) (now + delay) (evaluateBy (named rows environment (r .bindings)) e) in
-        orHalt (isPositive delay) 16 (orHalt (ltb (now + delay) 18446744073709551616) 17
+        orHalt (isPositive delay) 16 (orHalt (ltb (now + delay) momentRange) 17
         (go (withRow (rowsWith rows o x) me (atPlace (rowsWith rows o x me) (suc (r .place)))) (environmentWith o environment x) ready live woken me))
     executeRows go left (branch e k) rows environment ready live woken me =
         let r = rows me in

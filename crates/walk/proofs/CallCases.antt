@@ -8,9 +8,9 @@ use lib.ListN.{length, replicate, take}
 use Rattle.words.specs.Words.{bit}
 use Rattle.listing.specs.Listing.{Listing, byReference, wait, jump}
 use Rattle.walk.specs.State.{idle, due, Variable, node, Forest, empty, more, State}
-use Rattle.walk.specs.Calls.{Machine, halted, running, Outcome, refused, stopped, done, isStop, outcomeNumber, outcomePlace, outcomeSteps, numbersAfter, valuesAfter, haltedWords, startLongEnough, instantLongEnough}
+use Rattle.walk.specs.Calls.{Layout, startCall, instantCall, Machine, halted, running, Outcome, refused, stopped, done, isStop, outcomeNumber, outcomePlace, outcomeSteps, numbersAfter, valuesAfter, haltedWords, startLongEnough, instantLongEnough}
 use Rattle.walk.specs.Comparison as Comparison
-use Rattle.walk.specs.Comparison.{Compared, notCompared, compared, comparedNumber, comparedAlike, bothStates}
+use Rattle.walk.specs.Comparison.{Compared, notCompared, compared, comparedNumber, comparedPlace, comparedAlike, bothStates}
 use Rattle.walk.specs.Evaluation.{callsQuoted}
 use Rattle.walk.proofs.Cases.{_≔_}
 
@@ -65,6 +65,42 @@ pub lengths-are-as-stated : givenIn lengths ≡ expectedIn lengths
 unfolding callsQuoted givenIn expectedIn
 lengths-are-as-stated = refl
 
+-- ── whole calls on memories that stand for what is given ──────────────────────────────────────────
+-- Any table stands for this, any machine for that.
+abbrev pub standingFor : Option Listing → Option Machine → Layout
+standingFor table machine = record { readTable = λ w. table; readMachine = λ l w. machine }
+
+abbrev pub started : Option Listing → Option Machine → ℕ → ℕ → ℕ
+started table machine size allowance = outcomeNumber (startCall (standingFor table machine) (words size) (words 12288) (words 16) (words 16) allowance)
+
+abbrev pub calledAt : Option Listing → Option Machine → ℕ → ℕ → Outcome
+calledAt table machine size t =
+    instantCall (standingFor table machine) (words size) (words 12288) t [] [] (words 16) (words 16) 10000
+
+-- Main has ended, which no session of this listing reaches; a write is due at the last moment.
+abbrev pub neverReached : State
+neverReached = record { now = 7; environment = record { value = 9; written = false; waiting = due 18446744073709551615 1 } ∷ []; tree = empty }
+
+-- 1, then 6, then 12 at the start, whatever the machine; 1, 6, 7, 8, 9, 10 at an instant, which goes on from any state.
+abbrev pub orders : List (Claim ℕ)
+orders =
+    started none none 12287 0 gives 1 ∷ started none none 12288 0 gives 6 ∷ started (some waitsForEver) none 12288 0 gives 12 ∷
+    started (some waitsForEver) none 12288 1 gives 0 ∷ started (some waitsForEver) (some (halted 13)) 12288 1 gives 0 ∷
+    outcomeNumber (calledAt none none 12287 0) gives 1 ∷ outcomeNumber (calledAt none none 12288 0) gives 6 ∷
+    outcomeNumber (calledAt (some waitsForEver) none 12288 0) gives 7 ∷
+    outcomeNumber (calledAt (some waitsForEver) (some (halted 13)) 12288 0) gives 8 ∷
+    outcomeNumber (calledAt (some waitsForEver) (some (running neverReached)) 12288 7) gives 9 ∷
+    outcomeNumber (calledAt (some waitsForEver) (some (running neverReached)) 12288 18446744073709551615) gives 0 ∷ []
+
+pub questions-come-in-order : givenIn orders ≡ expectedIn orders
+unfolding callsQuoted givenIn expectedIn
+questions-come-in-order = refl
+
+pub a-call-goes-on-from-any-state : calledAt (some waitsForEver) (some (running neverReached)) 12288 18446744073709551615
+    ≡ done (record { state = record { now = 18446744073709551615; environment = holding 1 ∷ []; tree = empty }; steps = 0; listed = []; woken = 0 })
+unfolding callsQuoted
+a-call-goes-on-from-any-state = refl
+
 -- ── the figures of each case ──────────────────────────────────────────────────────────────────────
 abbrev pub listsTwo : Outcome
 listsTwo = done (record { state = atFive; steps = 4; listed = 1 ≔ 7 ∷ 3 ≔ 9 ∷ []; woken = 0 })
@@ -76,11 +112,12 @@ figures =
     outcomeNumber (refused 9) gives 9 ∷ outcomePlace (refused 9) gives 0 ∷ outcomeSteps (refused 9) gives 0 ∷
     outcomeNumber (stopped 13) gives 13 ∷ outcomePlace (stopped 13) gives 0 ∷ outcomeSteps (stopped 13) gives 0 ∷
     comparedNumber (compared true) gives 0 ∷ comparedNumber (compared false) gives 0 ∷ comparedNumber (notCompared 7) gives 7 ∷
+    comparedPlace (compared true) gives 0 ∷ comparedPlace (notCompared 7) gives 0 ∷
     bit (comparedAlike (compared true)) gives 1 ∷ bit (comparedAlike (compared false)) gives 0 ∷ bit (comparedAlike (notCompared 7)) gives 0 ∷
     bit (isStop 12) gives 0 ∷ bit (isStop 13) gives 1 ∷ bit (isStop 17) gives 1 ∷ bit (isStop 18) gives 0 ∷ []
 
 pub figures-are-as-stated : givenIn figures ≡ expectedIn figures
-unfolding callsQuoted givenIn expectedIn Comparison.comparedNumber Comparison.comparedAlike
+unfolding callsQuoted givenIn expectedIn Comparison.comparedNumber Comparison.comparedPlace Comparison.comparedAlike
 figures-are-as-stated = refl
 
 -- ── the lent memories afterwards ──────────────────────────────────────────────────────────────────

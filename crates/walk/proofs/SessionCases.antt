@@ -126,6 +126,42 @@ sessions =
     session "an input number of 32 bits has form and is 11"
     oneDue
     "I|6|4294967295|5\nQ|9\n" "O|4|1|1\nX|11|4\n" ∷
+    session "Q has one field"
+    oneDue
+    "Q|9|9\n" "X|2|0\n" ∷
+    session "Q has a time"
+    oneDue
+    "Q\n" "X|2|0\n" ∷
+    session "an input line has three fields, not two"
+    oneDue
+    "I|6|0\nQ|9\n" "X|2|0\n" ∷
+    session "nor four"
+    oneDue
+    "I|6|0|1|1\nQ|9\n" "X|2|0\n" ∷
+    session "no leading zero"
+    oneDue
+    "I|06|0|1\nQ|9\n" "X|2|0\n" ∷
+    session "no plus"
+    oneDue
+    "I|6|0|+1\nQ|9\n" "X|2|0\n" ∷
+    session "no number sign"
+    oneDue
+    "I|6|0|#1\nQ|9\n" "X|2|0\n" ∷
+    session "no space"
+    oneDue
+    "I|6 |0|1\nQ|9\n" "X|2|0\n" ∷
+    session "no second tab"
+    oneDue
+    "I||6|0|1\nQ|9\n" "X|2|0\n" ∷
+    session "no empty line"
+    oneDue
+    "\nQ|9\n" "X|2|0\n" ∷
+    session "no carriage return"
+    oneDue
+    "Q|9\r\n" "X|2|0\n" ∷
+    session "no other letter"
+    oneDue
+    "P|6|0|1\nQ|9\n" "X|2|0\n" ∷
     session "an input number of 33 bits is out of form"
     oneDue
     "I|6|4294967296|5\nQ|9\n" "X|2|0\n" ∷
@@ -154,3 +190,11 @@ pub long-texts-are-refused :
     ≡ quoted "X|3|0\n" ∷ quoted "X|2|0\n" ∷ []
 unfolding sessionQuoted quoted
 long-texts-are-refused = refl
+
+-- 49,152 bytes are not over: such a listing is loaded (and out of form), with such a trace the start is made.
+pub longest-texts-are-taken :
+    printed (sessionOf (spaces 49152) []) ∷
+    printed (sessionOf (quoted "P|0|1\nR|r|0\nS|0|#1\nE\n") (spaces 49152)) ∷ []
+    ≡ quoted "X|2|0\n" ∷ quoted "O|0|0|1\nX|2|0\n" ∷ []
+unfolding sessionQuoted quoted
+longest-texts-are-taken = refl

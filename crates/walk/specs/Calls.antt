@@ -88,9 +88,10 @@ pub data MachineAfter (layout : Layout) (table before after : List ℕ) : Outcom
   -- "Up to 12 a refusal leaves all lent memory untouched"
   untouched : {k : ℕ} → after ≡ before → MachineAfter layout table before after (refused k)
   halts : {k : ℕ} → after ≡ haltedWords k ++ laterWords before → MachineAfter layout table before after (stopped k)
-  -- a running machine's words: any that stand for the walk's state
+  -- a running machine's words: any that stand for the walk's state, the first of them 0:
+  -- "The machine's first word holds the number (0 while running)"
   runs : {d : Done} {listing : Listing} → layout .readTable (firstWords table) ≡ some listing →
-      layout .readMachine listing (firstWords after) ≡ some (running (d .state)) → length after ≡ length before →
+      layout .readMachine listing (firstWords after) ≡ some (running (d .state)) → getD after 0 0 ≡ 0 → length after ≡ length before →
       laterWords after ≡ laterWords before → MachineAfter layout table before after (done d)
 
 -- What a lent output list holds after a call: the listed numbers, or values, and "places after them stay".

@@ -29,6 +29,10 @@ unfoldable pub comparedNumber : Compared → ℕ
 comparedNumber (notCompared k) = k
 comparedNumber (compared b) = 0
 
+-- "A call that goes through has number 0 and place 0"; "place 0 from here on"
+unfoldable pub comparedPlace : Compared → ℕ
+comparedPlace c = 0
+
 unfoldable pub comparedAlike : Compared → Bool
 comparedAlike (notCompared k) = false
 comparedAlike (compared b) = b

@@ -97,8 +97,8 @@ writtenFrom n [] = []
 writtenFrom n (x ∷ xs) = listedIf (x .written) n (x .value) (writtenFrom (suc n) xs)
 
 -- The report's order stands here alone.
-unfoldable pub reported : Listing → List Variable → List Write
-reported listing environment = writtenFrom (listing .inputs) (drop (listing .inputs) environment)
+unfoldable pub writtenOutputs : Listing → List Variable → List Write
+writtenOutputs listing environment = writtenFrom (listing .inputs) (drop (listing .inputs) environment)
 
 -- ── what an instant gives ─────────────────────────────────────────────────────────────────────────
 -- The state after it, the steps used, the outputs listed, the waits passed. (The next moment due is `nextDue` of the state.)
@@ -113,7 +113,7 @@ finish listing t allowance a =
     ok (record {
       state = record { now = t; environment = unmarked ((a .running) .memory); tree = unmarkedForest (a .tree) };
       steps = allowance - (a .running) .left;
-      listed = reported listing ((a .running) .memory);
+      listed = writtenOutputs listing ((a .running) .memory);
       woken = (a .running) .woken;
     })
 

@@ -5,6 +5,7 @@ use mathlib.Core.List.{List, [], _∷_}
 use Prim.Native.Nat.{ℕ, suc, _+_, _<_, _≤_}
 use lib.Dec.{ltb}
 use lib.ListN.{length}
+use Rattle.words.specs.Moments.{momentRange}
 use Rattle.listing.specs.Listing.{Listing, Kind, byReference, byValue, Call, wait, fork}
 use Rattle.walk.specs.State.{Waiting, idle, due, Variable, Node, node, Forest, empty, more, liveInForest, State}
 use Rattle.walk.specs.Memory.{addressesOf, bindNames}
@@ -15,7 +16,7 @@ use Rattle.walk.specs.Instant.{environmentSize, environmentNames, mainCa
 -- "waiting writes due after the present moment"; a moment has 64 bits, a value 32.
 unfoldable pub dueAfter : ℕ → Waiting → Bool
 dueAfter now idle = true
-dueAfter now (due t v) = ltb now t && (ltb t 18446744073709551616 && ltb v 4294967296)
+dueAfter now (due t v) = ltb now t && (ltb t momentRange && ltb v 4294967296)
 
 -- No mark of an earlier instant is left.
 unfoldable pub atRest : ℕ → Variable → Bool
@@ -76,7 +77,7 @@ module _ (listing : Listing) (rest : List Variable → Bool) where
 
 -- "one state of the walk on this table: a tree (none after main's end) of at most 64 routines, to level 10, .. main's as the start does"
 pub record IsState (listing : Listing) (s : State) : Type 0 where
-  pub moment : s .now < 18446744073709551616
+  pub moment : s .now < momentRange
   pub size : length (s .environment) ≡ environmentSize listing
   pub resting : allAtRest (s .now) (s .environment) ≡ true
   pub tree : LiveChildren listing (allAtRest (s .now)) 0 (length (s .environment)) (environmentNames listing) (mainCall listing ∷ []) (s .tree)

@@ -5,6 +5,7 @@ use mathlib.Core.Option.{Option, none, some}
 use Prim.Native.Nat.{ℕ, _-_}
 use Prim.Native.Char.{code}
 use lib.Dec.{eqb, ltb, leb}
+use Rattle.words.specs.Moments.{momentRange}
 use Rattle.listing.specs.Lists.{isEmpty}
 use Rattle.listing.specs.Bytes.{Bytes, readFigure}
 use Rattle.listing.specs.Expressions.{bind, when, halfRange, wordRange}
@@ -18,10 +19,6 @@ pub data TraceLine : Type 0 where
   inputLine : ℕ → Write → TraceLine
   lastLine : ℕ → TraceLine
   outOfForm : TraceLine
-
--- 2 to the 64
-abbrev pub momentRange : ℕ
-momentRange = 18446744073709551616
 
 unfoldable pub readBelow : ℕ → Bytes → Option ℕ
 readBelow range piece = bind (readFigure piece) (λ n. when (ltb n range) n)
@@ -74,7 +71,7 @@ joinInput false time w u ws rest = callAt time (w ∷ []) (callAt u ws rest)
 
 unfoldable pub withInput : ℕ → Write → Script → Script
 withInput time w (callAt u ws rest) = joinInput (eqb time u) time w u ws rest
-withInput time w (lastAt u closed) = callAt time (w ∷ []) (lastAt u closed)
+withInput time w (lastAt u nothingAfter) = callAt time (w ∷ []) (lastAt u nothingAfter)
 withInput time w broken = callAt time (w ∷ []) broken
 
 unfoldable pub withLine : TraceLine → Bool → Script → Script

@@ -5,6 +5,7 @@ use Prim.Native.Nat.{ℕ, zero, suc, _+_, _-_}
 use lib.Dec.{eqb, ltb, leb}
 use lib.ListN.{length, getD, take, drop}
 use Rattle.words.specs.Words.{isPositive}
+use Rattle.words.specs.Moments.{momentRange}
 use Rattle.listing.specs.Listing.{Listing, Routine, Call, Instruction, assign, schedule, branch, jump, wait, fork, end}
 use Rattle.walk.specs.State.{Variable, Node, node, Forest, empty, more, _⊕_, Running, Turn, Result, stop, ok, _>>=_}
 use Rattle.walk.specs.Memory.{writeAt, scheduleAt, addressOf, addressesOf, anyWritten, evaluate, bindNames, ownVariables}
@@ -103,7 +104,7 @@ module _ (listing : Listing) (now : ℕ) where
   execute go (schedule n d e) level r place names base s =
       let delay = evaluate (s .memory) names d in
       scheduleWith go level r place names base (addressOf names n) delay (evaluate (s .memory) names e)
-      (isPositive delay) (ltb (now + delay) 18446744073709551616) s
+      (isPositive delay) (ltb (now + delay) momentRange) s
   execute go (branch e k) level r place names base s = branchWith go level r place names base k (eqb (evaluate (s .memory) names e) 0) s
   execute go (jump k) level r place names base s = go level r k names base s
   -- "A wait reached now sleeps, even if its name was written earlier in this instant."

@@ -16,7 +16,7 @@ use Rattle.listing.specs.Listing.{Listing, Call, wait, fork}
 use Rattle.walk.specs.State.{Waiting, idle, due, Variable, fresh, Node, node, Forest, empty, more, _⊕_, State, Running, ok, _>>=_}
 use Rattle.walk.specs.Memory.{variableAt, addressOf, anyWritten}
 use Rattle.walk.specs.Walk.{instructionAt, withMemory, enter, sleep, join, wake, resume, visit, visitForest}
-use Rattle.walk.specs.Instant.{madeIfDue, dueWrite, dueWrites, dueInNode, dueInForest, applyInputs, unmarked, unmarkedNode, unmarkedForest, listedIf, writtenFrom, reported, Done, finish, nextDue, instant}
+use Rattle.walk.specs.Instant.{madeIfDue, dueWrite, dueWrites, dueInNode, dueInForest, applyInputs, unmarked, unmarkedNode, unmarkedForest, listedIf, writtenFrom, writtenOutputs, Done, finish, nextDue, instant}
 use Rattle.walk.specs.Question7.{atRest, allAtRest, MadeBy, Asleep, waits, joins, LiveChildren, no-more, ended, lives, someAlive, IsState}
 use Rattle.walk_laws.proofs.NextDue.{WriteDueAmong, on-first, on-later, WriteDueInNode, among-own, below, WriteDueInForest, in-first, in-later, WriteDueIn, in-environment, in-tree, DueOnlyAfter, nothing-due-at}
 
@@ -174,7 +174,7 @@ onlyMoment s t = record { state = record { now = t; environment = s .environment
 
 pub idle-instant : (listing : Listing) (s : State) → IsState listing s → (t : ℕ) → ¬ WriteDueIn t s → (allowance : ℕ) →
     instant listing s t [] allowance ≡ ok (onlyMoment s t)
-unfolding instant applyInputs _>>=_ finish reported
+unfolding instant applyInputs _>>=_ finish writtenOutputs
 idle-instant listing s h t none allowance =
     let marks : NoMarks (s .environment) = at-rest-no-marks (s .now) _ (h .resting) in
     rw (

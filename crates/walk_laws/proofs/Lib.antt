@@ -12,5 +12,10 @@ pub mod Due
 pub mod Kept
 pub mod Stays
 pub mod Answers
+pub mod FullRun
+pub mod StopDecides
+pub mod StopReached
+pub mod StopCauses
 pub mod Causes
+pub mod ComparedCauses
 pub mod DueInstants

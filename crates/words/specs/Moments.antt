@@ -6,6 +6,10 @@ use lib.Dec.{ltb}
 use Rattle.words.specs.declared.moment.Later.{Later}
 use Rattle.words.specs.declared.moment.Later.the-variants.{At, TooLate}
 
+-- "a moment has 64 bits": moments are below 2 to the 64
+abbrev pub momentRange : ℕ
+momentRange = 18446744073709551616
+
 -- where a delay leads: to a moment, or to a stop with its number
 pub data LaterMoment : Type 0 where
   laterAt : ℕ → LaterMoment
@@ -14,7 +18,7 @@ pub data LaterMoment : Type 0 where
 -- "17 At `A`: is the due moment below 2 to the 64?"
 abbrev pub laterMoment : ℕ → ℕ → LaterMoment
 laterMoment present delay =
-    cond (ltb (present + delay) 18446744073709551616) (laterAt (present + delay)) (stopsWith 17)
+    cond (ltb (present + delay) momentRange) (laterAt (present + delay)) (stopsWith 17)
 
 -- document 01's number and moment for each case of the answer `Later`
 abbrev pub laterOf : Later → LaterMoment

@@ -1,8 +1,8 @@
 // Questions 1 to 5, each put to the whole listing before the next.
 ghost use mathlib.Core.Path.{_≡_};
 ghost use Rattle.listing.specs.Load.{loading};
-ghost use Rattle.loader.specs.Outcome.{Outcome};
-use records::form_place;
+ghost use Rattle.loader.specs.Outcome.{outcomeOf};
+use crate::opening::form_question;
 use survey::ending_place;
 use survey::limit_place;
 use survey::there_place;
@@ -15,12 +15,12 @@ pub enum Loaded {
 
 // The first question that refuses the listing; `long_enough` answers question 1.
 pub fn put_questions(long_enough: bool, s: &[u8]) -> Loaded
-    ensures { λ r. ⌜ Outcome r (loading «long_enough» (now (s .entry))) ⌝ }
+    ensures { λ r. ⌜ outcomeOf (now (s .entry)) r ≡ loading «long_enough» (now (s .entry)) ⌝ }
 {
     if !long_enough {
         return Loaded::Refused(1, 0);
     }
-    let form = form_place(s);
+    let form = form_question(s);
     if form != 0 {
         return Loaded::Refused(2, form);
     }

@@ -15,7 +15,7 @@ use Rattle.listing.proofs.Tests.{and-left, and-right}
 use Rattle.reader.specs.Answers.{cap, figureAnswer, asFigure}
 use Rattle.reader.specs.declared.figure.Figure.the-variants as FV
 
-figure-digits : (w : List ℕ) → isFigure w ≡ true → all isDigit w ≡ true
+pub figure-digits : (w : List ℕ) → isFigure w ≡ true → all isDigit w ≡ true
 unfolding isFigure all
 figure-digits [] h = refl
 figure-digits (b ∷ []) h = rw h
@@ -44,7 +44,7 @@ pub zero-first : (b : ℕ) (w : List ℕ) → figureAnswer (48 ∷ (b ∷ w)) �
 unfolding readFigure isFigure
 zero-first b w = refl
 
-figure-shape : (b : ℕ) (w : List ℕ) → (b ≡ 48 → ⊥) → all isDigit (b ∷ w) ≡ true → isFigure (b ∷ w) ≡ true
+pub figure-shape : (b : ℕ) (w : List ℕ) → (b ≡ 48 → ⊥) → all isDigit (b ∷ w) ≡ true → isFigure (b ∷ w) ≡ true
 unfolding isFigure all
 figure-shape b [] n h = and-left (isDigit b) true h
 figure-shape b (d ∷ w) n h =

@@ -20,6 +20,8 @@ pub use field::number_field;
 pub use field::pieces_field;
 pub use figure::Figure;
 pub use figure::figure_of;
+pub use figure::is_digit;
+pub use figure::wide;
 pub use gathering::Gathering;
 pub use gathering::gathered;
 pub use gathering::is_there;

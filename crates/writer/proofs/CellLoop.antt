@@ -6,13 +6,14 @@ use native.Mathlib.Omega.{arith}
 use native.Mathlib.Numerals.{add-one}
 use lib.ListN.{length, set, length-set}
 use lib.Seq.{slice, sets}
-use Rattle.reader.specs.Texts.{fieldPieces}
+use Rattle.reader.specs.Texts.{endsField, fieldEnd, fieldPieces, Within}
 use Rattle.reader.specs.Answers.{takenAt, pieceAnswer}
 use Rattle.reader.specs.declared.place.Place.{Place}
 use Rattle.reader.specs.declared.place.Taken.{Taken}
 use Rattle.reader.specs.declared.piece.Piece.{Piece}
+use Rattle.reader.proofs.Places.{passed-in, end-in}
 use Rattle.reader.proofs.OnField.{OnField, begun, more-pieces, moved-on, still-on, last-piece, stop-at-end, next-at-end}
-use Rattle.writer.specs.Cells.{cellKind, cellValue, cellsOf, cellsAnswer}
+use Rattle.writer.specs.Cells.{cellKind, cellValue, cellsOf, cellsAnswer, WritesCells}
 
 -- what is written so far and what is still to come is what the whole field gives
 pub record Writing (s t₀ : List ℕ) (a plain at₀ line at count : ℕ) (t : List ℕ) : Type 0 where
@@ -62,3 +63,20 @@ module _ (s t₀ : List ℕ) (a plain at₀ line at count : ℕ) (t : List ℕ) 
         let b = stop-at-end s at₀ line at (v .place) r ens n in
         let d = next-at-end s at₀ line at (v .place) r ens n in
         rw (i, j, d, b, l)
+
+    -- the place past a field is within the text
+    end-within : (place : Place) → place .offset ≡ at₀ → place .line ≡ line → Within s (place .offset) (place .line) → Within s (r .next .offset) (r .next .line)
+    end-within place i j w =
+        rw (← next-at-end s at₀ line at (v .place) r ens n, ← i, ← j)
+        (passed-in s (place .offset) (place .line) (fieldEnd s (place .offset)) w (omega arith) (end-in endsField s (place .offset) (w .inside)))
+
+    pub writes-cells : (place : Place) → place .offset ≡ at₀ → place .line ≡ line → Within s (place .offset) (place .line)
+        → WritesCells s place a plain t₀ t' (record { count = count + 1; stop = r .stop; next = r .next })
+    writes-cells place i j w =
+        record {
+          answer = cells-are place i j;
+          written = rw i writing-done;
+          some-cell = omega arith;
+          few = omega (arith, v .few, v .place .inside);
+          within = end-within place i j w;
+        }

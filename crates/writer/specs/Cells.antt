@@ -1,12 +1,14 @@
 -- The words of a field's cells, piece by piece.
+use mathlib.Core.Path.{_≡_}
 use mathlib.Core.Bool.{cond}
 use mathlib.Core.List.{List, [], _∷_}
-use Prim.Native.Nat.{ℕ}
+use Prim.Native.Nat.{ℕ, _+_, _≤_}
 use lib.Dec.{ltb}
 use lib.ListN.{length, getD}
+use lib.Seq.{sets}
 use Rattle.listing.specs.Bytes.{Bytes}
 use Rattle.listing.specs.Expressions.{wordRange}
-use Rattle.reader.specs.Texts.{fieldEnd, fieldPieces}
+use Rattle.reader.specs.Texts.{fieldEnd, fieldPieces, Within}
 use Rattle.reader.specs.Answers.{passed, pieceAnswer}
 use Rattle.reader.specs.declared.place.Place.{Place}
 use Rattle.reader.specs.declared.piece.Piece.{Piece}
@@ -45,3 +47,11 @@ abbrev pub cellsAnswer : Bytes → Place → Cells
 cellsAnswer s p =
     let end = fieldEnd s (p .offset) in
     record { count = length (fieldPieces s (p .offset)); stop = getD s end 0; next = passed s (p .line) end }
+
+-- the cells of the field at a place, written from address a on
+pub record WritesCells (s : Bytes) (p : Place) (a plain : ℕ) (before after : List ℕ) (r : Cells) : Type 0 where
+  pub answer : r ≡ cellsAnswer s p
+  pub written : after ≡ sets before a (cellsOf plain (fieldPieces s (p .offset)))
+  pub some-cell : 1 ≤ r .count
+  pub few : r .count ≤ length s + 1
+  pub within : Within s (r .next .offset) (r .next .line)

@@ -1,1 +1,5 @@
+pub mod Calls
 pub mod Cells
+pub mod Kinds
+pub mod Lines
+pub mod Words

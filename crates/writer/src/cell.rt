@@ -2,9 +2,8 @@
 ghost use mathlib.Core.Path.{_≡_};
 ghost use Prim.Native.Nat.{_+_, _*_, _≤_};
 ghost use lib.ListN.{length, set};
-ghost use lib.Seq.{sets};
-ghost use Rattle.reader.specs.Texts.{Within, fieldPieces};
-ghost use Rattle.writer.specs.Cells.{lowWord, cellKind, cellValue, cellsOf, cellsAnswer};
+ghost use Rattle.reader.specs.Texts.{Within};
+ghost use Rattle.writer.specs.Cells.{lowWord, cellKind, cellValue, WritesCells};
 use crate::put::put;
 use reader::Piece;
 use reader::Place;
@@ -18,7 +17,7 @@ pub struct Cells {
     pub next: Place,
 }
 
-fn low_word(n: u64) -> u32
+pub fn low_word(n: u64) -> u32
     ensures { λ r. ⌜ r ≡ lowWord n ⌝ }
 {
     if n < 4294967296 {
@@ -68,8 +67,8 @@ fn write_cell(t: &mut [u32], a: usize, p: Piece, plain: u32)
 
 // The cells of the field at a place, from an address on.
 pub fn write_cells(s: &[u8], t: &mut [u32], place: Place, a: usize, plain: u32) -> Cells
-    requires { ⌜ Within (now s) (place .offset) (place .line) × (length (now s) ≤ 49152) × (a ≤ 12288) ⌝ }
-    ensures { λ r. ⌜ (r ≡ cellsAnswer (now (s .entry)) place) × (now (t .exit) ≡ sets (now (t .entry)) a (cellsOf plain (fieldPieces (now (s .entry)) (place .offset)))) ⌝ }
+    requires { ⌜ Within (now s) (place .offset) (place .line) × (length (now s) ≤ 49152) × (a ≤ 800000) ⌝ }
+    ensures { λ r. ⌜ WritesCells (now (s .entry)) place a plain (now (t .entry)) (now (t .exit)) r ⌝ }
 {
     let mut at = place.offset;
     let line = place.line;

@@ -1,7 +1,7 @@
 // Words in a row, stored from an address on.
 ghost use mathlib.Core.Path.{_≡_};
 ghost use mathlib.Core.List.{[], _∷_};
-ghost use lib.ListN.{length, set};
+ghost use lib.ListN.{set};
 ghost use lib.Seq.{sets};
 ghost use Prim.Native.Nat.{_≤_};
 

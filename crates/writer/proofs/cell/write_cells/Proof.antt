@@ -52,10 +52,8 @@ same-length c =
 returns : tie.Need-returns Inv-loop μ-loop
 returns c =
     let v = c .before .before .before .before .before .before .before .before .loop in
-    let a = c .before .before .before .before .before .before .before .before .before .before .before .args in (
-      loop.cells-are _ _ _ _ _ _ _ _ _ (v .inv) _ (c .before .before .before .before .before .before .before .take-piece .ensures) _ (c .before .before .before .before .before .before .piece-of .ensures) _ (c .before .before .before .before .write-cell .ensures) (c .if1 .taken) (a .place) refl refl,
-      loop.writing-done _ _ _ _ _ _ _ _ _ (v .inv) _ (c .before .before .before .before .before .before .before .take-piece .ensures) _ (c .before .before .before .before .before .before .piece-of .ensures) _ (c .before .before .before .before .write-cell .ensures) (c .if1 .taken),
-    )
+    let a = c .before .before .before .before .before .before .before .before .before .before .before .args in
+    loop.writes-cells _ _ _ _ _ _ _ _ _ (v .inv) _ (c .before .before .before .before .before .before .before .take-piece .ensures) _ (c .before .before .before .before .before .before .piece-of .ensures) _ (c .before .before .before .before .write-cell .ensures) (c .if1 .taken) (a .place) refl refl (c .before .before .before .before .before .before .before .before .before .before .before .pre .0)
 
 loop-less : tie.Need-loop-less Inv-loop μ-loop
 loop-less c =

@@ -1,0 +1,45 @@
+-- `writer::write_branch` meets its contract.
+use denote.Ref.{now}
+use Rattle.writer.proofs.Instructions as written
+use borrow.Author.Needs.{needs}
+use Rattle.writer.proofs.instruction.write_branch.Statement.{statement}
+use Rattle.writer.proofs.instruction.write_branch.Tie as tie
+
+write-cells-requires : tie.Need-write-cells-requires
+write-cells-requires c κs = search needs
+
+word-field-requires : tie.Need-word-field-requires
+word-field-requires c κs = search needs
+
+cast-put-entry : tie.Need-cast-put-entry
+cast-put-entry c = search needs
+
+cast-put-entry-2 : tie.Need-cast-put-entry-2
+cast-put-entry-2 c = search needs
+
+put-entry-requires : tie.Need-put-entry-requires
+put-entry-requires c κs = search needs
+
+mul-t18 : tie.Need-mul-t18
+mul-t18 c = search needs
+
+same-length : tie.Need-same-length
+same-length c = search needs
+
+returns : tie.Need-returns
+returns c =
+    let a = c .before .before .before .before .before .before .before .before .before .before .before .before .before .before .before .args in
+    written.branch-written (now (a .s)) (now (a .t)) (a .place) (a .stop) (a .e) (a .a) (c .before .before .before .before .before .before .before .before .before .before .before .before .before .before .before .pre .0) _ _ (c .before .before .before .before .before .before .before .before .before .before .before .write-cells .ensures) _ (c .before .before .before .before .before .before .before .word-field .ensures .0) _ (c .before .before .before .put-entry .ensures)
+
+pub write-branch-spec : {M : Type 1} → statement M
+write-branch-spec =
+    tie.close
+    (tie.spec
+    write-cells-requires
+    word-field-requires
+    cast-put-entry
+    cast-put-entry-2
+    put-entry-requires
+    mul-t18
+    same-length
+    returns)

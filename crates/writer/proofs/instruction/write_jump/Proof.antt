@@ -1,0 +1,27 @@
+-- `writer::write_jump` meets its contract.
+use denote.Ref.{now}
+use Rattle.writer.proofs.Instructions as written
+use borrow.Author.Needs.{needs}
+use Rattle.writer.proofs.instruction.write_jump.Statement.{statement}
+use Rattle.writer.proofs.instruction.write_jump.Tie as tie
+
+word-field-requires : tie.Need-word-field-requires
+word-field-requires c κs = search needs
+
+cast-put-entry : tie.Need-cast-put-entry
+cast-put-entry c = search needs
+
+put-entry-requires : tie.Need-put-entry-requires
+put-entry-requires c κs = search needs
+
+same-length : tie.Need-same-length
+same-length c = search needs
+
+returns : tie.Need-returns
+returns c =
+    let a = c .before .before .before .before .before .before .before .before .args in
+    written.jump-written (now (a .s)) (now (a .t)) (a .place) (a .stop) (a .e) (a .a) (c .before .before .before .before .before .before .before .before .pre .0) _ (c .before .before .before .before .before .word-field .ensures .0) _ (c .before .before .put-entry .ensures)
+
+pub write-jump-spec : {M : Type 1} → statement M
+write-jump-spec =
+    tie.close (tie.spec word-field-requires cast-put-entry put-entry-requires same-length returns)

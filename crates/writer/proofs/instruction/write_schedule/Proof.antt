@@ -1,0 +1,76 @@
+-- `writer::write_schedule` meets its contract.
+use denote.Ref.{now}
+use native.Mathlib.Omega.{arith}
+use Rattle.writer.proofs.Instructions as written
+use borrow.Author.Needs.{needs}
+use Rattle.writer.proofs.instruction.write_schedule.Statement.{statement}
+use Rattle.writer.proofs.instruction.write_schedule.Tie as tie
+
+word-field-requires : tie.Need-word-field-requires
+word-field-requires c κs = search needs
+
+write-cells-requires : tie.Need-write-cells-requires
+write-cells-requires c κs = search needs
+
+mul-write-cells : tie.Need-mul-write-cells
+mul-write-cells c = search needs
+
+add-write-cells : tie.Need-add-write-cells
+add-write-cells c = search needs
+
+write-cells-requires-2 : tie.Need-write-cells-requires-2
+write-cells-requires-2 c κs = search needs
+
+cast-put-entry : tie.Need-cast-put-entry
+cast-put-entry c = search needs
+
+cast-put-entry-2 : tie.Need-cast-put-entry-2
+cast-put-entry-2 c =
+    omega (arith, c .before .before .before .before .before .before .before .before .before .before .before .write-cells .ensures .few, c .before .before .before .before .before .before .before .before .before .before .before .before .before .before .before .before .before .pre .1)
+
+cast-put-entry-3 : tie.Need-cast-put-entry-3
+cast-put-entry-3 c =
+    omega (arith, c .before .before .before .before .before .before .write-cells2 .ensures .few, c .before .before .before .before .before .before .before .before .before .before .before .before .before .before .before .before .before .before .pre .1)
+
+put-entry-requires : tie.Need-put-entry-requires
+put-entry-requires c κs =
+    c .before .before .before .before .before .before .before .before .before .before .before .before .before .before .before .before .before .before .pre .2
+
+mul-t17 : tie.Need-mul-t17
+mul-t17 c =
+    omega (arith, c .before .before .before .before .before .before .before .before .before .before .before .before .before .before .before .before .write-cells .ensures .few, c .before .before .before .before .before .before .before .before .before .before .before .before .before .before .before .before .before .before .before .before .before .before .pre .1)
+
+mul-t18 : tie.Need-mul-t18
+mul-t18 c =
+    omega (arith, c .before .before .before .before .before .before .before .before .before .before .before .write-cells2 .ensures .few, c .before .before .before .before .before .before .before .before .before .before .before .before .before .before .before .before .before .before .before .before .before .before .before .pre .1)
+
+add-t25 : tie.Need-add-t25
+add-t25 c =
+    omega (arith, c .before .before .before .before .before .before .before .before .before .before .before .before .before .before .before .before .before .write-cells .ensures .few, c .before .before .before .before .before .before .before .before .before .before .before .write-cells2 .ensures .few, c .before .before .before .before .before .before .before .before .before .before .before .before .before .before .before .before .before .before .before .before .before .before .before .pre .1)
+
+same-length : tie.Need-same-length
+same-length c = search needs
+
+returns : tie.Need-returns
+returns c =
+    let a = c .before .before .before .before .before .before .before .before .before .before .before .before .before .before .before .before .before .before .before .before .before .before .before .args in
+    written.schedule-written (now (a .s)) (now (a .t)) (a .place) (a .stop) (a .e) (a .a) (c .before .before .before .before .before .before .before .before .before .before .before .before .before .before .before .before .before .before .before .before .before .before .before .pre .0) _ (c .before .before .before .before .before .before .before .before .before .before .before .before .before .before .before .before .before .before .before .before .word-field .ensures .0) _ _ (c .before .before .before .before .before .before .before .before .before .before .before .before .before .before .before .before .before .write-cells .ensures) _ _ (c .before .before .before .before .before .before .before .before .before .before .before .write-cells2 .ensures) _ (c .before .before .before .before .put-entry .ensures)
+
+pub write-schedule-spec : {M : Type 1} → statement M
+write-schedule-spec =
+    tie.close
+    (tie.spec
+    word-field-requires
+    write-cells-requires
+    mul-write-cells
+    add-write-cells
+    write-cells-requires-2
+    cast-put-entry
+    cast-put-entry-2
+    cast-put-entry-3
+    put-entry-requires
+    mul-t17
+    mul-t18
+    add-t25
+    same-length
+    returns)

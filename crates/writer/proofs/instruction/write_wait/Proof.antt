@@ -1,0 +1,41 @@
+-- `writer::write_wait` meets its contract.
+use denote.Ref.{now}
+use Rattle.writer.proofs.Instructions as written
+use borrow.Author.Needs.{needs}
+use Rattle.writer.proofs.instruction.write_wait.Statement.{statement}
+use Rattle.writer.proofs.instruction.write_wait.Tie as tie
+
+write-cells-requires : tie.Need-write-cells-requires
+write-cells-requires c κs = search needs
+
+cast-put-entry : tie.Need-cast-put-entry
+cast-put-entry c = search needs
+
+cast-put-entry-2 : tie.Need-cast-put-entry-2
+cast-put-entry-2 c = search needs
+
+put-entry-requires : tie.Need-put-entry-requires
+put-entry-requires c κs = search needs
+
+mul-t16 : tie.Need-mul-t16
+mul-t16 c = search needs
+
+same-length : tie.Need-same-length
+same-length c = search needs
+
+returns : tie.Need-returns
+returns c =
+    let a = c .before .before .before .before .before .before .before .before .before .before .before .before .before .args in
+    written.wait-written (now (a .s)) (now (a .t)) (a .place) (a .stop) (a .e) (a .a) (c .before .before .before .before .before .before .before .before .before .before .before .before .before .pre .0) _ _ (c .before .before .before .before .before .before .before .before .before .write-cells .ensures) _ (c .before .before .before .put-entry .ensures)
+
+pub write-wait-spec : {M : Type 1} → statement M
+write-wait-spec =
+    tie.close
+    (tie.spec
+    write-cells-requires
+    cast-put-entry
+    cast-put-entry-2
+    put-entry-requires
+    mul-t16
+    same-length
+    returns)

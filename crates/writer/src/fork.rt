@@ -1,0 +1,73 @@
+// A fork, from its child fields. Document 01: "`F|c|c..` forks 1 to 8 children: each field is a routine number and then its arguments".
+ghost use Prim.Native.Nat.{_≤_};
+ghost use lib.ListN.{length};
+ghost use Rattle.listing.specs.Form.{readFork};
+ghost use Rattle.reader.specs.Texts.{Within};
+ghost use Rattle.writer.specs.Calls.{WritesCall};
+ghost use Rattle.writer.specs.Lines.{WritesRest};
+use crate::cell::Cells;
+use crate::cell::write_cells;
+use crate::line::Holds;
+use crate::line::WrittenLine;
+use crate::put::put;
+use crate::put::put_entry;
+use reader::Place;
+
+// The cells of a child field: a head of its number of arguments and its routine, then the arguments' names.
+fn write_call(s: &[u8], t: &mut [u32], place: Place, a: usize) -> Cells
+    requires { ⌜ Within (now s) (place .offset) (place .line) × (length (now s) ≤ 49152) × (a ≤ 800000) ⌝ }
+    ensures { λ r. ⌜ WritesCall (now (s .entry)) place a (now (t .entry)) (now (t .exit)) r ⌝ }
+{
+    let cells = write_cells(s, t, place, a, 0);
+    put(t, a, (cells.count - 1) as u32);
+    cells
+}
+
+pub fn write_fork(
+    s: &[u8],
+    t: &mut [u32],
+    place: Place,
+    stop: u8,
+    e: usize,
+    a: usize,
+) -> WrittenLine
+    requires { ⌜ Within (now s) (place .offset) (place .line) × (length (now s) ≤ 49152) × (e ≤ 12288) × (a ≤ 12288) ⌝ }
+    ensures { λ r. ⌜ WritesRest readFork (now (s .entry)) place stop e a (now (t .entry)) (now (t .exit)) r ⌝ }
+{
+    let mut at = place.offset;
+    let mut line = place.line;
+    let mut b = stop;
+    let mut count: usize = 0;
+    let mut cells: usize = 0;
+    while b == 9 {
+        if 8 <= count {
+            return WrittenLine {
+                holds: Holds::Instruction(0),
+                next: place,
+            };
+        }
+        let call = write_call(
+            s,
+            t,
+            Place {
+                offset: at,
+                line: line,
+            },
+            a + 2 * cells,
+        );
+        cells += call.count;
+        count += 1;
+        b = call.stop;
+        let next = call.next;
+        at = next.offset;
+        line = next.line;
+    }
+    put_entry(t, e, 6, 0, a as u32, count as u32, 0);
+    WrittenLine {
+        holds: Holds::Instruction(2 * cells),
+        next: Place {
+            offset: at,
+            line: line,
+        },
+    }
+}

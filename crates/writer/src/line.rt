@@ -1,0 +1,81 @@
+// A line of a listing that is in form: what it gives the table is written, and what it holds handed back.
+ghost use Prim.Native.Nat.{_≤_};
+ghost use lib.ListN.{length};
+ghost use Rattle.listing.specs.Form.{readByLetter};
+ghost use Rattle.reader.specs.Texts.{Within};
+ghost use Rattle.writer.specs.Lines.{WritesRest, WritesLine};
+use crate::fork::write_fork;
+use crate::instruction::write_assign;
+use crate::instruction::write_branch;
+use crate::instruction::write_end;
+use crate::instruction::write_jump;
+use crate::instruction::write_schedule;
+use crate::instruction::write_wait;
+use crate::opens::hold_opens;
+use crate::opens::hold_ports;
+use reader::Place;
+use reader::take_piece;
+
+// What a line holds that a table's header or a routine's entry needs; an instruction's cells and entry are written.
+pub enum Holds {
+    // inputs and outputs
+    Ports(u32, u32),
+    // arguments, their kinds as bits, locals
+    Opens(u32, u32, u32),
+    // the words of its cells
+    Instruction(usize),
+}
+
+// What the line holds, and the place past it.
+pub struct WrittenLine {
+    pub holds: Holds,
+    pub next: Place,
+}
+
+// The fields after a line's letter. Another letter is none, which question 2 rules out.
+fn write_rest(
+    s: &[u8],
+    t: &mut [u32],
+    place: Place,
+    stop: u8,
+    letter: u8,
+    e: usize,
+    a: usize,
+) -> WrittenLine
+    requires { ⌜ Within (now s) (place .offset) (place .line) × (length (now s) ≤ 49152) × (e ≤ 12288) × (a ≤ 12288) ⌝ }
+    ensures { λ r. ⌜ WritesRest (readByLetter letter) (now (s .entry)) place stop e a (now (t .entry)) (now (t .exit)) r ⌝ }
+{
+    match letter {
+        80 => return hold_ports(s, place, stop),
+        82 => return hold_opens(s, place, stop),
+        83 => return write_assign(s, t, place, stop, e, a),
+        65 => return write_schedule(s, t, place, stop, e, a),
+        85 => return write_branch(s, t, place, stop, e, a),
+        71 => return write_jump(s, t, place, stop, e, a),
+        87 => return write_wait(s, t, place, stop, e, a),
+        70 => return write_fork(s, t, place, stop, e, a),
+        69 => return write_end(s, t, place, stop, e, a),
+        _ => WrittenLine {
+            holds: Holds::Instruction(0),
+            next: place,
+        },
+    }
+}
+
+// The line at a place: an instruction's entry at e, its cells from a on.
+pub fn write_line(s: &[u8], t: &mut [u32], place: Place, e: usize, a: usize) -> WrittenLine
+    requires { ⌜ Within (now s) (place .offset) (place .line) × (length (now s) ≤ 49152) × (e ≤ 12288) × (a ≤ 12288) ⌝ }
+    ensures { λ r. ⌜ WritesLine (now (s .entry)) place e a (now (t .entry)) (now (t .exit)) r ⌝ }
+{
+    let piece = take_piece(s, place);
+    let from = piece.from;
+    let to = piece.to;
+    let rest = piece.next;
+    if from < to {
+        return write_rest(s, t, rest, piece.stop, s[from], e, a);
+    }
+    WrittenLine {
+        holds: Holds::Instruction(0),
+        next: place,
+    }
+}

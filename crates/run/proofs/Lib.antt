@@ -4,3 +4,7 @@ pub mod ReadyLive
 pub mod Parents
 pub mod Invariant
 pub mod Keeping
+pub mod Placing
+pub mod PlacedSteps
+pub mod Going
+pub mod FirstReady

@@ -1,4 +1,6 @@
 // The run of the routines of an instant, instruction by instruction. `t` is the table, `m` the machine's memory.
+pub mod whole;
+
 ghost use mathlib.Core.Path.{_≡_};
 ghost use Rattle.walk.specs.Walk.{instructionAt};
 ghost use Rattle.table.specs.Decode.{tableListing};
@@ -9,6 +11,10 @@ ghost use Rattle.run.specs.Asked.{MayStep};
 use steps::Running;
 use steps::Stepped;
 use table_read::Entry;
+pub use whole::Left;
+pub use whole::Ran;
+pub use whole::run_on;
+pub use whole::run_ready;
 use words::Moment;
 
 // The instruction whose entry was read, executed. The cases are those of its number in the table.

@@ -21,7 +21,7 @@ add-live c = let few = c .before .before .before .pre .most in let room = c .bef
 returns : tie.Need-returns
 returns c = λ moment.
     let a = c .before .before .before .before .args in
-    too-many (now (a .t)) (now (a .m)) (a .running) (a .cells) (a .n) moment (c .if1 .taken)
+    too-many (now (a .t)) (now (a .m)) (a .running) (a .cells) (a .n) moment (omega (arith, c .if1 .taken))
 
 level-requires : tie.Need-level-requires
 level-requires c κs = search needs

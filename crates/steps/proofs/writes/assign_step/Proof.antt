@@ -1,6 +1,6 @@
 -- `assign_step` meets its contract.
 use denote.Ref.{now}
-use mathlib.Core.Path.{_≡_, refl, ap}
+use mathlib.Core.Path.{_≡_, refl, ap, subst}
 use Prim.Native.Nat.{ℕ, suc, _+_}
 use native.Mathlib.Numerals.{add-one}
 use native.Mathlib.Omega.{arith}
@@ -9,7 +9,11 @@ use Rattle.walk.specs.State.{Variable}
 use Rattle.table.specs.Decode.{piecesAt}
 use Rattle.scheduler.specs.Rows.{Row}
 use Rattle.scheduler.specs.Engine.{assigned}
+use Rattle.scheduler.specs.Ready.{insertAll}
+use Rattle.scheduler.specs.Triggers.{triggered}
 use Rattle.blocks.specs.Blocks.{rowsOf}
+use Rattle.ready.specs.Slots.{slotsOf}
+use Rattle.triggers.specs.Chains.{triggersAt}
 use Rattle.evaluate.proofs.Names.{names-few}
 use Rattle.steps.specs.declared.running.Running.{Running}
 use Rattle.steps.proofs.Stores.{placed-as}
@@ -62,7 +66,9 @@ returns c = λ listing moment.
     let q = placed-as (c .before .before .before .before .before .before .before .before .place .result + 1) (suc here) next (c .before .before .set-place .ensures) in
     let changed = changes-name u (a .name) binding bound few (c .before .before .before .before .before .before .before .before .before .before .before .before .before .before .before .before .before .before .before .before .before .pre .0 .runs .slot) (λ (y : Variable). assigned y value) p q
     (λ n there. assigned-all (binding .index) (bound .block) there value p) in
-    let ready = rw (c .before .before .before .before .before .before .before .before .before .before .before .before .before .low .ensures) at (c .before .before .before .before .before .before .before .before .before .before .wake .ensures .0) in
+    let woken = c .before .before .before .before .before .before .before .before .before .before .wake in
+    let low = c .before .before .before .before .before .before .before .before .before .before .before .before .before .low in
+    let ready = subst (λ (k : ℕ). slotsOf (woken .result) ≡ insertAll (rowsOf (now (a .m))) (triggered (rowsOf (now (a .m))) k (triggersAt (now (a .m)) (binding .block) (binding .index))) (slotsOf (u .ready))) (low .ensures) (woken .ensures .0) in
     assigns u (record { ready = c .before .before .before .before .before .before .before .before .before .before .wake .result; live = u .live; woken = u .woken; me = u .me }) (a .name) value
     (piecesAt (now (a .t)) (a .cells) (a .pieces)) binding changed bound few (c .before .before .before .before .before .before .before .before .before .before .before .before .before .before .before .before .before .evaluate .ensures) ready refl refl refl listing moment
 

@@ -47,7 +47,7 @@ narrow-block w small s k = go (ltb k 184)
     go false = omega arith
 
 -- The words of a block among the first 12,288.
-first-block : (w : List ℕ) (s j : ℕ) → s ≤ 64 → j < 184 → getD (take 12288 w) (blockAt s + j) 0 ≡ block w s j
+pub first-block : (w : List ℕ) (s j : ℕ) → s ≤ 64 → j < 184 → getD (take 12288 w) (blockAt s + j) 0 ≡ block w s j
 first-block w s j h l = getD-take 12288 w (blockAt s + j) 0 (omega arith) ∙ sym (block-word w s j l)
 
 nil-word : (j : ℕ) → getD {A = ℕ} [] j 0 ≡ 0
@@ -58,7 +58,7 @@ no-variables : (b : Block) → unmarked (variablesIn b 0) ≡ variablesIn b 0
 unfolding unmarked variablesIn tabulateFrom
 no-variables b = refl
 
-zero-of : (n : ℕ) → nonzero n ≡ false → n ≡ 0
+pub zero-of : (n : ℕ) → nonzero n ≡ false → n ≡ 0
 unfolding nonzero
 zero-of zero e = refl
 zero-of (suc n) e = cc

@@ -19,10 +19,10 @@ use Rattle.machine.specs.Records.{Record, recordsOfNode, recordsOf}
 use Rattle.machine.specs.Layout.{noRecord}
 
 -- ── records of what is kept ───────────────────────────────────────────────────────────────────────
-unfoldable toRecord : Kept → Record
+unfoldable pub toRecord : Kept → Record
 toRecord x = record { level = x .level; child = x .child; place = x .place; own = x .own }
 
-unfoldable toRecords : List Kept → List Record
+unfoldable pub toRecords : List Kept → List Record
 toRecords [] = []
 toRecords (x ∷ xs) = toRecord x ∷ toRecords xs
 
@@ -41,7 +41,7 @@ module _ {listing : Listing} {rest : List Variable → Bool} where
     node-records (joins {level = level} {place = place} {own = own} m e l a d) i =
         ap (λ (q : List Record). record { level = level; child = i; place = place; own = own } ∷ q) (forest-records d 0)
 
-    forest-records : {level base : ℕ} {names : List ℕ} {cs : List Call} {f : Forest} (d : LiveChildren listing rest level base names cs f) (i : ℕ) →
+    pub forest-records : {level base : ℕ} {names : List ℕ} {cs : List Call} {f : Forest} (d : LiveChildren listing rest level base names cs f) (i : ℕ) →
         recordsOf d i ≡ toRecords (keptOf d i)
     forest-records no-more i = refl
     forest-records (ended d) i = forest-records d (suc i)
@@ -51,12 +51,12 @@ module _ {listing : Listing} {rest : List Variable → Bool} where
 unfoldable pub rowRecord : Row → Record
 rowRecord r = record { level = r .level; child = r .child; place = r .place; own = r .own }
 
-kept-length : (σ : Rows) (ss : List ℕ) → length (toRecords (keptIn σ ss)) ≡ length ss
+pub kept-length : (σ : Rows) (ss : List ℕ) → length (toRecords (keptIn σ ss)) ≡ length ss
 unfolding toRecords keptIn
 kept-length σ [] = refl
 kept-length σ (s ∷ ss) = ap suc (kept-length σ ss)
 
-kept-at : (σ : Rows) (ss : List ℕ) (k : ℕ) → k < length ss → getD (toRecords (keptIn σ ss)) k noRecord ≡ rowRecord (σ (getD ss k 0))
+pub kept-at : (σ : Rows) (ss : List ℕ) (k : ℕ) → k < length ss → getD (toRecords (keptIn σ ss)) k noRecord ≡ rowRecord (σ (getD ss k 0))
 unfolding toRecords keptIn toRecord keptOfRow rowRecord
 kept-at σ [] k h = absurd (let z : ⊥ = omega arith in z)
 kept-at σ (s ∷ ss) zero h = refl

@@ -22,7 +22,7 @@ use Rattle.tidy.specs.Tidy.{TidyBlock, Blank}
 use Rattle.finishing.specs.Ended.{idleBlock}
 
 -- ── the words of a list of variables, by variable and word ────────────────────────────────────────
-unfoldable wordOf : Variable → ℕ → ℕ
+unfoldable pub wordOf : Variable → ℕ → ℕ
 wordOf x f =
     getD (x .value ∷ waitingValue (x .waiting) ∷ waitingMoment (x .waiting) % 4294967296 ∷ waitingMoment (x .waiting) / 4294967296 ∷ 0 ∷ 0 ∷ []) f 0
 
@@ -40,14 +40,14 @@ later-words : (x : Variable) (xs : List Variable) (q : ℕ) → getD (variablesW
 unfolding variablesWords
 later-words x xs q = refl
 
-words-at : (xs : List Variable) (i f : ℕ) → i < length xs → f < 6 → getD (variablesWords xs) (f + i * 6) 0 ≡ wordOf (getD xs i (fresh 0)) f
+pub words-at : (xs : List Variable) (i f : ℕ) → i < length xs → f < 6 → getD (variablesWords xs) (f + i * 6) 0 ≡ wordOf (getD xs i (fresh 0)) f
 words-at [] i f h l = absurd (let z : ⊥ = omega arith in z)
 words-at (x ∷ xs) zero f h l = let e : f + 0 * 6 ≡ f = omega arith in rw e (first-words x xs f l)
 words-at (x ∷ xs) (suc i) f h l =
     let e : f + suc i * 6 ≡ suc (suc (suc (suc (suc (suc (f + i * 6)))))) = omega arith in
     rw e (later-words x xs (f + i * 6) ∙ words-at xs i f (omega arith) l)
 
-words-past : (xs : List Variable) (q : ℕ) → length xs * 6 ≤ q → getD (variablesWords xs) q 0 ≡ 0
+pub words-past : (xs : List Variable) (q : ℕ) → length xs * 6 ≤ q → getD (variablesWords xs) q 0 ≡ 0
 words-past xs q h = List·getD-eq-default (variablesWords xs) 0 (rw (length-variablesWords xs) h)
 
 -- ── variables without marks ───────────────────────────────────────────────────────────────────────

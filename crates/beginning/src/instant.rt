@@ -1,0 +1,45 @@
+// The beginning of an instant. Rule 1 of document 01: "Every waiting write due at t is made, and is gone. Then the call's inputs
+// are written"; then the queues of the instant are made.
+ghost use mathlib.Core.Path.{_≡_};
+ghost use mathlib.Core.Bool.{true};
+ghost use Prim.Native.Nat.{_≤_};
+ghost use Rattle.walk.specs.Instant.{environmentSize};
+ghost use Rattle.table.specs.Decode.{tableListing};
+ghost use Rattle.table.specs.Question6.{isTable};
+ghost use Rattle.beginning.specs.Begun.{MayBegin, Begun};
+use crate::first_ready::first_ready;
+use filling::fill_rows;
+use instants::make_due_all;
+use instants::write_inputs;
+use ready::ReadyList;
+use triggers::list_sleepers;
+use words::Moment;
+
+// The number of environment variables.
+fn ports(t: &[u32]) -> usize
+    requires { ⌜ isTable (now t) ≡ true ⌝ }
+    ensures { λ r. ⌜ (r ≡ environmentSize (tableListing (now (t .entry)))) × (r ≤ 16) ⌝ }
+{
+    let inputs = t[0] as usize;
+    let outputs = t[1] as usize;
+    inputs + outputs
+}
+
+// Rows filled in, due writes and inputs made, sleepers listed; the routines that are ready.
+pub fn begin_instant(
+    t: &[u32],
+    m: &mut [u32],
+    present: Moment,
+    numbers: &[u32],
+    values: &[u32],
+) -> ReadyList
+    requires { ⌜ MayBegin (now t) (now m) (present .0) (now numbers) (now values) ⌝ }
+    ensures { λ r. ⌜ Begun (now (t .entry)) (now (m .entry)) (now (m .exit)) (present .0) (now (numbers .entry)) (now (values .entry)) r ⌝ }
+{
+    let n = ports(t);
+    fill_rows(t, m);
+    make_due_all(m, n, present.0);
+    write_inputs(m, numbers, values);
+    list_sleepers(m, t);
+    first_ready(t, m)
+}

@@ -1,0 +1,26 @@
+// The beginning of the start. Document 01: "The start is the instant 0, with main newly called and no inputs."
+ghost use mathlib.Core.Path.{_≡_};
+ghost use mathlib.Core.Bool.{true};
+ghost use Prim.Native.Nat.{_≤_};
+ghost use lib.ListN.{length};
+ghost use Rattle.table.specs.Question6.{isTable};
+ghost use Rattle.beginning.specs.Begun.{BegunStart};
+use filling::main_row;
+use halting::blank;
+use steps::Running;
+
+// Blank memory, main newly called in the first slot: it runs, and nobody else is ready.
+pub fn begin_start(t: &[u32], m: &mut [u32]) -> Running
+    requires { ⌜ (isTable (now t) ≡ true) × (12288 ≤ length (now m)) ⌝ }
+    ensures { λ r. ⌜ BegunStart (now (t .entry)) (now (m .entry)) (now (m .exit)) r ⌝ }
+{
+    blank(m);
+    main_row(t, m, 0);
+    let ready = ready::empty();
+    Running {
+        ready,
+        live: 1,
+        woken: 0,
+        me: 0,
+    }
+}

@@ -1,0 +1,12 @@
+pub mod Comparing
+pub mod TableSize
+pub mod Refusals
+pub mod Asking
+pub mod Calling
+pub mod Literals
+pub mod Finished
+pub mod Concluded
+pub mod Working
+pub mod Starting
+pub mod Accepted
+pub mod Ways

@@ -1,0 +1,5 @@
+pub mod Asked
+pub mod Compared
+pub mod Answers
+pub mod Conclusions
+pub mod Works

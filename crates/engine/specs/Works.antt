@@ -1,0 +1,24 @@
+-- What the work of an instant call asks for, its questions answered. Letters: t the table's words.
+use mathlib.Core.Bool.{true, false}
+use mathlib.Core.List.{List}
+use mathlib.Core.Option.{some}
+use mathlib.Core.Path.{_≡_}
+use Prim.Native.Nat.{ℕ, _≤_, _<_}
+use lib.ListN.{length, take}
+use Rattle.walk.specs.State.{State}
+use Rattle.walk.specs.Instant.{nextDue}
+use Rattle.walk.specs.Calls.{running, dueBefore, inputsRise, inputsOf}
+use Rattle.table.specs.Decode.{tableListing}
+use Rattle.table.specs.Question6.{isTable}
+use Rattle.machine.specs.ReadMachine.{readMachine}
+
+pub record MayInstant (t words : List ℕ) (moment : ℕ) (inNumbers inValues : List ℕ) (allowance : ℕ) : Type 0 where
+  pub size : 12288 ≤ length words
+  pub same : length inNumbers ≡ length inValues
+  pub table : isTable t ≡ true
+  pub state : State
+  pub stands : readMachine (tableListing t) (take 12288 words) ≡ some (running state)
+  pub later : state .now < moment
+  pub nothing-due : dueBefore (nextDue state) moment ≡ false
+  pub inputs : inputsRise ((tableListing t) .inputs) 0 (inputsOf inNumbers inValues) ≡ true
+  pub most : allowance ≤ 1000000

@@ -1,0 +1,77 @@
+// The end of a call: the stopped form, or outputs listed, the machine's words brought to rest, and the figures of the result.
+ghost use mathlib.Core.Path.{_≡_};
+ghost use Prim.Native.Nat.{_≤_};
+ghost use lib.ListN.{length};
+ghost use Rattle.machine.specs.Due.{dueAt};
+ghost use Rattle.table.specs.Decode.{tableListing};
+ghost use Rattle.engine.specs.Answers.{dueOf};
+ghost use Rattle.engine.specs.Conclusions.{Concludes, MayFinish, FinishedAs, MayConclude};
+use crate::answers::Answer;
+use crate::answers::Due;
+use crate::answers::Figures;
+use machine_words::number;
+use run::Ran;
+
+// A moment due is at least 1, so 0 means none.
+fn due_at(t: u64) -> Due
+    ensures { λ r. ⌜ dueOf r ≡ dueAt t ⌝ }
+{
+    if t == 0 {
+        return Due::Never;
+    }
+    Due::At(t)
+}
+
+// The instant at t has ended, after so many steps.
+fn finished(
+    table: &[u32],
+    machine: &mut [u32],
+    t: u64,
+    steps: u32,
+    numbers: &mut [u32],
+    values: &mut [u32],
+) -> Answer
+    requires { ⌜ (length (now table) ≡ 12288) × (MayFinish (now table) (now machine) t) × (16 ≤ length (now numbers)) × (16 ≤ length (now values)) ⌝ }
+    ensures { λ r. ⌜ ((may : MayFinish (now (table .entry)) (now (machine .entry)) t) →
+        FinishedAs (now (table .entry)) (now (machine .entry)) (now (numbers .entry)) (now (values .entry))
+        (now (machine .exit)) (now (numbers .exit)) (now (values .exit)) steps (may .state) r) ⌝ }
+{
+    let inputs = number(table[0]);
+    let outputs = number(table[1]);
+    let listed = instants::list_outputs(machine, inputs, outputs, numbers, values);
+    finishing::finish(machine, t);
+    let soonest = machine_words::due::next_due(&machine[0..12288], inputs + outputs);
+    let due = due_at(soonest);
+    Answer::Done(Figures {
+        steps,
+        listed: listed as u32,
+        due,
+    })
+}
+
+// The run of the instant at t has ended or stopped.
+pub fn conclude(
+    table: &[u32],
+    machine: &mut [u32],
+    t: u64,
+    allowance: u32,
+    ran: Ran,
+    numbers: &mut [u32],
+    values: &mut [u32],
+) -> Answer
+    requires { ⌜ (length (now table) ≡ 12288) × (MayConclude (now table) (now machine) t allowance ran) × (16 ≤ length (now numbers)) × (16 ≤ length (now values)) ⌝ }
+    ensures { λ r. ⌜ ((may : MayConclude (now (table .entry)) (now (machine .entry)) t allowance ran) →
+        Concludes (tableListing (now (table .entry))) (now (machine .entry)) (now (numbers .entry)) (now (values .entry))
+        (now (machine .exit)) (now (numbers .exit)) (now (values .exit)) (may .answer) r) ⌝ }
+{
+    match ran {
+        Ran::Halted(k) => {
+            halting::halt(machine, k);
+            return Answer::Stopped(k);
+        }
+        Ran::Ended(x) => {
+            let left = x.left;
+            return finished(table, machine, t, allowance - left, numbers, values);
+        }
+    }
+}

@@ -1,0 +1,4 @@
+pub mod Decimals
+pub mod LineBytes
+pub mod ListedWrites
+pub mod Stores

@@ -6,6 +6,7 @@ pub mod field;
 pub mod figure;
 pub mod gathering;
 pub mod kinds;
+pub mod past;
 pub mod piece;
 pub mod place;
 

@@ -4,6 +4,7 @@ ghost use Prim.Native.Nat.{_+_, _≤_};
 ghost use lib.ListN.{length, drop};
 ghost use Rattle.reader.specs.Texts.{firstPiece, endsPiece, Within};
 ghost use Rattle.reader.specs.Answers.{takenAt};
+use crate::past::place_past;
 
 // The offset of the next byte, and the number of its line, from 1.
 pub struct Place {
@@ -52,38 +53,20 @@ pub fn take_piece(s: &[u8], place: Place) -> Taken
     ensures { λ r. ⌜ r ≡ takenAt (now (s .entry)) place ⌝ }
 {
     let at = place.offset;
-    let line = place.line;
     let to = piece_end(s, at);
+    let next = place_past(s, place, to);
     if to < s.len() {
-        let b = s[to];
-        if b == 10 {
-            return Taken {
-                from: at,
-                to: to,
-                stop: b,
-                next: Place {
-                    offset: to + 1,
-                    line: line + 1,
-                },
-            };
-        }
         return Taken {
             from: at,
             to: to,
-            stop: b,
-            next: Place {
-                offset: to + 1,
-                line: line,
-            },
+            stop: s[to],
+            next: next,
         };
     }
     Taken {
         from: at,
         to: to,
         stop: 0,
-        next: Place {
-            offset: to,
-            line: line,
-        },
+        next: next,
     }
 }

@@ -1,0 +1,17 @@
+-- `reader::offset_past` meets its contract.
+use borrow.Author.Tests.{lt-ltb, le-ltb}
+use borrow.Author.Needs.{needs}
+use Rattle.reader.proofs.past.offset_past.Statement.{statement}
+use Rattle.reader.proofs.past.offset_past.Tie as tie
+
+add-result : tie.Need-add-result
+add-result c = search needs
+
+returns : tie.Need-returns
+returns c = rw (lt-ltb _ _ (c .if1 .taken))
+
+returns-2 : tie.Need-returns-2
+returns-2 c = rw (le-ltb _ _ (c .if1 .left))
+
+pub offset-past-spec : {M : Type 1} → statement M
+offset-past-spec = tie.close (tie.spec add-result returns returns-2)

@@ -10,7 +10,7 @@ use Rattle.walk_laws.specs.Causes.{StartCause, InstantCause, ComparedCause}
 use Rattle.walk_laws.proofs.Causes.{start-exactly-if}
 use Rattle.walk_laws.proofs.ComparedCauses.{comparison-exactly-if}
 use Rattle.promises.proofs.Causes.{instant-has-one-cause}
-use Rattle.board.specs.Board.{layout}
+use Rattle.layout.specs.Layout.{layout}
 use Rattle.board.proofs.LayoutIsExact.{layout-is-exact}
 
 -- 0, 1, 6, 12 and 13 to 17

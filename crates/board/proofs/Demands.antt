@@ -1,6 +1,5 @@
 -- The demands, as they stand for our board: the file to open first. Nothing that a reader must believe stands here: the definitions are in
 -- `listing` and `walk` (the text, the walk, the calls' promises, boards), `halves` and `board_halves` (demand 3's terms).
--- Open: the code of the loader's writing, the start and the instant call, which is to keep these promises (docs/PROOFS.md).
 use mathlib.Core.List.{List, List·Memᴰ}
 use mathlib.Core.Path.{_≡_}
 use Rattle.listing.specs.Listing.{Listing, Call}
@@ -9,8 +8,31 @@ use Rattle.halves.specs.Halves.{onlyOf}
 use Rattle.board_halves.specs.Boards.{BoardRunFor, BoardsAgree, boardWrites}
 use Rattle.promises.proofs.Board.{BoardSession, board-session}
 use Rattle.board_halves.proofs.Demand3 as Halves
-use Rattle.board.specs.Board.{layout}
+use Rattle.layout.specs.Layout.{layout}
+use Rattle.load.proofs.loading.load.Statement as Load
+use Rattle.load.proofs.loading.load.Met as load
+use Rattle.engine.proofs.calls.start.Statement as Start
+use Rattle.engine.proofs.calls.start.Met as start
+use Rattle.engine.proofs.calls.instant.Statement as Instant
+use Rattle.engine.proofs.calls.instant.Met as instant
+use Rattle.engine.proofs.comparison.alike.Statement as Alike
+use Rattle.engine.proofs.comparison.alike.Met as alike
 use Rattle.board.proofs.LayoutIsExact.{layout-is-exact}
+
+-- Demand 1: every call, of any memories and under no condition, ends and answers with the defined outcome. The statements are the
+-- functions' own contracts, in crates/load/src and crates/engine/src: walk `LoadPromise`, `StartPromise`, `InstantPromise` and `alikeCall`
+-- with our layout. With `starts-by-cause`, `answers-by-cause` and `compares-by-cause` (Causes) each number has its one cause.
+pub every-load-answers-as-defined : {M : Type 1} → Load.statement M
+every-load-answers-as-defined = load.met
+
+pub every-start-answers-as-defined : {M : Type 1} → Start.statement M
+every-start-answers-as-defined = start.met
+
+pub every-instant-answers-as-defined : {M : Type 1} → Instant.statement M
+every-instant-answers-as-defined = instant.met
+
+pub every-comparison-answers-as-defined : {M : Type 1} → Alike.statement M
+every-comparison-answers-as-defined = alike.met
 
 -- Demand 2, the session clause: over any list of calls from the start, refused ones among them, whose calls keep their promises,
 -- results, lists and states are the walk's on the lines of the listing loaded.

@@ -21,7 +21,7 @@ use Rattle.table.specs.Question6.{isTable, readTable}
 use Rattle.table.specs.Decode.{tableListing}
 use Rattle.machine.proofs.Basics.{and-left, and-right}
 use Rattle.machine.proofs.MachineWords.{running-first-word-is-0}
-use Rattle.board.specs.Board.{layout}
+use Rattle.layout.specs.Layout.{layout}
 use Rattle.engine.proofs.Ways.{StateWay, not-after, due-before, not-rising, walks, InstantWay, no-state, stopped-before, from-state, instant-way, start-way}
 use Rattle.engine.proofs.Ways as ways
 use Rattle.engine.specs.declared.answers.Answer.{Answer}

@@ -18,7 +18,7 @@ use Rattle.table.specs.Decode.{tableListing}
 use Rattle.machine.specs.Records.{stateFrom}
 use Rattle.machine.specs.Words.{momentAt, variableIn, variablesIn, stateOf}
 use Rattle.machine.specs.ReadMachine.{readMachine}
-use Rattle.board.specs.Board.{layout}
+use Rattle.layout.specs.Layout.{layout}
 use Rattle.engine.specs.Asked.{machineRefusal, pairRefusal}
 use Rattle.engine.proofs.Refusals.{read-by-refusal}
 

@@ -13,7 +13,7 @@ use Rattle.walk.specs.Calls.{Machine, halted, running, Outcome, refused, found,
 use Rattle.table.specs.Decode.{tableListing}
 use Rattle.machine.specs.Words.{stateOf}
 use Rattle.machine.specs.ReadMachine.{readMachine}
-use Rattle.board.specs.Board.{layout}
+use Rattle.layout.specs.Layout.{layout}
 
 -- 7 and 8, of what a machine's words stand for.
 unfoldable pub machineRefusal : Option Machine → ℕ

@@ -8,7 +8,7 @@ ghost use Rattle.walk.specs.Calls.{inputsOf};
 ghost use Rattle.walk.specs.Promises.{StartPromise, InstantPromise};
 ghost use Rattle.table.specs.Decode.{tableListing};
 ghost use Rattle.table.specs.Question6.{isTable};
-ghost use Rattle.board.specs.Board.{layout};
+ghost use Rattle.layout.specs.Layout.{layout};
 ghost use Rattle.engine.specs.Answers.{resultOf};
 ghost use Rattle.engine.specs.Conclusions.{Concludes};
 ghost use Rattle.engine.specs.Works.{MayInstant};

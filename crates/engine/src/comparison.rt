@@ -9,7 +9,7 @@ ghost use Rattle.table.specs.Question6.{isTable};
 ghost use Rattle.table.specs.Decode.{tableListing};
 ghost use Rattle.machine.specs.Words.{stateOf, variablesIn};
 ghost use Rattle.machine.specs.ReadMachine.{readMachine};
-ghost use Rattle.board.specs.Board.{layout};
+ghost use Rattle.layout.specs.Layout.{layout};
 ghost use Rattle.engine.specs.Compared.{comparedOf};
 ghost use Rattle.engine.specs.Asked.{pairRefusal};
 use crate::questions::MEMORY;

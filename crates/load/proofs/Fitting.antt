@@ -1,8 +1,8 @@
 -- The lines of a listing that meets its conditions have figures that fit their words.
-use mathlib.Core.Path.{_≡_, refl}
+use mathlib.Core.Path.{_≡_}
 use mathlib.Core.Bool.{Bool, true, not}
 use mathlib.Core.List.{List, [], _∷_, _++_, map}
-use Prim.Native.Nat.{ℕ, suc, _+_, _≤_, _<_}
+use Prim.Native.Nat.{ℕ, suc, _+_, _≤_}
 use native.Mathlib.Omega.{arith}
 use lib.Dec.{leb}
 use lib.ListN.{length, length-append}
@@ -10,7 +10,7 @@ use borrow.Author.Tests.{leb-true}
 use Rattle.listing.specs.Lists.{all, isEmpty, allYes}
 use Rattle.listing.specs.Listing.{Instruction, Line, ports, opens, instruction, Routine, Listing, nameCount, routineLines, linesOf}
 use Rattle.listing.specs.Questions.{isThere, opensAsStated, routinesThere, thereAnswers}
-use Rattle.listing.proofs.Tests.{and-left, and-right, all-head, all-tail, all-left, all-right}
+use Rattle.listing.proofs.Tests.{and-left, and-right, all-head, all-tail, all-right}
 use Rattle.table.specs.Areas.{allCode}
 use Rattle.table.proofs.Table.{Meets}
 use Rattle.table.proofs.Bounds.{main-ports, routines-some}

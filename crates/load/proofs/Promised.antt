@@ -1,11 +1,11 @@
 -- What the loader has done is what it promises.
-use mathlib.Core.Path.{_≡_, refl, sym, ap, _∙_}
-use mathlib.Core.Bool.{Bool, true}
+use mathlib.Core.Path.{_≡_, refl, sym}
+use mathlib.Core.Bool.{true}
 use mathlib.Core.List.{List, _++_}
 use Prim.Native.Nat.{ℕ, _≤_}
 use native.Mathlib.Omega.{arith}
 use lib.ListN.{length, take, drop, length-append, length-drop}
-use lib.Seq.{take-at, drop-at, length-take-le}
+use lib.Seq.{take-at, drop-at}
 use borrow.Author.Tests.{leb-true}
 use Rattle.listing.specs.Load.{loading, refused, loaded, Loads, isLongEnough}
 use Rattle.listing.specs.Questions.{listingIn}
@@ -13,7 +13,7 @@ use Rattle.listing.proofs.Causes.{loaded-exactly-if}
 use Rattle.walk.specs.Promises.{untouched, holds, LoadPromise}
 use Rattle.table.specs.Areas.{tableWords}
 use Rattle.table.proofs.Question6.{table-read-exactly-if}
-use Rattle.board.specs.Board.{layout}
+use Rattle.layout.specs.Layout.{layout}
 
 module _ (s before : List ℕ) where
   pub kept : (number place : ℕ) → refused number place ≡ loading (isLongEnough before) s → LoadPromise layout s before before (refused number place)

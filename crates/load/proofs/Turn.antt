@@ -6,9 +6,7 @@ use mathlib.Core.Option.{some}
 use Prim.Native.Nat.{ℕ, _+_, _*_, _≤_, _<_}
 use native.Mathlib.Omega.{arith}
 use lib.ListN.{length, drop, length-append}
-use lib.Seq.{sets}
 use borrow.Author.Tests.{eqb-true, leb-true}
-use Rattle.listing.specs.Lists.{lastOr}
 use Rattle.listing.specs.Listing as L
 use Rattle.listing.specs.Load.{Loads}
 use Rattle.listing.specs.Form.{mayStandOn}
@@ -21,7 +19,7 @@ use Rattle.reader.specs.Texts.{lineEnd}
 use Rattle.reader.specs.Answers.{passed}
 use Rattle.reader.specs.declared.place.Place.{Place}
 use Rattle.records.specs.Onward.{recordsFrom}
-use Rattle.records.specs.Records.{asRecord, asLine, lineAnswer}
+use Rattle.records.specs.Records.{asLine}
 use Rattle.records.specs.declared.line.Line.the-variants as LV
 use Rattle.records.proofs.Lines.{NextLine, next-line}
 use Rattle.load.specs.Growing.{openedWith, withInstruction, lastCode, withLine, withLines}
@@ -32,7 +30,7 @@ use Rattle.writer.specs.declared.line.Holds.{Holds}
 use Rattle.writer.specs.declared.line.Holds.the-variants as HV
 use Rattle.writer.specs.declared.line.WrittenLine.{WrittenLine}
 use Rattle.load.specs.declared.progress.Progress.{Progress}
-use Rattle.load.proofs.Growing.{last-code, last-code-few, added, Grows, line-grows, lines-grow}
+use Rattle.load.proofs.Growing.{last-code, last-code-few, added, Grows, lines-grow}
 use Rattle.load.proofs.Words.{ports-written, opens-written, instruction-written}
 use Rattle.load.proofs.Beginning.{meets-all}
 

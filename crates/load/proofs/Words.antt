@@ -1,16 +1,16 @@
 -- One line more in the table's words.
 use mathlib.Core.Path.{_≡_, refl, sym, ap, _∙_}
 use mathlib.Core.List.{List, [], _∷_, _++_, append-assoc, append-nil}
-use Prim.Native.Nat.{ℕ, zero, suc, _+_, _*_, _-_, _≤_, _<_}
+use Prim.Native.Nat.{ℕ, _+_, _*_, _-_, _≤_, _<_}
 use native.Mathlib.Omega.{arith}
-use lib.ListN.{length, set, replicate, length-append, length-replicate, replicate-append-replicate}
+use lib.ListN.{length, set, replicate, length-append, replicate-append-replicate}
 use lib.Seq.{sets, set-at}
 use Rattle.listing.specs.Listing.{Instruction, Kind, Routine, Listing, ports, opens, instruction}
 use Rattle.table.specs.Areas.{cellWords, entryWords, allCells, allEntries, kindBits, routineWords, allRoutines, allCode, padded, headerWords, laidOut, tableWords, wordsOfEach}
 use Rattle.table.proofs.Lengths.{pad-length, routine-five, routines-length, entries-length}
 use Rattle.table.proofs.Append.{routines-append, instruction-more, routine-more, code-append}
 use Rattle.load.specs.Growing.{openedWith, extended, withInstruction, lastCode, nothingSaid, withLine}
-use Rattle.load.proofs.Growing.{with-instruction-last, last-code, Split, split, code-extended}
+use Rattle.load.proofs.Growing.{with-instruction-last, last-code, split, code-extended}
 
 -- ── the header ───────────────────────────────────────────────────────────────────
 module _ (i o n : ℕ) (r e c : List ℕ) where

@@ -1,7 +1,7 @@
 // Loading: questions 1 to 5, then the table.
 ghost use Rattle.walk.specs.Promises.{LoadPromise};
 ghost use Rattle.loader.specs.Outcome.{outcomeOf};
-ghost use Rattle.board.specs.Board.{layout};
+ghost use Rattle.layout.specs.Layout.{layout};
 use crate::writing::write_table;
 use loader::Loaded;
 use loader::put_questions;

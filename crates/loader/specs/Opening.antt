@@ -1,6 +1,6 @@
 -- "The file begins with the bytes `P`, tab".
 use mathlib.Core.Bool.{Bool, true, false, _&&_}
-use mathlib.Core.List.{List, [], _∷_}
+use mathlib.Core.List.{[], _∷_}
 use lib.Dec.{eqb}
 use Rattle.listing.specs.Bytes.{Bytes}
 

@@ -1,6 +1,4 @@
 -- The outcome that the loader's answer to a text reports.
-use mathlib.Core.List.{List}
-use Prim.Native.Nat.{ℕ}
 use Rattle.listing.specs.Bytes.{Bytes}
 use Rattle.listing.specs.Load.{Loading, refused, loaded}
 use Rattle.listing.specs.Questions.{listingIn}

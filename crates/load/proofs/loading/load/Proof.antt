@@ -1,61 +1,46 @@
---HEAD
 -- `load::load` meets its contract.
-use mathlib.Core.Path.{_≡_, sym, ap, _∙_}
+use mathlib.Core.Path.{sym, ap, _∙_}
 use denote.Ref.{now}
 use lib.Seq.{length-take-le}
 use Rattle.loader.specs.Outcome.{outcomeOf}
 use Rattle.load.proofs.Promised as promised
---ENDHEAD
 use borrow.Author.Needs.{needs}
 use Rattle.load.proofs.loading.load.Statement.{statement}
 use Rattle.load.proofs.loading.load.Tie as tie
-use Rattle.load.proofs.loading.load.Reads as reads
-use Rattle.load.proofs.loading.load.Lts as lts
-use Rattle.load.proofs.writing.write_table.Reads as write-table-reads
-use Rattle.loader.proofs.questions.put_questions.Reads as put-questions-reads
 
--- src/loading.rt:14:9
 put-questions-requires : tie.Need-put-questions-requires
 put-questions-requires c κs = search needs
 
--- src/loading.rt:16:25
 enum-known-answer : tie.Need-enum-known-answer
 enum-known-answer c = search needs
 
--- src/loading.rt:18:34
 enum-told : tie.Need-enum-told
 enum-told c = search needs
 
--- src/loading.rt:18:34
 slice-relend-prefix-write-table : tie.Need-slice-relend-prefix-write-table
 slice-relend-prefix-write-table c =
     let a = c .before .before .before .before .before .args in
     promised.long (now (a .listing)) (now (a .table)) (ap (outcomeOf (now (a .listing))) (sym (c .enum-told .given .1)) ∙ c .before .before .put-questions .ensures)
 
--- src/loading.rt:18:34
 slice-aggregate-write-table : tie.Need-slice-aggregate-write-table
 slice-aggregate-write-table c =
     let a = c .before .before .before .before .before .before .args in
     sym (length-take-le 12288 (now (a .table)) (promised.long (now (a .listing)) (now (a .table)) (ap (outcomeOf (now (a .listing))) (sym (c .before .enum-told .given .1)) ∙ c .before .before .before .put-questions .ensures)))
 
--- src/loading.rt:18:13
 write-table-requires : tie.Need-write-table-requires
 write-table-requires c κs =
     let a = c .before .before .before .before .before .before .args in
     let e = ap (outcomeOf (now (a .listing))) (sym (c .before .enum-told .given .1)) ∙ c .before .before .before .put-questions .ensures in
     (promised.loads (now (a .listing)) (now (a .table)) e, length-take-le 12288 (now (a .table)) (promised.long (now (a .listing)) (now (a .table)) e))
 
--- src/loading.rt:10:1
 returns : tie.Need-returns
 returns c =
     let a = c .before .before .before .before .before .before .args in
     promised.kept (now (a .listing)) (now (a .table)) _ _ (ap (outcomeOf (now (a .listing))) (sym (c .before .answer .given .1)) ∙ c .before .before .before .put-questions .ensures)
 
--- src/loading.rt:10:1
 same-length : tie.Need-same-length
 same-length c = search needs
 
--- src/loading.rt:10:1
 returns-2 : tie.Need-returns-2
 returns-2 c =
     let a = c .before .before .before .before .before .before .before .before .before .args in

@@ -1,109 +1,76 @@
---HEAD
 -- `load::enter` meets its contract.
-use mathlib.Core.Path.{ap, _∙_}
-use mathlib.Core.List.{List}
-use Prim.Native.Nat.{ℕ}
-use lib.ListN.{set}
---ENDHEAD
 use borrow.Author.Needs.{needs}
 use Rattle.load.proofs.progress.enter.Statement.{statement}
 use Rattle.load.proofs.progress.enter.Tie as tie
-use Rattle.load.proofs.progress.enter.Reads as reads
-use Rattle.load.proofs.progress.enter.Lts as lts
-use Rattle.writer.proofs.put.put.Reads as put-reads
-use Rattle.writer.proofs.put.put_entry.Reads as put-entry-reads
 
--- src/progress.rt:28:22
 enum-known-holds : tie.Need-enum-known-holds
 enum-known-holds c = search needs
 
--- src/progress.rt:29:13
 put-requires : tie.Need-put-requires
 put-requires c κs = search needs
 
--- src/progress.rt:30:13
 put-requires-2 : tie.Need-put-requires-2
 put-requires-2 c κs = search needs
 
--- src/progress.rt:32:22
 enum-known-holds-2 : tie.Need-enum-known-holds-2
 enum-known-holds-2 c = search needs
 
--- src/progress.rt:35:21
 mul-put-entry : tie.Need-mul-put-entry
 mul-put-entry c = search needs
 
--- src/progress.rt:35:17
 add-put-entry : tie.Need-add-put-entry
 add-put-entry c = search needs
 
--- src/progress.rt:39:17
 cast-put-entry : tie.Need-cast-put-entry
 cast-put-entry c = search needs
 
--- src/progress.rt:33:13
 put-entry-requires : tie.Need-put-entry-requires
 put-entry-requires c κs = search needs
 
--- src/progress.rt:42:24
 add-put : tie.Need-add-put
 add-put c = search needs
 
--- src/progress.rt:42:23
 cast-put : tie.Need-cast-put
 cast-put c = search needs
 
--- src/progress.rt:42:13
 put-requires-3 : tie.Need-put-requires-3
 put-requires-3 c κs = search needs
 
--- src/progress.rt:45:17
 enum-told : tie.Need-enum-told
 enum-told c = search needs
 
--- src/progress.rt:45:24
 mul-put : tie.Need-mul-put
 mul-put c = search needs
 
--- src/progress.rt:45:20
 add-put-2 : tie.Need-add-put-2
 add-put-2 c = search needs
 
--- src/progress.rt:45:39
 add-put-3 : tie.Need-add-put-3
 add-put-3 c = search needs
 
--- src/progress.rt:45:38
 cast-put-2 : tie.Need-cast-put-2
 cast-put-2 c = search needs
 
--- src/progress.rt:45:13
 put-requires-4 : tie.Need-put-requires-4
 put-requires-4 c κs = search needs
 
--- src/progress.rt:20:1
 same-length : tie.Need-same-length
 same-length c = search needs
 
--- src/progress.rt:20:1
 returns : tie.Need-returns
 returns c =
     rw (c .before .before .before .before .before .before .before .before .before .holds .given .1, c .before .before .put2 .ensures, c .before .before .before .before .before .before .put .ensures)
 
--- src/progress.rt:20:1
 same-length-2 : tie.Need-same-length-2
 same-length-2 c = search needs
 
--- src/progress.rt:20:1
 returns-2 : tie.Need-returns-2
 returns-2 c =
     rw (c .before .before .before .before .before .before .before .before .before .holds2 .given .1, c .before .before .put3 .ensures, c .before .before .before .before .before .before .put-entry .ensures)
 
--- src/progress.rt:20:1
 same-length-3 : tie.Need-same-length-3
 same-length-3 c = search needs
 
--- src/progress.rt:20:1
 returns-3 : tie.Need-returns-3
 returns-3 c =
     rw (c .before .before .before .before .enum-told .given .1) (c .before .before .put4 .ensures)

@@ -1,14 +1,10 @@
---HEAD
 -- `loader::begins_with` meets its contract.
 use Prim.Native.Nat.{_-_}
 use lib.ListN.{length}
 use Rattle.loader.proofs.Comparing as laws
---ENDHEAD
 use borrow.Author.Needs.{needs}
 use Rattle.loader.proofs.opening.begins_with.Statement.{statement}
 use Rattle.loader.proofs.opening.begins_with.Tie as tie
-use Rattle.loader.proofs.opening.begins_with.Reads as reads
-use Rattle.loader.proofs.opening.begins_with.Lts as lts
 
 abbrev Inv-loop : tie.InvT-loop
 Inv-loop s opening i₀ i =
@@ -18,42 +14,33 @@ abbrev μ-loop : tie.MeasureT-loop
 μ-loop s opening i₀ i =
     length opening - i
 
--- src/opening.rt:12:5
 loop-holds : tie.Need-loop-holds Inv-loop μ-loop
 loop-holds c = search needs
 
--- src/opening.rt:14:13
 returns : tie.Need-returns Inv-loop μ-loop
 returns c =
     laws.too-short _ _ _ (c .before .before .loop .inv) (c .before .loop-test .taken) (c .if1 .taken)
 
--- src/opening.rt:16:12
 shared-slice-read-if2 : tie.Need-shared-slice-read-if2 Inv-loop μ-loop
 shared-slice-read-if2 c = search needs
 
--- src/opening.rt:16:26
 shared-slice-read-if2-2 : tie.Need-shared-slice-read-if2-2 Inv-loop μ-loop
 shared-slice-read-if2-2 c = search needs
 
--- src/opening.rt:17:13
 returns-2 : tie.Need-returns-2 Inv-loop μ-loop
 returns-2 c =
     laws.another _ _ _ (c .before .before .before .before .before .loop .inv) (c .before .before .before .before .loop-test .taken) (c .before .before .before .if1 .left) (c .if2 .taken)
 
--- src/opening.rt:19:9
 add-i : tie.Need-add-i Inv-loop μ-loop
 add-i c = search needs
 
--- src/opening.rt:12:5
 loop-less : tie.Need-loop-less Inv-loop μ-loop
 loop-less c = search needs
 
--- src/opening.rt:12:5
 loop-again : tie.Need-loop-again Inv-loop μ-loop
 loop-again c =
     laws.comparing-on _ _ _ (c .before .before .before .before .before .loop .inv) (c .before .before .before .before .loop-test .taken) (c .before .before .before .if1 .left) (c .if2 .left)
 
--- src/opening.rt:8:1
 returns-3 : tie.Need-returns-3 Inv-loop μ-loop
 returns-3 c =
     laws.all-compared _ _ _ (c .before .loop .inv) (c .loop-test .left)

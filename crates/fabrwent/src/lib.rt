@@ -1,0 +1,12 @@
+// The exported library: what a program in C or Rust calls (include/fabrwent.h). A slice passes as a pointer and a length.
+// No call asks anything of its caller; each takes any memory, and ends.
+pub mod calls;
+pub mod loading;
+
+pub use calls::FabrwentAlike;
+pub use calls::FabrwentCall;
+pub use calls::fabrwent_alike;
+pub use calls::fabrwent_instant;
+pub use calls::fabrwent_start;
+pub use loading::FabrwentLoad;
+pub use loading::fabrwent_load;

@@ -1,0 +1,301 @@
+//! The benchmark: the library beside a plain Rust queue engine, in one run, printed as a page.
+
+use crate::board::{self, Outputs};
+use crate::layout::WORDS;
+use crate::listing::{self, Program};
+use crate::plain::Plain;
+use crate::stack;
+use std::hint::black_box;
+
+const ROUNDS: usize = 31;
+const ROUND_NANOSECONDS: f64 = 10e6;
+
+/// Listing A of document 01.
+const PRESS: &str = "P\t1\t1\nR\trr\t0\nW\t0\nS\t1\t#1\nA\t1\t#60000\t#0\nW\t1\nG\t0\n";
+/// As many turns as input 0 says, four steps each.
+const SUMS: &str = "P\t1\t1\nR\trr\t2\nW\t0\nS\t2\t#0\nU\t2 0 <\t0\nS\t3\t3 2 +\nS\t2\t2 #1 +\nG\t2\n";
+/// As many turns as input 0 says, each a fork of two children that end at once: five steps.
+const FORKS: &str =
+    "P\t1\t1\nR\trr\t1\nW\t0\nS\t2\t0\nU\t2\t0\nF\t1 2\t2 1\nS\t2\t2 #1 -\nG\t2\nR\tv\t1\nE\nR\tr\t1\nE\n";
+
+/// The memories of one board.
+struct Lent {
+    table: Vec<u32>,
+    machine: Vec<u32>,
+    out: Outputs,
+}
+
+/// The processor time of this process, in nanoseconds, so that other work on the machine counts
+/// little.
+fn processor_time() -> u64 {
+    #[repr(C)]
+    struct Time {
+        seconds: i64,
+        nanoseconds: i64,
+    }
+    extern "C" {
+        fn clock_gettime(clock: i32, time: *mut Time) -> i32;
+    }
+    const CLOCK_PROCESS_CPUTIME_ID: i32 = 2;
+    let mut time = Time { seconds: 0, nanoseconds: 0 };
+    // SAFETY: the C library's function, on a struct laid out as its timespec on x86-64 Linux.
+    let answered = unsafe { clock_gettime(CLOCK_PROCESS_CPUTIME_ID, &mut time) };
+    assert_eq!(answered, 0);
+    (time.seconds * 1_000_000_000 + time.nanoseconds) as u64
+}
+
+/// The time of a turn, over so many turns.
+fn taken(work: &mut dyn FnMut(), turns: usize) -> f64 {
+    let began = processor_time();
+    (0..turns).for_each(|_| work());
+    (processor_time() - began) as f64 / turns as f64
+}
+
+/// So many turns that a round is long enough to be measured.
+fn turns(work: &mut dyn FnMut()) -> usize {
+    let once = taken(work, 10).max(10.0);
+    ((ROUND_NANOSECONDS / once) as usize).clamp(1, 1_000_000)
+}
+
+/// The least time of a turn of each, in nanoseconds, over several rounds that take turns.
+fn beside<const N: usize>(mut works: [&mut dyn FnMut(); N]) -> [f64; N] {
+    let turns: Vec<usize> = works.iter_mut().map(|work| turns(work)).collect();
+    let mut least = [f64::INFINITY; N];
+    for _ in 0..ROUNDS {
+        for k in 0..N {
+            least[k] = taken(works[k], turns[k]).min(least[k]);
+        }
+    }
+    least
+}
+
+fn program(text: &[u8]) -> Program {
+    listing::load(text).expect("the benchmark's listings load")
+}
+
+/// A board on which a listing was loaded and started.
+fn started(text: &[u8]) -> Lent {
+    let out = Outputs { numbers: vec![0; 16], values: vec![0; 16] };
+    let mut lent = Lent { table: vec![0; WORDS], machine: vec![0; WORDS], out };
+    assert_eq!(board::load(text, &mut lent.table).number, 0);
+    assert_eq!(board::start(&lent.table, &mut lent.machine, &mut lent.out, 1_000_000).number, 0);
+    lent
+}
+
+fn instant(lent: &mut Lent, t: u64, inputs: (&[u32], &[u32]), allowance: u32) -> board::Ran {
+    board::instant(&lent.table, &mut lent.machine, t, inputs, &mut lent.out, allowance)
+}
+
+/// The library and the plain engine on one listing, both started.
+struct Pair {
+    lent: Lent,
+    plain: Plain,
+}
+
+impl Pair {
+    fn started(text: &str) -> Pair {
+        let mut plain = Plain::new(&program(text.as_bytes()));
+        assert_eq!(plain.start(1_000_000).number, 0);
+        Pair { lent: started(text.as_bytes()), plain }
+    }
+}
+
+/// Time of a step, of both: the difference of two instants, over the difference of their steps.
+fn step_time(text: &str, few: (&[u32], &[u32]), many: (&[u32], &[u32])) -> (f64, f64) {
+    let (mut less, mut more) = (Pair::started(text), Pair::started(text));
+    let mut moments = [0; 4];
+    let mut steps = [0; 4];
+    let [t, u, v, w] = &mut moments;
+    let [a, b, c, d] = &mut steps;
+    let library = |lent: &mut Lent, t: &mut u64, inputs| {
+        *t += 1;
+        instant(lent, *t, inputs, 1_000_000).steps
+    };
+    let peer = |plain: &mut Plain, t: &mut u64, inputs: (&[u32], &[u32])| {
+        *t += 1;
+        plain.instant(*t, inputs.0, inputs.1, 1_000_000).steps
+    };
+    let times = beside([
+        &mut || *a = library(&mut less.lent, t, few),
+        &mut || *b = library(&mut more.lent, u, many),
+        &mut || *c = peer(&mut less.plain, v, few),
+        &mut || *d = peer(&mut more.plain, w, many),
+    ]);
+    assert_eq!(steps[..2], steps[2..]);
+    let between = (steps[1] - steps[0]) as f64;
+    ((times[1] - times[0]) / between, (times[3] - times[2]) / between)
+}
+
+/// Input 0 says how many turns are made.
+fn step_times(text: &str) -> (f64, f64) {
+    step_time(text, (&[0], &[100]), (&[0], &[20_000]))
+}
+
+/// Every third step wakes: 56 sleepers, less an instant that wakes nobody.
+fn waking_times() -> (f64, f64) {
+    step_time(&sleepers("R\trr\t0\nW\t0\nS\t1\t1 #1 +\nG\t0\n"), (&[], &[]), (&[0], &[1]))
+}
+
+/// Main, 7 children and 56 grandchildren, which run the routine given.
+fn sleepers(leaf: &str) -> String {
+    let middle = format!("R\trr\t14\nF{}\nG\t0\n", "\t2 0 1".repeat(8));
+    format!("P\t1\t1\nR\trr\t14\nF{}\nG\t0\n{middle}{leaf}", "\t1 0 1".repeat(7))
+}
+
+/// A press and its timeout, turn by turn.
+fn small_instants() -> (f64, f64) {
+    let Pair { mut lent, mut plain } = Pair::started(PRESS);
+    let (mut t, mut due) = (0, None);
+    let (mut peer_t, mut peer_due) = (0, None);
+    let [library, peer] = beside([
+        &mut || {
+            let inputs: &[u32] = if due.is_none() { &[1] } else { &[] };
+            t = due.unwrap_or(t + 1);
+            let ran = instant(&mut lent, t, (&[0][..inputs.len()], inputs), 10_000);
+            assert_eq!(ran.number, 0);
+            due = (ran.due_known == 1).then_some(ran.due);
+        },
+        &mut || {
+            let inputs: &[u32] = if peer_due.is_none() { &[1] } else { &[] };
+            peer_t = peer_due.unwrap_or(peer_t + 1);
+            let ran = plain.instant(peer_t, &[0][..inputs.len()], inputs, 10_000);
+            assert_eq!(ran.number, 0);
+            peer_due = ran.due;
+        },
+    ]);
+    (library, peer)
+}
+
+/// A table with all its instructions in use and nearly all its cells, a machine of 64 routines.
+fn full() -> String {
+    let sums = "S\t2\t2 #-2147483648 - 3 + 2 *\n".repeat(505);
+    sleepers(&format!("R\trr\t14\nW\t0 1\nG\t0\n{sums}E\n"))
+}
+
+/// Three scans of both memories, word by word.
+fn three_scans(table: &[u32], machine: &[u32]) {
+    for memory in [table, machine, table, machine, table, machine] {
+        let mut zeros = 0;
+        for word in memory {
+            // SAFETY: a reference to a word of the slice. Volatile: one load a word.
+            zeros += (unsafe { std::ptr::read_volatile(word) } == 0) as u32;
+        }
+        black_box(zeros);
+    }
+}
+
+/// Calls that have nothing to do, and three scans.
+fn idle_calls(text: &str) -> (f64, f64) {
+    let mut lent = started(text.as_bytes());
+    let (table, machine) = (lent.table.clone(), lent.machine.clone());
+    let mut t = 0;
+    let mut idle = || {
+        t += 1;
+        assert_eq!(instant(&mut lent, t, (&[], &[]), 10).number, 0);
+    };
+    let [library, scans] = beside([&mut idle, &mut || three_scans(&table, &machine)]);
+    (library, scans)
+}
+
+/// Calls refused with 12, after every other question, and three scans.
+fn refused_calls(text: &str) -> (f64, f64) {
+    let mut lent = started(text.as_bytes());
+    let (table, machine) = (lent.table.clone(), lent.machine.clone());
+    let mut refused = || assert_eq!(instant(&mut lent, 1, (&[], &[]), 0).number, 12);
+    let [library, scans] = beside([&mut refused, &mut || three_scans(&table, &machine)]);
+    (library, scans)
+}
+
+fn load_times(text: &str) -> (f64, f64) {
+    let mut table = vec![0; WORDS];
+    let [library, peer] = beside([&mut || assert_eq!(board::load(text.as_bytes(), &mut table).number, 0), &mut || {
+        drop(black_box(Plain::new(&program(text.as_bytes()))))
+    }]);
+    (library / text.len() as f64, peer / text.len() as f64)
+}
+
+/// The most stack that each call used over the benchmark's listings.
+fn stacks() -> [(&'static str, usize); 4] {
+    let (mut load, mut start, mut tick, mut alike) = (0, 0, 0, 0);
+    for text in [PRESS, SUMS, FORKS, &full()] {
+        let mut lent = started(text.as_bytes());
+        let Lent { table, machine, out } = &mut lent;
+        load = load.max(stack::used(|| {
+            black_box(board::load(text.as_bytes(), table));
+        }));
+        start = start.max(stack::used(|| {
+            black_box(board::start(table, machine, out, 10_000));
+        }));
+        tick = tick.max(stack::used(|| {
+            black_box(board::instant(table, machine, 1, (&[0], &[3]), out, 10_000));
+        }));
+        assert_eq!(machine[1], 1, "the measured instant ran");
+        let again = machine.clone();
+        alike = alike.max(stack::used(|| {
+            black_box(board::alike(table, machine, &again));
+        }));
+    }
+    [("load", load), ("start", start), ("instant", tick), ("alike", alike)]
+}
+
+fn machine_line() -> String {
+    let cpu = std::fs::read_to_string("/proc/cpuinfo").unwrap_or_default();
+    let model = cpu.lines().find_map(|line| line.strip_prefix("model name")).unwrap_or(": unknown processor");
+    let cores = std::thread::available_parallelism().map_or(0, |n| n.get());
+    format!("{}, {cores} cores, x86-64 Linux", model.trim_start_matches([' ', '\t', ':']))
+}
+
+const STEP_AIM: f64 = 1.5;
+const FIXED_AIM: f64 = 1.0;
+const STACK_AIM: usize = 8_192;
+
+/// One line of a table; `aim` is the largest ratio.
+fn row(what: &str, (library, peer): (f64, f64), aim: Option<f64>) {
+    let ratio = library / peer;
+    let verdict = match aim {
+        None => "none".to_string(),
+        Some(aim) if ratio <= aim => format!("at most {aim}: met"),
+        Some(aim) => format!("at most {aim}: missed by {:.0} %", (ratio / aim - 1.0) * 100.0),
+    };
+    println!("| {what} | {library:.1} | {peer:.1} | {ratio:.2} | {verdict} |");
+}
+
+fn steps_and_calls(full: &str) {
+    println!("| what | library | plain engine | ratio | aim |\n|---|---|---|---|---|");
+    row("a step: sums, tests and jumps", step_times(SUMS), Some(STEP_AIM));
+    row("a step: forks, ends and joins", step_times(FORKS), Some(STEP_AIM));
+    row("a step: every third one wakes", waking_times(), Some(STEP_AIM));
+    row("a small instant, the whole call: a press or its timeout", small_instants(), None);
+    row(&format!("loading, a byte of {}; beside the model's loader", full.len()), load_times(full), None);
+}
+
+fn fixed(full: &str) {
+    println!("\n| fixed cost of a call | library | three scans | ratio | aim |\n|---|---|---|---|---|");
+    for (name, text) in [("small listing", PRESS), ("full table, 64 routines", full)] {
+        row(&format!("{name}: nothing to do"), idle_calls(text), Some(FIXED_AIM));
+        row(&format!("{name}: refused with 12, every question asked"), refused_calls(text), Some(FIXED_AIM));
+    }
+}
+
+fn stack_used() {
+    println!("\n| stack used by | bytes | aim |\n|---|---|---|");
+    for (call, bytes) in stacks() {
+        let verdict = if bytes < STACK_AIM { "met" } else { "missed" };
+        println!("| {call} | {bytes} | below {STACK_AIM}: {verdict} |");
+    }
+}
+
+/// Runs everything and prints it as a section of a page; `date` is put on it.
+pub fn run(date: &str) -> bool {
+    println!("One run of `compare/bench`, {date}, on {}.", machine_line());
+    println!(
+        "Nanoseconds of processor time, the least of {ROUNDS} rounds by turns. The plain engine is a Rust queue engine without"
+    );
+    println!("proofs and without questions on memory (`compare/src/plain.rs`), on the same listings in the same run.");
+    println!("Three scans: of both memories, word by word.\n");
+    let full = full();
+    steps_and_calls(&full);
+    fixed(&full);
+    stack_used();
+    true
+}

@@ -1,0 +1,78 @@
+//! Starts and instants as calls: the model's answer to one, and calls at random.
+
+use crate::listing::Program;
+use crate::random::Random;
+use crate::walk::{Answer, Machine};
+
+/// One start (`t` none) or instant, with its two lists of inputs.
+#[derive(Clone, Debug)]
+pub struct Call {
+    pub t: Option<u64>,
+    pub numbers: Vec<u32>,
+    pub values: Vec<u32>,
+    pub allowance: u32,
+}
+
+/// The model's answer, the lent memories being long enough. No program: 6; no machine: 7.
+pub fn answer(call: &Call, program: Option<&Program>, machine: &mut Option<Machine>) -> Answer {
+    let Some(program) = program else { return Answer::refused(6) };
+    let Some(t) = call.t else {
+        return match Machine::start(program, call.allowance) {
+            Ok((started, answer)) => {
+                *machine = Some(started);
+                answer
+            }
+            Err(number) => Answer::refused(number),
+        };
+    };
+    let inputs: Vec<(u32, i32)> = call.numbers.iter().zip(&call.values).map(|(&n, &v)| (n, v as i32)).collect();
+    match machine {
+        Some(machine) => machine.instant(program, t, &inputs, call.allowance),
+        None => Answer::refused(7),
+    }
+}
+
+/// A call that suits the machine's present moment and what is due, mostly.
+pub fn random_call(random: &mut Random, program: &Program, model: Option<&Machine>) -> Call {
+    let allowance = match random.below(60) {
+        0 => *random.pick(&[0, 1_000_001, u32::MAX]),
+        1..=4 => 1 + random.below(8) as u32,
+        5 if random.once_in(100) => 1_000_000,
+        _ => 200 + random.below(2_000) as u32,
+    };
+    let fresh = model.is_none_or(|m| m.stopped.is_some()) && !random.once_in(4);
+    if fresh || random.once_in(40) {
+        return Call { t: None, numbers: Vec::new(), values: Vec::new(), allowance };
+    }
+    let (moment, due) = model.map_or((0, None), |m| (m.moment, m.due()));
+    let (numbers, values) = random_inputs(random, program.inputs);
+    Call { t: Some(random_time(random, moment, due)), numbers, values, allowance }
+}
+
+fn random_time(random: &mut Random, moment: u64, due: Option<u64>) -> u64 {
+    let little = random.below(6) as u64;
+    match (random.below(40), due) {
+        (0, _) => moment.saturating_sub(little),
+        (1, Some(due)) => due.saturating_add(1 + little),
+        (2, None) => u64::MAX - little,
+        (3, Some(due)) => due - 1,
+        (4, _) => random.bits(),
+        (5..=22, Some(due)) => due,
+        (_, Some(due)) => due.min(moment.saturating_add(1 + little)),
+        (_, None) => moment.saturating_add(1 + little),
+    }
+}
+
+fn random_inputs(random: &mut Random, inputs: usize) -> (Vec<u32>, Vec<u32>) {
+    let mut numbers: Vec<u32> = (0..inputs as u32).filter(|_| random.once_in(2)).collect();
+    match random.below(40) {
+        0 => numbers.push(inputs as u32),
+        1 => numbers.extend_from_within(..),
+        2 => numbers.reverse(),
+        3 => numbers.push(random.bits() as u32),
+        4 if random.once_in(10) => numbers = (0..40).collect(),
+        _ => {}
+    }
+    let values = numbers.iter().map(|_| random.value() as u32).collect();
+    (numbers, values)
+}

@@ -1,0 +1,73 @@
+//! An independent model of document 01, compared with stored answers, with the library and with a
+//! session program; and the benchmark. See README.md beside Cargo.toml.
+
+// Without the library only a part of the commands is there.
+#![cfg_attr(not(feature = "archive"), allow(dead_code))]
+
+#[cfg(feature = "archive")]
+mod bench;
+#[cfg(feature = "archive")]
+mod board;
+mod calls;
+#[cfg(feature = "archive")]
+mod compare;
+mod data;
+mod flat;
+mod layout;
+mod listing;
+mod peer;
+mod plain;
+mod played;
+mod programs;
+mod random;
+#[cfg(feature = "archive")]
+mod report;
+mod session;
+#[cfg(feature = "archive")]
+mod stack;
+mod texts;
+mod vectors;
+mod walk;
+
+use std::path::Path;
+use std::process::exit;
+
+const USAGE: &str = "usage: compare vectors FOLDER
+       compare data FOLDER OUT
+       compare session LISTING TRACE          (the model's print)
+       compare answers [COUNT [SEED]]         (built with the library)
+       compare bench [DATE]                   (built with the library)
+       compare plain [COUNT [SEED]]
+       compare sessions PROGRAM [COUNT [SEED]]";
+
+fn main() {
+    let words: Vec<String> = std::env::args().skip(1).collect();
+    let words: Vec<&str> = words.iter().map(String::as_str).collect();
+    exit(match command(&words) {
+        Some(true) => 0,
+        Some(false) => 1,
+        None => {
+            eprintln!("{USAGE}");
+            2
+        }
+    })
+}
+
+fn command(words: &[&str]) -> Option<bool> {
+    let figure = |at: usize, otherwise: u64| words.get(at).map_or(Some(otherwise), |w| w.parse().ok());
+    let told = |result: std::io::Result<bool>| result.map_err(|why| eprintln!("{why}")).unwrap_or(false);
+    match words {
+        ["vectors", folder] => Some(told(vectors::check(Path::new(folder)))),
+        ["session", listing, trace] => Some(told(played::print(Path::new(listing), Path::new(trace)))),
+        ["data", folder, out] => Some(told(data::write(Path::new(folder), Path::new(out)))),
+        #[cfg(feature = "archive")]
+        ["answers", ..] => Some(report::run(figure(1, 1_000_000)?, figure(2, 1)?)),
+        #[cfg(feature = "archive")]
+        ["bench", ..] => Some(bench::run(words.get(1).unwrap_or(&"undated"))),
+        ["plain", ..] => Some(peer::run(figure(1, 200_000)?, figure(2, 1)?)),
+        ["sessions", program, ..] => {
+            Some(told(played::sessions(Path::new(program), figure(2, 20_000)?, figure(3, 1)?)))
+        }
+        _ => None,
+    }
+}

@@ -1,0 +1,13 @@
+pub mod OneDue
+pub mod Printed
+pub mod FewInputs
+pub mod Told
+pub mod PiecePrinted
+pub mod Lawful
+pub mod Outcomes
+pub mod CallPrinted
+pub mod Promised
+pub mod Playing
+pub mod Stepping
+pub mod FirstSteps
+pub mod Moving

@@ -1,0 +1,38 @@
+-- What a call of `advance` promises, of any bytes, memories and phase.
+use mathlib.Core.Path.{_≡_}
+use mathlib.Core.Bool.{Bool, true, false, _&&_}
+use mathlib.Core.List.{List}
+use Prim.Native.Nat.{ℕ}
+use lib.Dec.{leb}
+use lib.ListN.{length}
+use Rattle.walk.specs.Calls.{laterWords}
+use Rattle.replay.specs.Made.{Steps}
+use Rattle.replay.specs.declared.phase.Phase.{Phase}
+use Rattle.replay.specs.declared.phase.Step.{Step}
+use Rattle.replay.specs.declared.phase.Advanced.{Advanced}
+use Rattle.replay.specs.declared.phase.Advanced.the-variants.{Went, TooShort}
+
+-- "Table 12,288 words of 32 bits, machine 12,288, output lists 16 each"; 17 inputs of a call are kept; 16 lines `O` of at most 66 bytes are printed at once.
+unfoldable pub lengthsSuffice : ℕ → ℕ → ℕ → ℕ → ℕ → ℕ → ℕ → Bool
+lengthsSuffice table machine numbers values outNumbers outValues out =
+    leb 12288 table && (leb 12288 machine && (leb 17 numbers && (leb 17 values && (leb 16 outNumbers && (leb 16 outValues && leb 1100 out)))))
+
+abbrev pub longEnough : List ℕ → List ℕ → List ℕ → List ℕ → List ℕ → List ℕ → List ℕ → Bool
+longEnough table machine numbers values outNumbers outValues out =
+    lengthsSuffice (length table) (length machine) (length numbers) (length values) (length outNumbers) (length outValues) (length out)
+
+-- A step, and "Words past 12,288 are never touched."
+pub record Moves (listing trace table machine numbers values : List ℕ) (phase : Phase) (table′ machine′ numbers′ values′ out : List ℕ) (step : Step) : Type 0 where
+  pub steps : Steps listing trace table machine numbers values phase table′ machine′ numbers′ values′ out step
+  pub table-past : laterWords table′ ≡ laterWords table
+  pub machine-past : laterWords machine′ ≡ laterWords machine
+
+-- A lent memory is too short and nothing was touched; or one step was made.
+pub data Advances (listing trace table machine numbers values outNumbers outValues out : List ℕ) (phase : Phase)
+    (table′ machine′ numbers′ values′ outNumbers′ outValues′ out′ : List ℕ) : Advanced → Type 0 where
+  too-short : longEnough table machine numbers values outNumbers outValues out ≡ false →
+      (table′ ≡ table) × (machine′ ≡ machine) × (numbers′ ≡ numbers) × (values′ ≡ values) × (outNumbers′ ≡ outNumbers) × (outValues′ ≡ outValues) × (out′ ≡ out) →
+      Advances listing trace table machine numbers values outNumbers outValues out phase table′ machine′ numbers′ values′ outNumbers′ outValues′ out′ TooShort
+  went : {next : Phase} {n : ℕ} → longEnough table machine numbers values outNumbers outValues out ≡ true →
+      Moves listing trace table machine numbers values phase table′ machine′ numbers′ values′ out′ (record { phase = next; printed = n }) →
+      Advances listing trace table machine numbers values outNumbers outValues out phase table′ machine′ numbers′ values′ outNumbers′ outValues′ out′ (Went next n)

@@ -1,0 +1,154 @@
+// One engine call with what is printed of it.
+ghost use mathlib.Core.Path.{_≡_};
+ghost use Prim.Native.Nat.{suc, _≤_};
+ghost use lib.ListN.{length};
+ghost use Rattle.engine.specs.Answers.{dueOf, resultOf};
+ghost use Rattle.walk.specs.Calls.{inputsOf};
+ghost use Rattle.replay.specs.Made.{Soon, ResultPrinted, StartMade, InstantMade};
+use crate::phase::Clock;
+use engine::Answer;
+use engine::Due;
+use engine::instant;
+use engine::start;
+use printing::put_end_line;
+use printing::put_write_lines;
+
+// "allowance 10,000"
+const ALLOWANCE: u32 = 10000;
+
+// How many bytes were printed: the session's end, or the writes of a call that went through.
+pub enum Made {
+    Ended(usize),
+    Went(Clock, usize),
+}
+
+// What of an answer the session needs.
+pub struct Told {
+    pub number: u32,
+    pub listed: u32,
+    pub due: Due,
+}
+
+fn tell(answer: Answer) -> Told
+    ensures { λ r. ⌜ (r .number ≡ resultOf answer .number) × (r .listed ≡ resultOf answer .listed) × (dueOf (r .due) ≡ resultOf answer .due) ⌝ }
+{
+    match answer {
+        Answer::Refused(k) => Told {
+            number: k,
+            listed: 0,
+            due: Due::Never,
+        },
+        Answer::Stopped(k) => Told {
+            number: k,
+            listed: 0,
+            due: Due::Never,
+        },
+        Answer::Done(f) => {
+            let due = f.due;
+            Told {
+                number: 0,
+                listed: f.listed,
+                due,
+            }
+        }
+    }
+}
+
+// The next moment due if it is before t.
+pub fn due_before(due: Due, t: u64) -> Due
+    ensures { λ r. ⌜ Soon (dueOf due) t r ⌝ }
+{
+    match due {
+        Due::Never => Due::Never,
+        Due::At(m) => {
+            if m < t {
+                return Due::At(m);
+            }
+            Due::Never
+        }
+    }
+}
+
+// The next moment due if it is not after t.
+pub fn due_until(due: Due, t: u64) -> Due
+    ensures { λ r. ⌜ Soon (dueOf due) (suc t) r ⌝ }
+{
+    match due {
+        Due::Never => Due::Never,
+        Due::At(m) => {
+            if m <= t {
+                return Due::At(m);
+            }
+            Due::Never
+        }
+    }
+}
+
+// The answer to a call at t, after the present moment.
+pub fn print_answer(
+    answer: Answer,
+    present: u64,
+    t: u64,
+    numbers: &[u32],
+    values: &[u32],
+    out: &mut [u8],
+) -> Made
+    requires { ⌜ (16 ≤ length (now numbers)) × (16 ≤ length (now values)) × (1100 ≤ length (now out)) × (resultOf answer .listed ≤ 16) ⌝ }
+    ensures { λ r. ⌜ ResultPrinted (resultOf answer) present t (now (numbers .entry)) (now (values .entry)) (now (out .exit)) r ⌝ }
+{
+    let result = tell(answer);
+    let number = result.number;
+    if number != 0 {
+        let n = put_end_line(out, 0, number, present);
+        return Made::Ended(n);
+    }
+    let count = result.listed as usize;
+    let n = put_write_lines(out, 0, t, numbers, values, count);
+    let due = result.due;
+    Made::Went(Clock { now: t, due }, n)
+}
+
+// The start.
+pub fn make_start(
+    table: &[u32],
+    machine: &mut [u32],
+    out_numbers: &mut [u32],
+    out_values: &mut [u32],
+    out: &mut [u8],
+) -> Made
+    requires { ⌜ (12288 ≤ length (now table)) × (12288 ≤ length (now machine)) × (length (now «out_numbers») ≡ 16) × (length (now «out_values») ≡ 16) × (1100 ≤ length (now out)) ⌝ }
+    ensures { λ r. ⌜ StartMade (now (table .entry)) (now (machine .entry)) (now (machine .exit)) (now (out .exit)) r ⌝ }
+{
+    let answer = start(table, machine, out_numbers, out_values, ALLOWANCE);
+    print_answer(answer, 0, 0, out_numbers, out_values, out)
+}
+
+// The instant at t with these inputs, after the present moment.
+pub fn make_instant(
+    table: &[u32],
+    machine: &mut [u32],
+    present: u64,
+    t: u64,
+    in_numbers: &[u32],
+    in_values: &[u32],
+    out_numbers: &mut [u32],
+    out_values: &mut [u32],
+    out: &mut [u8],
+) -> Made
+    requires { ⌜ (12288 ≤ length (now table)) × (12288 ≤ length (now machine)) × (length (now «in_numbers») ≡ length (now «in_values»))
+        × (length (now «out_numbers») ≡ 16) × (length (now «out_values») ≡ 16) × (1100 ≤ length (now out)) ⌝ }
+    ensures { λ r. ⌜ InstantMade (now (table .entry)) (now (machine .entry)) (now (machine .exit)) (now (out .exit)) present t
+        (inputsOf (now («in_numbers» .entry)) (now («in_values» .entry))) r ⌝ }
+{
+    let answer = instant(
+        table,
+        machine,
+        t,
+        in_numbers,
+        in_values,
+        out_numbers,
+        out_values,
+        ALLOWANCE,
+    );
+    print_answer(answer, present, t, out_numbers, out_values, out)
+}

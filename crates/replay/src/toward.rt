@@ -1,0 +1,190 @@
+// The steps toward a call with inputs and toward the end: "The program makes every due instant between, joining one with inputs of its time,
+// and those due up to Q's time".
+ghost use mathlib.Core.Path.{_≡_};
+ghost use mathlib.Core.List.{List};
+ghost use Prim.Native.Nat.{ℕ, _≤_};
+ghost use lib.ListN.{length};
+ghost use Rattle.listing.specs.Listing.{Listing};
+ghost use Rattle.walk.specs.Calls.{laterWords};
+ghost use Rattle.walk.specs.Session.{endCode};
+ghost use Rattle.engine.specs.Answers.{dueOf};
+ghost use Rattle.replay.specs.Made.{Soon, Steps};
+use crate::calls::Made;
+use crate::calls::due_before;
+use crate::calls::due_until;
+use crate::calls::make_instant;
+use crate::from_phase::end_with;
+use crate::phase::Clock;
+use crate::phase::Phase;
+use crate::phase::Step;
+use engine::Due;
+
+// The call with the lent inputs, nothing being due before it.
+fn join_inputs(
+    table: &[u32],
+    machine: &mut [u32],
+    numbers: &[u32],
+    values: &[u32],
+    out_numbers: &mut [u32],
+    out_values: &mut [u32],
+    out: &mut [u8],
+    clock: Clock,
+    time: u64,
+    count: usize,
+    next: usize,
+) -> Step
+    requires { ⌜ (12288 ≤ length (now table)) × (12288 ≤ length (now machine)) × (17 ≤ length (now numbers)) × (17 ≤ length (now values))
+        × (length (now «out_numbers») ≡ 16) × (length (now «out_values») ≡ 16) × (1100 ≤ length (now out)) × (Soon (dueOf (clock .due)) time Due.Never) ⌝ }
+    ensures { λ r. ⌜ ((listing trace : List ℕ) → Steps listing trace (now (table .entry)) (now (machine .entry)) (now (numbers .entry)) (now (values .entry))
+        (Phase.Toward clock time count next) (now (table .entry)) (now (machine .exit)) (now (numbers .entry)) (now (values .entry)) (now (out .exit)) r)
+        × (laterWords (now (machine .exit)) ≡ laterWords (now (machine .entry))) ⌝ }
+{
+    if count > 17 {
+        return Step {
+            phase: Phase::Over,
+            printed: 0,
+        };
+    }
+    let present = clock.now;
+    let made = make_instant(
+        table,
+        machine,
+        present,
+        time,
+        &numbers[..count],
+        &values[..count],
+        out_numbers,
+        out_values,
+        out,
+    );
+    match made {
+        Made::Ended(printed) => Step {
+            phase: Phase::Over,
+            printed,
+        },
+        Made::Went(c, printed) => Step {
+            phase: Phase::Reading(c, next),
+            printed,
+        },
+    }
+}
+
+// A due instant before the call, or the call.
+pub fn from_toward(
+    table: &[u32],
+    machine: &mut [u32],
+    numbers: &[u32],
+    values: &[u32],
+    out_numbers: &mut [u32],
+    out_values: &mut [u32],
+    out: &mut [u8],
+    clock: Clock,
+    time: u64,
+    count: usize,
+    next: usize,
+) -> Step
+    requires { ⌜ (12288 ≤ length (now table)) × (12288 ≤ length (now machine)) × (17 ≤ length (now numbers)) × (17 ≤ length (now values))
+        × (length (now «out_numbers») ≡ 16) × (length (now «out_values») ≡ 16) × (1100 ≤ length (now out)) ⌝ }
+    ensures { λ r. ⌜ ((listing trace : List ℕ) → Steps listing trace (now (table .entry)) (now (machine .entry)) (now (numbers .entry)) (now (values .entry))
+        (Phase.Toward clock time count next) (now (table .entry)) (now (machine .exit)) (now (numbers .entry)) (now (values .entry)) (now (out .exit)) r)
+        × (laterWords (now (machine .exit)) ≡ laterWords (now (machine .entry))) ⌝ }
+{
+    let present = clock.now;
+    let due = clock.due;
+    let soon = due_before(due, time);
+    let Due::At(m) = soon else {
+        return join_inputs(
+            table,
+            machine,
+            numbers,
+            values,
+            out_numbers,
+            out_values,
+            out,
+            clock,
+            time,
+            count,
+            next,
+        );
+    };
+    let made = make_instant(
+        table,
+        machine,
+        present,
+        m,
+        &numbers[..0],
+        &values[..0],
+        out_numbers,
+        out_values,
+        out,
+    );
+    match made {
+        Made::Ended(printed) => Step {
+            phase: Phase::Over,
+            printed,
+        },
+        Made::Went(c, printed) => Step {
+            phase: Phase::Toward(c, time, count, next),
+            printed,
+        },
+    }
+}
+
+// "A line out of form when it is reached, one after `Q` .. has code 2"
+fn end_code(nothing_after: bool) -> u32
+    ensures { λ r. ⌜ ((l : Listing) → r ≡ endCode l «nothing_after») ⌝ }
+{
+    if nothing_after {
+        return 0;
+    }
+    2
+}
+
+// A due instant up to the last line's time, or the end.
+pub fn from_until(
+    table: &[u32],
+    machine: &mut [u32],
+    numbers: &[u32],
+    values: &[u32],
+    out_numbers: &mut [u32],
+    out_values: &mut [u32],
+    out: &mut [u8],
+    clock: Clock,
+    time: u64,
+    nothing_after: bool,
+) -> Step
+    requires { ⌜ (12288 ≤ length (now table)) × (12288 ≤ length (now machine)) × (17 ≤ length (now numbers)) × (17 ≤ length (now values))
+        × (length (now «out_numbers») ≡ 16) × (length (now «out_values») ≡ 16) × (1100 ≤ length (now out)) ⌝ }
+    ensures { λ r. ⌜ ((listing trace : List ℕ) → Steps listing trace (now (table .entry)) (now (machine .entry)) (now (numbers .entry)) (now (values .entry))
+        (Phase.Until clock time «nothing_after») (now (table .entry)) (now (machine .exit)) (now (numbers .entry)) (now (values .entry)) (now (out .exit)) r)
+        × (laterWords (now (machine .exit)) ≡ laterWords (now (machine .entry))) ⌝ }
+{
+    let present = clock.now;
+    let due = clock.due;
+    let soon = due_until(due, time);
+    let Due::At(m) = soon else {
+        let code = end_code(nothing_after);
+        return end_with(out, code, present);
+    };
+    let made = make_instant(
+        table,
+        machine,
+        present,
+        m,
+        &numbers[..0],
+        &values[..0],
+        out_numbers,
+        out_values,
+        out,
+    );
+    match made {
+        Made::Ended(printed) => Step {
+            phase: Phase::Over,
+            printed,
+        },
+        Made::Went(c, printed) => Step {
+            phase: Phase::Until(c, time, nothing_after),
+            printed,
+        },
+    }
+}

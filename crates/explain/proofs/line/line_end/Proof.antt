@@ -1,0 +1,67 @@
+-- `explain::line_end` meets its contract.
+use denote.Ref.{now}
+use Prim.Native.Nat.{suc, _≤_, _-_}
+use mathlib.Core.Path.{_≡_, ap}
+use mathlib.Core.List.{[], _∷_}
+use native.Mathlib.Omega.{arith}
+use native.Mathlib.Numerals.{add-one}
+use lib.ListN.{length, drop, getD}
+use borrow.Author.Tests.{eq-eqb, ne-eqb}
+use borrow.Author.Needs.{needs}
+use Rattle.reader.specs.Texts.{before, endsLine, lineEnd}
+use Rattle.reader.proofs.Texts as texts
+use Rattle.explain.proofs.line.line_end.Statement.{statement}
+use Rattle.explain.proofs.line.line_end.Tie as tie
+
+abbrev Inv-loop : tie.InvT-loop
+Inv-loop s at i₀ i = (at ≤ i) × (i ≤ length s) × (lineEnd s i ≡ lineEnd s at)
+
+abbrev μ-loop : tie.MeasureT-loop
+μ-loop s at i₀ i = length s - i
+
+loop-holds : tie.Need-loop-holds Inv-loop μ-loop
+loop-holds c = search needs
+
+shared-slice-read-if1 : tie.Need-shared-slice-read-if1 Inv-loop μ-loop
+shared-slice-read-if1 c = search needs
+
+returns : tie.Need-returns Inv-loop μ-loop
+returns c =
+    let v = c .before .before .before .loop in
+    let s = now (c .before .before .before .before .args .s) in
+    let e : before endsLine (drop (v .i) s) ≡ [] = texts.before-stop endsLine s (v .i) (c .before .before .loop-test .taken) (eq-eqb _ 10 (c .if1 .taken)) in
+    (omega (arith, ap length e, v .inv .2), v .inv .0, v .inv .1)
+
+add-i : tie.Need-add-i Inv-loop μ-loop
+add-i c = search needs
+
+loop-less : tie.Need-loop-less Inv-loop μ-loop
+loop-less c = search needs
+
+loop-again : tie.Need-loop-again Inv-loop μ-loop
+loop-again c =
+    let v = c .before .before .before .loop in
+    let s = now (c .before .before .before .before .args .s) in
+    let e : before endsLine (drop (v .i) s) ≡ getD s (v .i) 0 ∷ before endsLine (drop (suc (v .i)) s) = texts.before-more endsLine s (v .i) (c .before .before .loop-test .taken) (ne-eqb _ 10 (c .if1 .left)) in
+    (omega (arith, v .inv .0), omega (arith, c .before .before .loop-test .taken), simp add-one (omega (arith, ap length e, v .inv .2)))
+
+returns-2 : tie.Need-returns-2 Inv-loop μ-loop
+returns-2 c =
+    let v = c .before .loop in
+    let s = now (c .before .before .args .s) in
+    let e : before endsLine (drop (v .i) s) ≡ [] = texts.before-end endsLine s (v .i) (c .loop-test .left) in
+    (omega (arith, ap length e, v .inv .2), v .inv .0, v .inv .1)
+
+pub line-end-spec : {M : Type 1} → statement M
+line-end-spec =
+    tie.close
+    (tie.spec
+    Inv-loop
+    μ-loop
+    loop-holds
+    shared-slice-read-if1
+    returns
+    add-i
+    loop-less
+    loop-again
+    returns-2)

@@ -1,0 +1,44 @@
+// Pairs of a number and a value, as the file has them: a call's inputs, and the outputs that an answer lists.
+use cases::frame::past;
+use cases::frame::word_at;
+
+// So many pairs put into two lists, or as many as both have room for.
+pub fn read_pairs(s: &[u8], from: usize, count: usize, numbers: &mut [u32], values: &mut [u32]) {
+    let mut at = from;
+    let mut k: usize = 0;
+    while k < count {
+        if k >= numbers.len() {
+            return;
+        }
+        if k >= values.len() {
+            return;
+        }
+        numbers[k] = word_at(s, at);
+        values[k] = word_at(s, past(s, at, 4));
+        at = past(s, at, 8);
+        k += 1;
+    }
+}
+
+// Do the two lists begin with these pairs?
+pub fn same_pairs(s: &[u8], from: usize, count: usize, numbers: &[u32], values: &[u32]) -> bool {
+    let mut at = from;
+    let mut k: usize = 0;
+    while k < count {
+        if k >= numbers.len() {
+            return false;
+        }
+        if k >= values.len() {
+            return false;
+        }
+        if numbers[k] != word_at(s, at) {
+            return false;
+        }
+        if values[k] != word_at(s, past(s, at, 4)) {
+            return false;
+        }
+        at = past(s, at, 8);
+        k += 1;
+    }
+    true
+}

@@ -1,0 +1,15 @@
+-- What the functions on words answer and leave.
+use mathlib.Core.Bool.{Bool, true}
+use mathlib.Core.Path.{_≡_}
+use mathlib.Core.List.{List, _++_}
+use Prim.Native.Nat.{ℕ}
+use lib.ListN.{take, drop}
+
+-- r says whether A holds
+pub record Tells (r : Bool) (A : Type 0) : Type 0 where
+  pub means : r ≡ true → A
+  pub whenever : A → r ≡ true
+
+-- the first n words of one memory put over those of another
+abbrev pub copied : List ℕ → List ℕ → ℕ → List ℕ
+copied from to n = take n from ++ drop n to

@@ -1,0 +1,143 @@
+// Sessions with what each must print: listing and trace are played step by step, and every piece is held against the stored print.
+// Prints the name of each session that fails, and then how many agree.
+pub mod playing;
+
+ghost use Prim.Native.Nat.{_≤_, _<_};
+ghost use Rattle.session_tests.specs.Cases.{Inside};
+use crate::playing::plays;
+use cases::frame::part_at;
+use cases::frame::past;
+use cases::frame::word_at;
+use cases::report::read_file;
+use cases::report::say;
+use cases::report::say_number;
+use cases::report::sum_up;
+
+// A case of the file: its name, where listing, trace and print begin and end. The next case follows the print.
+pub struct Case {
+    pub name: u32,
+    pub listing: usize,
+    pub listing_to: usize,
+    pub trace: usize,
+    pub trace_to: usize,
+    pub print: usize,
+    pub print_to: usize,
+}
+
+fn case_at(s: &[u8], at: usize) -> Case
+    ensures { λ r. ⌜ Inside (now (s .entry)) r ⌝ }
+{
+    let name = word_at(s, at);
+    let listing = part_at(s, past(s, at, 4));
+    let trace = part_at(s, listing.to);
+    let print = part_at(s, trace.to);
+    Case {
+        name,
+        listing: listing.from,
+        listing_to: listing.to,
+        trace: trace.from,
+        trace_to: trace.to,
+        print: print.from,
+        print_to: print.to,
+    }
+}
+
+// Plays the case, and says so if it fails.
+fn run_case(
+    s: &[u8],
+    case: Case,
+    table: &mut [u32],
+    machine: &mut [u32],
+    ins: &mut [u32],
+    news: &mut [u32],
+    numbers: &mut [u32],
+    values: &mut [u32],
+    out: &mut [u8],
+) -> bool
+    requires { ⌜ Inside (now s) case ⌝ }
+{
+    let listing = case.listing;
+    let listing_to = case.listing_to;
+    let trace = case.trace;
+    let trace_to = case.trace_to;
+    let print = case.print;
+    let print_to = case.print_to;
+    let right = plays(
+        &s[listing..listing_to],
+        &s[trace..trace_to],
+        &s[print..print_to],
+        table,
+        machine,
+        ins,
+        news,
+        numbers,
+        values,
+        out,
+    );
+    if !right {
+        say(b"session ");
+        say_number(case.name as u64);
+        say(b" fails\n");
+    }
+    right
+}
+
+// How many cases there were, and how many of them failed.
+pub struct Tally {
+    pub cases: u64,
+    pub failed: u64,
+}
+
+// All cases of a file: their number, then each of them.
+fn run_file(
+    s: &[u8],
+    table: &mut [u32],
+    machine: &mut [u32],
+    ins: &mut [u32],
+    news: &mut [u32],
+    numbers: &mut [u32],
+    values: &mut [u32],
+    out: &mut [u8],
+) -> Tally
+    ensures { λ r. ⌜ (r .cases < 4294967296) × (r .failed ≤ r .cases) ⌝ }
+{
+    let count = word_at(s, 0) as u64;
+    let mut at = past(s, 0, 4);
+    let mut done: u64 = 0;
+    let mut failed: u64 = 0;
+    while done < count {
+        let case = case_at(s, at);
+        if !run_case(s, case, table, machine, ins, news, numbers, values, out) {
+            failed += 1;
+        }
+        at = case.print_to;
+        done += 1;
+    }
+    Tally {
+        cases: done,
+        failed,
+    }
+}
+
+fn main() {
+    let mut file = io::large_buffer();
+    let length = read_file(b"sessions.dat", &mut file);
+    let mut table = [0u32; 12288];
+    let mut machine = [0u32; 12288];
+    let mut ins = [0u32; 17];
+    let mut news = [0u32; 17];
+    let mut numbers = [0u32; 16];
+    let mut values = [0u32; 16];
+    let mut out = [0u8; 1100];
+    let tally = run_file(
+        &file[..length],
+        &mut table,
+        &mut machine,
+        &mut ins,
+        &mut news,
+        &mut numbers,
+        &mut values,
+        &mut out,
+    );
+    sum_up(b"sessions: ", tally.cases, tally.failed);
+}

@@ -1,0 +1,115 @@
+// One session, step by step, each piece held against the stored print.
+use replay::Advanced;
+use replay::Phase;
+use replay::advance;
+
+// The place after a piece, or none: the piece is not what stands there.
+pub enum Followed {
+    To(usize),
+    Differs,
+}
+
+// Do the first n bytes of `out` stand in the print at a place?
+fn follows(print: &[u8], at: usize, out: &[u8], n: usize) -> Followed {
+    if out.len() < n {
+        return Followed::Differs;
+    }
+    if print.len() < at {
+        return Followed::Differs;
+    }
+    if print.len() - at < n {
+        return Followed::Differs;
+    }
+    let to = at + n;
+    if check::same(&print[at..to], &out[..n]) {
+        return Followed::To(to);
+    }
+    Followed::Differs
+}
+
+// A step that was right: the next phase, and how far the print has been matched.
+pub enum Taken {
+    On(Phase, usize),
+    Failed,
+}
+
+fn take_step(
+    listing: &[u8],
+    trace: &[u8],
+    print: &[u8],
+    table: &mut [u32],
+    machine: &mut [u32],
+    ins: &mut [u32],
+    news: &mut [u32],
+    numbers: &mut [u32],
+    values: &mut [u32],
+    out: &mut [u8],
+    phase: Phase,
+    at: usize,
+) -> Taken {
+    match advance(
+        listing,
+        trace,
+        table,
+        machine,
+        ins,
+        news,
+        numbers,
+        values,
+        out,
+        phase,
+    ) {
+        Advanced::TooShort => Taken::Failed,
+        Advanced::Went(next, n) => match follows(print, at, out, n) {
+            Followed::Differs => Taken::Failed,
+            Followed::To(to) => Taken::On(next, to),
+        },
+    }
+}
+
+fn is_over(phase: Phase) -> bool {
+    if let Phase::Over = phase { true } else { false }
+}
+
+// Does the session print what is stored, and nothing more? A session of the file has far fewer steps than are counted here.
+pub fn plays(
+    listing: &[u8],
+    trace: &[u8],
+    print: &[u8],
+    table: &mut [u32],
+    machine: &mut [u32],
+    ins: &mut [u32],
+    news: &mut [u32],
+    numbers: &mut [u32],
+    values: &mut [u32],
+    out: &mut [u8],
+) -> bool {
+    let mut phase = Phase::Opening;
+    let mut at: usize = 0;
+    let mut turns: u32 = 100000;
+    while turns > 0 {
+        turns -= 1;
+        let Taken::On(next, to) = take_step(
+            listing,
+            trace,
+            print,
+            table,
+            machine,
+            ins,
+            news,
+            numbers,
+            values,
+            out,
+            phase,
+            at,
+        ) else {
+            return false;
+        };
+        at = to;
+        phase = next;
+        if is_over(next) {
+            return at == print.len();
+        }
+    }
+    false
+}

@@ -28,6 +28,7 @@ every-load-answers-as-defined = load.met
 pub every-start-answers-as-defined : {M : Type 1} → Start.statement M
 every-start-answers-as-defined = start.met
 
+-- This is demand 2 for one call as well: of any memory that passes question 7, walk `instantCall` is the walk from the state it stands for.
 pub every-instant-answers-as-defined : {M : Type 1} → Instant.statement M
 every-instant-answers-as-defined = instant.met
 

@@ -85,11 +85,11 @@ one-piece-back read text back (piece ∷ []) a e = rw (back piece a e)
 one-piece-back read text back (piece ∷ next ∷ pieces) a e = no-reading e
 
 -- ── pieces ───────────────────────────────────────────────────────────────────────
-record PieceBack (piece : Bytes) (p : Piece) : Type 0 where
+pub record PieceBack (piece : Bytes) (p : Piece) : Type 0 where
   pub is : pieceText p ≡ piece
   pub form : pieceHasForm p ≡ true
 
-literal-back : (rest : Bytes) (p : Piece) → readLiteral rest ≡ some p → PieceBack (35 ∷ rest) p
+pub literal-back : (rest : Bytes) (p : Piece) → readLiteral rest ≡ some p → PieceBack (35 ∷ rest) p
 unfolding readLiteral pieceText signedFigure pieceHasForm
 literal-back [] p e = no-reading e
 literal-back (byte ∷ rest) p e =

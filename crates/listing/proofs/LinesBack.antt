@@ -131,7 +131,7 @@ join-split-each : (texts : List Bytes) → map (join space) (map (split space) t
 join-split-each [] = refl
 join-split-each (text ∷ texts) = rw (join-split space text, join-split-each texts)
 
-fields-joined : (text : Bytes) → joinFields (fieldsOf text) ≡ text
+pub fields-joined : (text : Bytes) → joinFields (fieldsOf text) ≡ text
 unfolding joinFields fieldsOf
 fields-joined text = rw (join-split-each (split tab text)) (join-split tab text)
 

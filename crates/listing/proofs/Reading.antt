@@ -34,7 +34,7 @@ literal-high v l h =
     let back : wordRange - n ≡ v = omega arith in
     rw (readFigure-figure n, le-leb 1 n (omega arith), le-leb n halfRange (omega arith), back)
 
-readLiteral-signedFigure : (v : ℕ) → v < wordRange → readLiteral (signedFigure v) ≡ some (literal v)
+pub readLiteral-signedFigure : (v : ℕ) → v < wordRange → readLiteral (signedFigure v) ≡ some (literal v)
 unfolding signedFigure
 readLiteral-signedFigure v h = go (ltb v halfRange) refl
   where

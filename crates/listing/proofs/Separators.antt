@@ -53,7 +53,7 @@ figure-begins (suc n) =
 figure-visible : (n : ℕ) → Visible (figure n)
 figure-visible n = let f = figure-begins n in rw (f .is) (put (f .head) (omega (arith, f .low)) (omega (arith, f .high)) (f .others))
 
-signedFigure-visible : (v : ℕ) → Visible (signedFigure v)
+pub signedFigure-visible : (v : ℕ) → Visible (signedFigure v)
 unfolding signedFigure
 signedFigure-visible v = go (ltb v halfRange)
   where
@@ -93,10 +93,10 @@ all-map : {A B : Type 0} {P : B → Type 0} (f : A → B) → ((a : A) → P (f 
 all-map f h [] = none-left
 all-map f h (x ∷ xs) = also (h x) (all-map f h xs)
 
-letter-field : (letter : ℕ) → space < letter → letter < 127 → VisibleField (letterField letter)
+pub letter-field : (letter : ℕ) → space < letter → letter < 127 → VisibleField (letterField letter)
 letter-field letter h a = visible-field (put letter h a nothing) none-left
 
-figure-field : (n : ℕ) → VisibleField (figureField n)
+pub figure-field : (n : ℕ) → VisibleField (figureField n)
 figure-field n = visible-field (figure-visible n) none-left
 
 -- an expression in form has a piece
@@ -167,7 +167,7 @@ fields-back : {fields : List Field} → All VisibleField fields → map (split s
 fields-back none-left = refl
 fields-back (also f a) = rw (field-back f, fields-back a)
 
-joined-back : (fields : List Field) → All VisibleField fields → (fields ≡ [] → ⊥) → fieldsOf (joinFields fields) ≡ fields
+pub joined-back : (fields : List Field) → All VisibleField fields → (fields ≡ [] → ⊥) → fieldsOf (joinFields fields) ≡ fields
 unfolding fieldsOf joinFields
 joined-back [] none-left n = absurd (n refl)
 joined-back (field ∷ fields) (also f a) n =
@@ -189,9 +189,12 @@ has-field (instruction end) = cons≢nil
 pub line-fields-back : (line : Line) → lineHasForm line ≡ true → fieldsOf (lineText line) ≡ lineFields line
 line-fields-back line h = joined-back (lineFields line) (line-fields line h) (has-field line)
 
--- a written line holds no line feed
-pub line-free : (line : Line) → lineHasForm line ≡ true → Free lineFeed (lineText line)
+-- written fields, and so a written line, hold no line feed
+pub joined-free : (fields : List Field) → All VisibleField fields → Free lineFeed (joinFields fields)
 unfolding joinFields
-line-free line h =
+joined-free fields a =
     let n : tab ≡ lineFeed → ⊥ = λ e. omega arith in
-    free-join tab n (map (join space) (lineFields line)) (fields-free lineFeed (omega arith) (line-fields line h))
+    free-join tab n (map (join space) fields) (fields-free lineFeed (omega arith) a)
+
+pub line-free : (line : Line) → lineHasForm line ≡ true → Free lineFeed (lineText line)
+line-free line h = joined-free (lineFields line) (line-fields line h)

@@ -32,7 +32,7 @@ closed-parts [] e = refl
 closed-parts (part ∷ []) e = e
 closed-parts (part ∷ next ∷ parts) e = rw (closed-parts (next ∷ parts) e)
 
-is-empty : {A : Type 0} (xs : List A) → isEmpty xs ≡ true → xs ≡ []
+pub is-empty : {A : Type 0} (xs : List A) → isEmpty xs ≡ true → xs ≡ []
 is-empty [] h = refl
 is-empty (x ∷ xs) h = no-test h
 
@@ -103,13 +103,13 @@ unfolding linesText split
 split-lines still = refl
 split-lines (stand {line = line} {lines = lines} h s r) = split-at (linesText lines) (line-free line h) ∙ rw (split-lines r)
 
-allButLast-snoc : {A : Type 0} (xs : List A) (x : A) → allButLast (xs ++ (x ∷ [])) ≡ xs
+pub allButLast-snoc : {A : Type 0} (xs : List A) (x : A) → allButLast (xs ++ (x ∷ [])) ≡ xs
 unfolding allButLast
 allButLast-snoc [] x = refl
 allButLast-snoc (y ∷ []) x = refl
 allButLast-snoc (y ∷ z ∷ zs) x = rw (allButLast-snoc (z ∷ zs) x)
 
-lastOr-snoc : {A : Type 0} (w : A) (xs : List A) (x : A) → lastOr w (xs ++ (x ∷ [])) ≡ x
+pub lastOr-snoc : {A : Type 0} (w : A) (xs : List A) (x : A) → lastOr w (xs ++ (x ∷ [])) ≡ x
 unfolding lastOr
 lastOr-snoc w [] x = refl
 lastOr-snoc w (y ∷ []) x = refl

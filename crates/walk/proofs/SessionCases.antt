@@ -33,6 +33,10 @@ unfolding quoted
 expectedIn [] = []
 expectedIn (c ∷ cs) = quoted (c .prints) ∷ expectedIn cs
 
+-- A case comes out.
+abbrev pub Prints : SessionCase → Type 0
+Prints c = printedIn (c ∷ []) ≡ expectedIn (c ∷ [])
+
 -- Output 1 is due at 4, and takes the value of each press.
 abbrev pub oneDue : String
 oneDue = "P|1|1\nR|rr|0\nA|1|#4|#1\nW|0\nS|1|0\nG|1\n"
@@ -178,6 +182,20 @@ sessions =
 pub sessions-print-as-stated : printedIn sessions ≡ expectedIn sessions
 unfolding printedIn expectedIn
 sessions-print-as-stated = refl
+
+-- ── "allowance 10,000" ────────────────────────────────────────────────────────────────────────────
+-- 4,999 turns of `S` and `U` are 9,998 steps; `G` and `E` make 10,000, and one `G` more 10,001. For an instant see walk_laws SessionAllowance.
+pub start-of-10000-steps-goes-through : Prints (session "a start of 10,000 steps goes through"
+    "P|0|1\nR|r|0\nS|0|0 #1 +\nU|#4998 0 <|0\nG|3\nE\n"
+    "Q|9\n" "O|0|0|4999\nX|0|0\n")
+unfolding printedIn expectedIn
+start-of-10000-steps-goes-through = refl
+
+pub start-of-10001-steps-is-13 : Prints (session "a start of 10,001 steps is 13"
+    "P|0|1\nR|r|0\nS|0|0 #1 +\nU|#4998 0 <|0\nG|3\nG|4\nE\n"
+    "Q|9\n" "X|13|0\n")
+unfolding printedIn expectedIn
+start-of-10001-steps-is-13 = refl
 
 -- ── "Before loading, a listing over 49,152 bytes has code 3, else a trace over 49,152 code 2." ────
 -- So many spaces.

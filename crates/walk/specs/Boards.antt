@@ -24,6 +24,7 @@ pub record BoardCall : Type 0 where
   pub result : Result
 
 -- "Each gets that same table, and the machine as the call before left it, and nobody else writes table or machine meanwhile."
+-- (A lent word is a u32.)
 pub data BoardCalls (layout : Layout) (table : List ℕ) : List ℕ → List BoardCall → Type 0 where
   no-more : {machine : List ℕ} → BoardCalls layout table machine []
   and-then : {machine : List ℕ} {c : BoardCall} {cs : List BoardCall} →

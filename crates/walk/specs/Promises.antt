@@ -1,6 +1,5 @@
--- What each call promises: its result and each lent memory, equated with the defined outcome.
+-- What each call promises: its result and each lent memory, equated with the defined outcome. (The comparison writes nothing: its answer is Comparison `alikeCall`.)
 use mathlib.Core.Path.{_≡_}
-use mathlib.Core.Bool.{Bool}
 use mathlib.Core.List.{List}
 use Prim.Native.Nat.{ℕ}
 use mathlib.Core.Option.{some}
@@ -9,7 +8,6 @@ use Rattle.listing.specs.Listing.{Listing}
 use Rattle.listing.specs.Load.{Loading, refused, loaded, loading, isLongEnough}
 use Rattle.walk.specs.Instant.{NextDue}
 use Rattle.walk.specs.Calls.{Layout, Outcome, outcomeNumber, outcomePlace, outcomeSteps, outcomeListed, outcomeDue, MachineAfter, numbersAfter, valuesAfter, firstWords, laterWords, startCall, instantCall}
-use Rattle.walk.specs.Comparison.{Compared, comparedNumber, comparedPlace, comparedAlike, alikeCall}
 
 -- The result of a start or an instant call: number, place, steps used, outputs listed, next moment due.
 pub record Result : Type 0 where
@@ -39,19 +37,6 @@ StartPromise layout table machine numbers values allowance machine′ numbers′
 abbrev pub InstantPromise : Layout → List ℕ → List ℕ → ℕ → List ℕ → List ℕ → List ℕ → List ℕ → ℕ → List ℕ → List ℕ → List ℕ → Result → Type 0
 InstantPromise layout table machine t inNumbers inValues numbers values allowance machine′ numbers′ values′ r =
     Keeps layout table machine numbers values machine′ numbers′ values′ (instantCall layout table machine t inNumbers inValues numbers values allowance) r
-
--- The result of a comparison: number, place, whether the machines are alike ("its other result figures are 0": not alike).
-pub record ComparedResult : Type 0 where
-  pub number : ℕ
-  pub place : ℕ
-  pub alike : Bool
-
-unfoldable pub comparedResultOf : Compared → ComparedResult
-comparedResultOf c = record { number = comparedNumber c; place = comparedPlace c; alike = comparedAlike c }
-
--- What the comparison promises, of any memories. (Table and machines are lent to be read: nothing is written.)
-abbrev pub ComparePromise : Layout → List ℕ → List ℕ → List ℕ → ComparedResult → Type 0
-ComparePromise layout table a b r = r ≡ comparedResultOf (alikeCall layout table a b)
 
 -- What the lent table holds after loading: untouched, or any words that stand for the listing.
 pub data TableAfter (layout : Layout) (before after : List ℕ) : Loading → Type 0 where

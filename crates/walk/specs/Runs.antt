@@ -17,7 +17,7 @@ pub record InstantCall : Type 0 where
   pub inputs : List Write
   pub allowance : ℕ
 
--- "A run is a halved listing loaded with number 0, a start on its table with number 0, and then any list of instant calls".
+-- What is chosen in a run: its listing, the start's allowance and the instant calls. (That it is halved, loaded and started: halves `RunFor`.)
 pub record Run : Type 0 where
   pub listing : Listing
   pub allowance : ℕ

@@ -79,7 +79,7 @@ withLine (inputLine time w) nothingAfter rest = withInput time w rest
 withLine (lastLine time) nothingAfter rest = lastAt time nothingAfter
 withLine outOfForm nothingAfter rest = broken
 
--- Closed lines, and whether a line without its line feed stands after them.
+-- Closed lines; `ends`: no line without its line feed stands after them.
 unfoldable pub scriptOf : List Bytes → Bool → Script
 scriptOf [] ends = broken
 scriptOf (line ∷ lines) ends = withLine (readTraceLine line) (isEmpty lines && ends) (scriptOf lines ends)

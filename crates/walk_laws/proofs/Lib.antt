@@ -19,3 +19,6 @@ pub mod StopCauses
 pub mod Causes
 pub mod ComparedCauses
 pub mod DueInstants
+pub mod TraceLines
+pub mod WholeTraces
+pub mod SessionAllowance

@@ -1,2 +1,3 @@
 pub mod Stops
 pub mod Causes
+pub mod TraceText

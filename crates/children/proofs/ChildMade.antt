@@ -9,7 +9,6 @@ use Rattle.scheduler.specs.Rows.{Row, Rows, withRow}
 use Rattle.blocks.specs.Blocks.{Block, block, nonzero, rowAt, rowsOf}
 use Rattle.blocks.specs.Store.{storeOf, withSlot}
 use Rattle.blocks.specs.Changes.{putIn}
-use Rattle.blocks.proofs.Puts.{cleared-above}
 use Rattle.blocks.proofs.InBlocks.{same-outside, same-triggers}
 use Rattle.blocks.proofs.RowChanges.{row-of, with-row-other, rows-in-block, environment-stays}
 use Rattle.tidy.specs.Tidy.{Blank, TidySlot}
@@ -17,25 +16,25 @@ use Rattle.tidy.proofs.Whole.{slot-keeps-tidy}
 use Rattle.children.specs.declared.rows.Parent.{Parent}
 use Rattle.children.specs.NewRow.{keptBlock, workingBlock}
 use Rattle.children.specs.NewChild.{MakesChild}
-use Rattle.children.proofs.NewChild.{Stored, to₅, word-stored, value-word, zero-word, few, whole-row}
+use Rattle.children.proofs.NewChild.{Stored, to₄, word-stored, value-word, zero-word, few, whole-row}
 
-module _ {t m₀ m₁ m₂ m₃ m₄ m₅ : List ℕ} {me head i s n callee count bits locals size own : ℕ} {p : Parent}
-    (S : Stored t m₀ m₁ m₂ m₃ m₄ m₅ me head i s n callee count bits locals size own p)
+module _ {t m₀ m₁ m₂ m₃ m₄ : List ℕ} {me head i s n callee count bits locals size own : ℕ} {p : Parent}
+    (S : Stored t m₀ m₁ m₂ m₃ m₄ me head i s n callee count bits locals size own p)
   where
-    first-word : block m₅ s 0 ≡ 1
+    first-word : block m₄ s 0 ≡ 1
     unfolding keptBlock workingBlock putIn
     first-word = word-stored S 0 (λ e. omega arith) (λ x y. omega arith)
 
-    in-use : (rowAt (block m₅ s)) .used ≡ true
+    in-use : (rowAt (block m₄ s)) .used ≡ true
     unfolding rowAt nonzero
     in-use = rw first-word
 
-    number-word : block m₅ s 4 ≡ own + locals
+    number-word : block m₄ s 4 ≡ own + locals
     unfolding keptBlock workingBlock putIn
     number-word = word-stored S 4 (λ e. omega arith) (λ x y. omega arith)
 
     -- the words of a variable that is not there
-    blank-past : (j : ℕ) → own + locals ≤ j → j < 16 → Blank (block m₅ s) j
+    blank-past : (j : ℕ) → own + locals ≤ j → j < 16 → Blank (block m₄ s) j
     blank-past j h l =
         record {
           value = zero-word S (8 + j * 6) (omega arith) (omega arith) (λ x y. omega arith) (λ k a e. omega arith);
@@ -44,7 +43,7 @@ module _ {t m₀ m₁ m₂ m₃ m₄ m₅ : List ℕ} {me head i s n callee coun
           high = zero-word S (11 + j * 6) (omega arith) (omega arith) (λ x y. omega arith) (λ k a e. omega arith);
         }
 
-    slot-tidy : TidySlot (block m₅ s)
+    slot-tidy : TidySlot (block m₄ s)
     slot-tidy =
         record {
           tidy = rw number-word (record {
@@ -58,22 +57,22 @@ module _ {t m₀ m₁ m₂ m₃ m₄ m₅ : List ℕ} {me head i s n callee coun
           free = λ e. absurd (let z = first-word in let q : ⊥ = omega arith in q);
         }
 
-    trigger-word : (k : ℕ) → 144 ≤ k → block m₅ s k ≡ block m₀ s k
+    trigger-word : (k : ℕ) → 144 ≤ k → block m₄ s k ≡ block m₀ s k
     trigger-word k h =
         value-word S k (omega arith) (λ x y. omega arith)
-        ∙ (S .values .others k (λ j l e. omega (arith, few S)) ∙ (ap (λ (b : Block). b k) (S .blank .words) ∙ cleared-above 0 144 (block m₀ s) k h))
+        ∙ S .values .others k (λ j l e. omega (arith, few S))
 
-    pub child-made : MakesChild t m₀ me head i s n m₅
+    pub child-made : MakesChild t m₀ me head i s n m₄
     unfolding storeOf withSlot
     child-made =
         record {
           store = λ k B.
               ap₂ (λ (rows : Rows) (environment : List Variable). record { rows = rows; environment = environment })
-              (rows-in-block (to₅ S) (S .may .slot) ∙ ap (withRow (rowsOf m₀) s) (whole-row S k B)) (environment-stays (to₅ S) (S .may .slot) k);
-          taken = ap (λ (r : Row). r .used) (row-of m₅ s (S .may .slot)) ∙ in-use;
-          others = λ r h. ap (λ (rows : Rows). rows r) (rows-in-block (to₅ S) (S .may .slot)) ∙ with-row-other (rowsOf m₀) s (rowAt (block m₅ s)) r h;
-          environment = environment-stays (to₅ S) (S .may .slot);
-          outside = same-outside (to₅ S) (omega (arith, S .may .slot));
-          triggers = same-triggers (to₅ S) trigger-word;
-          tidy = λ k T. slot-keeps-tidy (to₅ S) (S .may .slot) slot-tidy T;
+              (rows-in-block (to₄ S) (S .may .slot) ∙ ap (withRow (rowsOf m₀) s) (whole-row S k B)) (environment-stays (to₄ S) (S .may .slot) k);
+          taken = ap (λ (r : Row). r .used) (row-of m₄ s (S .may .slot)) ∙ in-use;
+          others = λ r h. ap (λ (rows : Rows). rows r) (rows-in-block (to₄ S) (S .may .slot)) ∙ with-row-other (rowsOf m₀) s (rowAt (block m₄ s)) r h;
+          environment = environment-stays (to₄ S) (S .may .slot);
+          outside = same-outside (to₄ S) (omega (arith, S .may .slot));
+          triggers = same-triggers (to₄ S) trigger-word;
+          tidy = λ k T. slot-keeps-tidy (to₄ S) (S .may .slot) slot-tidy T;
         }

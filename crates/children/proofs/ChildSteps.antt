@@ -1,5 +1,5 @@
 -- What each step of `new_child` asks for follows from what the whole asks for, whatever the steps before left in block s.
-use mathlib.Core.Path.{_≡_, sym, ap, subst, _∙_}
+use mathlib.Core.Path.{_≡_, refl, sym, subst, _∙_}
 use mathlib.Core.Bool.{true}
 use mathlib.Core.List.{List}
 use Prim.Native.Nat.{ℕ, _+_, _≤_, _<_}
@@ -12,9 +12,8 @@ use Rattle.table.proofs.Bounds.{bounds}
 use Rattle.table.proofs.Reach.{arguments-by-number}
 use Rattle.table_read.specs.Opened.{Opened}
 use Rattle.scheduler.specs.Rows.{Row, Rows}
-use Rattle.blocks.specs.Blocks.{Block, block, rowsOf}
-use Rattle.blocks.specs.Changes.{InBlock, cleared}
-use Rattle.blocks.proofs.Puts.{cleared-inside}
+use Rattle.blocks.specs.Blocks.{block, rowsOf}
+use Rattle.blocks.specs.Changes.{InBlock}
 use Rattle.evaluate.specs.Bound.{bindingsOf}
 use Rattle.children.specs.Naming.{MayBind}
 use Rattle.children.specs.Passing.{MayPass}
@@ -41,6 +40,10 @@ argument-count {t} {names} {head} {callee} C e O =
     let same : word t (head + 0) ≡ word t (routineEntry callee + 0) = rw e (C .count) in
     same ∙ sym (arguments-by-number t callee there) ∙ O .count
 
+-- Nothing changed yet.
+unchanged : (s : ℕ) (m : List ℕ) → InBlock s m m (block m s)
+unchanged s m = record { size = refl; below = λ k h. refl; above = λ k h. refl; words = refl }
+
 module _ {t m₀ : List ℕ} {me head i s n : ℕ} (M : MayMake t m₀ me head i s n) where
   pub head-inside : head + 2 ≤ 12288
   head-inside = omega (arith, M .field .arguments .inside)
@@ -66,14 +69,6 @@ module _ {t m₀ : List ℕ} {me head i s n : ℕ} (M : MayMake t m₀ me head i
               (subst (λ (r : Row). NamesStand t (length (r .bindings)) (head + 2) (word t (head + 0))) (sym (caller-row-stays p (M .slot) (M .apart))) (M .field .arguments));
         }
 
-  -- after clearing
-  pub blank-start : {m : List ℕ} → InBlock s m₀ m (cleared 0 144 (block m₀ s)) → InBlock s m₀ m (block m s)
-  blank-start {m} p = subst (λ (b : Block). InBlock s m₀ m b) (sym (p .words)) p
-
-  pub may-pass : {m : List ℕ} {count : ℕ} → InBlock s m₀ m (cleared 0 144 (block m₀ s)) → word t (head + 0) ≡ count → count ≤ 16 → MayPass t m me s (head + 2) count 0
-  may-pass {m} {count} p e few =
-      let room : count + 0 ≤ 16 = omega arith in
-      record {
-        binds = may-bind (blank-start p) e room;
-        blank = λ k h. ap (λ (b : Block). b k) (p .words) ∙ cleared-inside 0 144 (block m₀ s) k (omega arith) h;
-      }
+  pub may-pass : {count : ℕ} → word t (head + 0) ≡ count → count ≤ 16 → MayPass t m₀ me s (head + 2) count 0
+  may-pass {count} e few =
+      let room : count + 0 ≤ 16 = omega arith in record { binds = may-bind (unchanged s m₀) e room; blank = M .blank }

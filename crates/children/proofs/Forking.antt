@@ -14,7 +14,7 @@ use Rattle.table.specs.Entry.{ChildStands}
 use Rattle.scheduler.specs.Rows.{Owner, inEnvironment, inSlot, Row, Rows, withRow, ownerOf}
 use Rattle.scheduler.specs.Engine.{freeSlot, rowsWithChild, rowsWithNew, newSlots}
 use Rattle.scheduler.proofs.Children.{one, usedBelow, freeSlot-free, used-withRow}
-use Rattle.blocks.specs.Blocks.{rowsOf, environmentOf}
+use Rattle.blocks.specs.Blocks.{block, rowsOf, environmentOf}
 use Rattle.blocks.specs.Store.{Store, storeOf, withSlot}
 use Rattle.blocks.specs.Changes.{SameOutside, SameTriggers}
 use Rattle.blocks.specs.Bindings.{variablesBeside}
@@ -27,6 +27,7 @@ use Rattle.children.specs.NewChild.{MayMake, MakesChild}
 use Rattle.children.specs.Fork.{MayFork, MakesChildren}
 use Rattle.children.proofs.Lists.{moved-over}
 use Rattle.children.proofs.ChildSteps.{divides-same}
+use Rattle.children.proofs.FreeBlock.{free-blank, blank-owns-none}
 
 -- ── heads and calls ───────────────────────────────────────────────────────────────────────────────
 pub next-head-after : (t : List ℕ) (a k : ℕ) → headAfter t a (suc k) ≡ afterCall t (headAfter t a k)
@@ -66,7 +67,6 @@ pub record Forking (t before : List ℕ) (me cells n : ℕ) (m places : List ℕ
   pub within : i ≤ n
   pub row : rowsOf m me ≡ rowsOf before me
   pub room : usedBelow (rowsOf m) 64 + (n - i) ≤ 64
-  pub empty : (s : ℕ) → s < 64 → (rowsOf m s) .used ≡ false → (rowsOf m s) .own ≡ []
   pub environment : (k : ℕ) → environmentOf k m ≡ environmentOf k before
   pub outside : SameOutside before m
   pub triggers : SameTriggers before m
@@ -90,7 +90,6 @@ module _ {t before : List ℕ} {me cells n : ℕ} (F : MayFork t before me cells
         within = omega arith;
         row = refl;
         room = omega (arith, F .room);
-        empty = F .empty;
         environment = λ k. refl;
         outside = outside-start before;
         triggers = triggers-start before;
@@ -104,6 +103,9 @@ module _ {t before : List ℕ} {me cells n : ℕ} (F : MayFork t before me cells
     module _ (more : i < n) where
       free : ((rowsOf m (freeSlot (rowsOf m) 64)) .used ≡ false) × (freeSlot (rowsOf m) 64 < 64)
       free = freeSlot-free (rowsOf m) 64 (omega (arith, G .room))
+
+      blank : (k : ℕ) → k < 144 → block m (freeSlot (rowsOf m) 64) k ≡ 0
+      blank = free-blank (G .tidy (F .variables) (F .tidy)) (freeSlot (rowsOf m) 64) (free .1) (free .0)
 
       caller-apart : me ≡ freeSlot (rowsOf m) 64 → ⊥
       caller-apart e =
@@ -121,7 +123,7 @@ module _ {t before : List ℕ} {me cells n : ℕ} (F : MayFork t before me cells
             caller = F .caller;
             slot = free .1;
             apart = caller-apart;
-            empty = G .empty (freeSlot (rowsOf m) 64) (free .1) (free .0);
+            blank = blank;
             field =
                 subst (λ (a : ℕ). ChildStands t (length (bindingsOf m me)) a) (sym (G .place))
                 (subst (λ (r : Row). ChildStands t (length (r .bindings)) (headAfter t cells i)) (sym (G .row)) (F .fields i more));
@@ -132,6 +134,9 @@ module _ {t before : List ℕ} {me cells n : ℕ} (F : MayFork t before me cells
       module _ {after : List ℕ} (s : ℕ) (is : s ≡ freeSlot (rowsOf m) 64) (C : MakesChild t m me head i s n after) where
         free-here : ((rowsOf m s) .used ≡ false) × (s < 64)
         free-here = rw is free
+
+        none-here : (rowsOf m s) .own ≡ []
+        none-here = rw is (blank-owns-none m (freeSlot (rowsOf m) 64) (free .1) blank)
 
         row-then : rowsOf after me ≡ rowsOf before me
         row-then = C .others me (λ e. caller-apart (e ∙ is)) ∙ G .row
@@ -146,16 +151,6 @@ module _ {t before : List ℕ} {me cells n : ℕ} (F : MayFork t before me cells
             let v : one ((rowsOf after s) .used) ≡ 1 = ap one (C .taken) in
             omega (arith, w, e, u, v, G .room)
 
-        empty-then : (r : ℕ) → r < 64 → (rowsOf after r) .used ≡ false → (rowsOf after r) .own ≡ []
-        empty-then r h u = go (ℕ-discrete r s)
-          where
-            go : Dec (r ≡ s) → (rowsOf after r) .own ≡ []
-            go (yes e) =
-                let v : (rowsOf after s) .used ≡ false = rw e at u in
-                let z : _≡_ {A = Bool} true false = sym (C .taken) ∙ v in
-                let q : _≡_ {A = ℕ} 0 1 = cc in absurd (omega arith)
-            go (no d) = rw (C .others r d) (G .empty r h (rw (C .others r d) at u))
-
         module _ (k : ℕ) (B : Bound (storeOf k before) (bindingsOf before me)) where
           rows-then : rowsOf after ≡ rowsWithChild (tableListing t) (rowsOf m) (environmentOf k before) me n (callAt t head) i
           unfolding rowsWithChild storeOf withSlot
@@ -167,7 +162,7 @@ module _ {t before : List ℕ} {me cells n : ℕ} (F : MayFork t before me cells
           unfolding storeOf
           bound-then =
               rw (C .environment k, ap (λ (r : Row). r .bindings) (C .others me (λ e. caller-apart (e ∙ is))))
-              (bound-grows (rowsOf m) (rowsOf after) (environmentOf k m) s (G .empty s (free-here .1) (free-here .0)) (C .others) (bindingsOf m me) (G .bound k B))
+              (bound-grows (rowsOf m) (rowsOf after) (environmentOf k m) s none-here (C .others) (bindingsOf m me) (G .bound k B))
 
           abbrev left : ℕ
           left = n - suc i
@@ -196,7 +191,6 @@ module _ {t before : List ℕ} {me cells n : ℕ} (F : MayFork t before me cells
               within = more;
               row = row-then;
               room = room-then;
-              empty = empty-then;
               environment = λ k. C .environment k ∙ G .environment k;
               outside = outside-then (G .outside) (C .outside);
               triggers = triggers-then (G .triggers) (C .triggers);

@@ -1,5 +1,6 @@
 pub mod Lists
 pub mod FreeSlot
+pub mod FreeBlock
 pub mod Naming
 pub mod OwnNames
 pub mod CallerNames

@@ -1,5 +1,5 @@
 -- A child's whole row: the stores of `new_child`, one after the other, leave the row that its child field makes, and a tidy block.
-use mathlib.Core.Path.{_≡_, sym, ap, subst, _∙_, fun-ext}
+use mathlib.Core.Path.{_≡_, sym, ap, _∙_}
 use mathlib.Core.List.{List}
 use Prim.Native.Nat.{ℕ, suc, _+_, _*_, _-_, _^_, _≤_, _<_, min}
 use native.Mathlib.Omega.{arith}
@@ -7,13 +7,13 @@ use lib.ListN.{length}
 use Rattle.walk.specs.State.{fresh}
 use Rattle.table.specs.Decode.{word, namesAt, callAt, kindsOfBits, tableListing}
 use Rattle.table_read.specs.Opened.{Opened}
-use Rattle.scheduler.specs.Rows.{Row, freeRow}
+use Rattle.scheduler.specs.Rows.{Row}
 use Rattle.scheduler.specs.Engine.{callerAt, childRow, childBindings, childVariables, fewestBits}
 use Rattle.blocks.specs.Blocks.{Block, block, nonzero, variableIn, variablesIn, rowAt, rowsOf, environmentOf}
 use Rattle.blocks.specs.Store.{storeOf}
-use Rattle.blocks.specs.Changes.{InBlock, putIn, cleared}
-use Rattle.blocks.proofs.Puts.{put-other, cleared-inside}
-use Rattle.blocks.proofs.RowChanges.{row-of, variable-same, cleared-row}
+use Rattle.blocks.specs.Changes.{InBlock, putIn}
+use Rattle.blocks.proofs.Puts.{put-other}
+use Rattle.blocks.proofs.RowChanges.{variable-same}
 use Rattle.evaluate.specs.Bound.{Bound, bindingsOf, variableNamed}
 use Rattle.children.specs.declared.rows.Parent.{Parent}
 use Rattle.children.specs.Naming.{NamesBound}
@@ -22,67 +22,63 @@ use Rattle.children.specs.NewRow.{ParentIs, keptBlock, workingBlock}
 use Rattle.children.specs.NewChild.{MayMake}
 use Rattle.children.proofs.Lists.{tabulate-tail}
 use Rattle.children.proofs.OwnNames.{changed-then}
-use Rattle.children.proofs.CallerNames.{caller-row-stays, caller-names-stay, caller-bound-stays}
+use Rattle.children.proofs.CallerNames.{caller-row-stays}
 use Rattle.children.proofs.Passing.{fresh-variable}
 use Rattle.children.proofs.ChildSteps.{argument-count}
 
--- What each store left: block s cleared, the values passed, the kept words, the working words, the names.
-pub record Stored (t m₀ m₁ m₂ m₃ m₄ m₅ : List ℕ) (me head i s n callee count bits locals size own : ℕ) (p : Parent) : Type 0 where
+-- What each store left in block s, which was blank: the values passed, the kept words, the working words, the names.
+pub record Stored (t m₀ m₁ m₂ m₃ m₄ : List ℕ) (me head i s n callee count bits locals size own : ℕ) (p : Parent) : Type 0 where
   pub may : MayMake t m₀ me head i s n
   pub called : callee ≡ word t (head + 1)
   pub opened : Opened t callee count bits locals size
-  pub blank : InBlock s m₀ m₁ (cleared 0 144 (block m₀ s))
-  pub values : ValuesPassed t m₁ me s (head + 2) count bits m₂ own
-  pub parent : ParentIs (rowsOf m₂) me n p
-  pub kept : InBlock s m₂ m₃ (keptBlock (block m₂ s) (p .level) i (own + locals))
-  pub working : InBlock s m₃ m₄ (workingBlock (block m₃ s) p i 0 callee)
-  pub named : NamesBound m₄ s (childBindings (kindsOfBits count bits) (namesAt t (head + 2) count) locals (bindingsOf m₄ me) s 0) m₅
+  pub values : ValuesPassed t m₀ me s (head + 2) count bits m₁ own
+  pub parent : ParentIs (rowsOf m₁) me n p
+  pub kept : InBlock s m₁ m₂ (keptBlock (block m₁ s) (p .level) i (own + locals))
+  pub working : InBlock s m₂ m₃ (workingBlock (block m₂ s) p i 0 callee)
+  pub named : NamesBound m₃ s (childBindings (kindsOfBits count bits) (namesAt t (head + 2) count) locals (bindingsOf m₃ me) s 0) m₄
 
-module _ {t m₀ m₁ m₂ m₃ m₄ m₅ : List ℕ} {me head i s n callee count bits locals size own : ℕ} {p : Parent}
-    (S : Stored t m₀ m₁ m₂ m₃ m₄ m₅ me head i s n callee count bits locals size own p)
+module _ {t m₀ m₁ m₂ m₃ m₄ : List ℕ} {me head i s n callee count bits locals size own : ℕ} {p : Parent}
+    (S : Stored t m₀ m₁ m₂ m₃ m₄ me head i s n callee count bits locals size own p)
   where
     -- ── the words of block s ──────────────────────────────────────────────────────────────────────
     to₁ : InBlock s m₀ m₁ (block m₁ s)
-    to₁ = subst (λ (b : Block). InBlock s m₀ m₁ b) (sym (S .blank .words)) (S .blank)
+    to₁ = S .values .inBlock
 
-    to₂ : InBlock s m₀ m₂ (block m₂ s)
-    to₂ = changed-then to₁ (S .values .inBlock)
+    to₃ : InBlock s m₀ m₃ (block m₃ s)
+    to₃ = changed-then (changed-then to₁ (S .kept)) (S .working)
 
-    to₄ : InBlock s m₀ m₄ (block m₄ s)
-    to₄ = changed-then (changed-then to₂ (S .kept)) (S .working)
-
-    pub to₅ : InBlock s m₀ m₅ (block m₅ s)
-    to₅ = changed-then to₄ (S .named .inBlock)
+    pub to₄ : InBlock s m₀ m₄ (block m₄ s)
+    to₄ = changed-then to₃ (S .named .inBlock)
 
     abbrev stored : Block
-    stored = workingBlock (keptBlock (block m₂ s) (p .level) i (own + locals)) p i 0 callee
+    stored = workingBlock (keptBlock (block m₁ s) (p .level) i (own + locals)) p i 0 callee
 
     -- but for the names
-    pub word-stored : (k : ℕ) → (k ≡ 110 → ⊥) → (112 ≤ k → k < 128 → ⊥) → block m₅ s k ≡ stored k
+    pub word-stored : (k : ℕ) → (k ≡ 110 → ⊥) → (112 ≤ k → k < 128 → ⊥) → block m₄ s k ≡ stored k
     word-stored k h l =
         S .named .others k h l
         ∙ ap (λ (b : Block). b k) (S .working .words ∙ ap (λ (b : Block). workingBlock b p i 0 callee) (S .kept .words))
 
     -- a word that no store changed
-    untouched : (k : ℕ) → 5 ≤ k → (104 ≤ k → k < 112 → ⊥) → stored k ≡ block m₂ s k
+    untouched : (k : ℕ) → 5 ≤ k → (104 ≤ k → k < 112 → ⊥) → stored k ≡ block m₁ s k
     unfolding keptBlock workingBlock
     untouched k h l =
         put-other _ 111 (p .base) k (λ e. l (omega arith) (omega arith)) ∙ (put-other _ 109 callee k (λ e. l (omega arith) (omega arith))
         ∙ (put-other _ 108 (p .bits) k (λ e. l (omega arith) (omega arith)) ∙ (put-other _ 107 (p .low + i * 2 ^ p .bits) k (λ e. l (omega arith) (omega arith))
         ∙ (put-other _ 106 0 k (λ e. l (omega arith) (omega arith)) ∙ (put-other _ 105 (p .slot) k (λ e. l (omega arith) (omega arith))
         ∙ (put-other _ 104 0 k (λ e. l (omega arith) (omega arith)) ∙ (put-other _ 4 (own + locals) k (λ e. omega arith)
-        ∙ (put-other _ 2 i k (λ e. omega arith) ∙ (put-other _ 1 (p .level) k (λ e. omega arith) ∙ put-other (block m₂ s) 0 1 k (λ e. omega arith))))))))))
+        ∙ (put-other _ 2 i k (λ e. omega arith) ∙ (put-other _ 1 (p .level) k (λ e. omega arith) ∙ put-other (block m₁ s) 0 1 k (λ e. omega arith))))))))))
 
-    pub value-word : (k : ℕ) → 5 ≤ k → (104 ≤ k → k < 128 → ⊥) → block m₅ s k ≡ block m₂ s k
+    pub value-word : (k : ℕ) → 5 ≤ k → (104 ≤ k → k < 128 → ⊥) → block m₄ s k ≡ block m₁ s k
     value-word k h l = word-stored k (λ e. l (omega arith) (omega arith)) (λ x y. l (omega arith) y) ∙ untouched k h (λ x y. l x (omega arith))
 
-    zero-before : (k : ℕ) → k < 144 → ((j : ℕ) → j < own → k ≡ 8 + j * 6 → ⊥) → block m₂ s k ≡ 0
-    zero-before k h l = S .values .others k l ∙ ap (λ (b : Block). b k) (S .blank .words) ∙ cleared-inside 0 144 (block m₀ s) k (omega arith) h
+    zero-before : (k : ℕ) → k < 144 → ((j : ℕ) → j < own → k ≡ 8 + j * 6 → ⊥) → block m₁ s k ≡ 0
+    zero-before k h l = S .values .others k l ∙ S .may .blank k h
 
-    pub zero-word : (k : ℕ) → 5 ≤ k → k < 144 → (104 ≤ k → k < 128 → ⊥) → ((j : ℕ) → j < own → k ≡ 8 + j * 6 → ⊥) → block m₅ s k ≡ 0
+    pub zero-word : (k : ℕ) → 5 ≤ k → k < 144 → (104 ≤ k → k < 128 → ⊥) → ((j : ℕ) → j < own → k ≡ 8 + j * 6 → ⊥) → block m₄ s k ≡ 0
     zero-word k h g l v = value-word k h l ∙ zero-before k g v
 
-    place-word : block m₅ s 3 ≡ 0
+    place-word : block m₄ s 3 ≡ 0
     unfolding keptBlock workingBlock putIn
     place-word = word-stored 3 (λ e. omega arith) (λ x y. omega arith) ∙ zero-before 3 (omega arith) (λ j h e. omega arith)
 
@@ -90,44 +86,35 @@ module _ {t m₀ m₁ m₂ m₃ m₄ m₅ : List ℕ} {me head i s n callee coun
     pub few : own + locals ≤ 16
     few = omega (arith, S .values .few, S .opened .names)
 
-    old-variable : (j : ℕ) → j < own → variableIn (block m₅ s) j ≡ variableIn (block m₂ s) j
+    old-variable : (j : ℕ) → j < own → variableIn (block m₄ s) j ≡ variableIn (block m₁ s) j
     old-variable j h =
         let room = few in
-        variable-same (block m₂ s) (block m₅ s) j (value-word _ (omega arith) (λ x y. omega arith)) (value-word _ (omega arith) (λ x y. omega arith))
+        variable-same (block m₁ s) (block m₄ s) j (value-word _ (omega arith) (λ x y. omega arith)) (value-word _ (omega arith) (λ x y. omega arith))
         (value-word _ (omega arith) (λ x y. omega arith)) (value-word _ (omega arith) (λ x y. omega arith)) (value-word _ (omega arith) (λ x y. omega arith))
 
-    new-local : (j : ℕ) → own ≤ j → j < own + locals → variableIn (block m₅ s) j ≡ fresh 0
+    new-local : (j : ℕ) → own ≤ j → j < own + locals → variableIn (block m₄ s) j ≡ fresh 0
     new-local j h l =
         let room = few in
-        fresh-variable (block m₅ s) j 0 (zero-word (8 + j * 6) (omega arith) (omega arith) (λ x y. omega arith) (λ k a e. omega arith))
+        fresh-variable (block m₄ s) j 0 (zero-word (8 + j * 6) (omega arith) (omega arith) (λ x y. omega arith) (λ k a e. omega arith))
         (zero-word (9 + j * 6) (omega arith) (omega arith) (λ x y. omega arith) (λ k a e. omega arith))
         (zero-word (10 + j * 6) (omega arith) (omega arith) (λ x y. omega arith) (λ k a e. omega arith))
         (zero-word (11 + j * 6) (omega arith) (omega arith) (λ x y. omega arith) (λ k a e. omega arith))
         (zero-word (128 + j) (omega arith) (omega arith) (λ x y. omega arith) (λ k a e. omega arith))
 
     module _ (k : ℕ) (B : Bound (storeOf k m₀) (bindingsOf m₀ me)) where
-      none-before : (rowsOf m₁ s) .own ≡ (rowsOf m₀ s) .own
-      unfolding freeRow
-      none-before =
-          ap (λ (r : Row). r .own) (row-of m₁ s (S .may .slot) ∙ ap rowAt (S .blank .words) ∙ cleared-row (block m₀ s)) ∙ sym (S .may .empty)
-
-      same-names : variableNamed k m₁ me ≡ variableNamed k m₀ me
-      same-names = fun-ext λ name. caller-names-stay to₁ (S .may .slot) (S .may .apart) none-before k name
-
-      own-variables : variablesIn (block m₅ s) (own + locals) ≡ childVariables (kindsOfBits count bits) (namesAt t (head + 2) count) locals (variableNamed k m₀ me)
+      own-variables : variablesIn (block m₄ s) (own + locals) ≡ childVariables (kindsOfBits count bits) (namesAt t (head + 2) count) locals (variableNamed k m₀ me)
       unfolding variablesIn
       own-variables =
           let all : min (own + locals) 16 ≡ own + locals = omega (arith, few) in
-          rw (all, tabulate-tail own locals (variableIn (block m₂ s)) (variableIn (block m₅ s)) (fresh 0) old-variable new-local)
-          (S .values .variables k (caller-bound-stays to₁ (S .may .slot) (S .may .apart) none-before k B) locals
-          ∙ ap (childVariables (kindsOfBits count bits) (namesAt t (head + 2) count) locals) same-names)
+          rw (all, tabulate-tail own locals (variableIn (block m₁ s)) (variableIn (block m₄ s)) (fresh 0) old-variable new-local)
+          (S .values .variables k B locals)
 
       -- ── the row ─────────────────────────────────────────────────────────────────────────────────
-      caller-same : rowsOf m₂ me ≡ rowsOf m₀ me
-      caller-same = caller-row-stays to₂ (S .may .slot) (S .may .apart)
+      caller-same : rowsOf m₁ me ≡ rowsOf m₀ me
+      caller-same = caller-row-stays to₁ (S .may .slot) (S .may .apart)
 
-      names-same : bindingsOf m₄ me ≡ bindingsOf m₀ me
-      names-same = ap (λ (r : Row). r .bindings) (caller-row-stays to₄ (S .may .slot) (S .may .apart))
+      names-same : bindingsOf m₃ me ≡ bindingsOf m₀ me
+      names-same = ap (λ (r : Row). r .bindings) (caller-row-stays to₃ (S .may .slot) (S .may .apart))
 
       is-called : callAt t head ≡ record { callee = callee; arguments = namesAt t (head + 2) count }
       unfolding callAt
@@ -145,10 +132,10 @@ module _ {t m₀ m₁ m₂ m₃ m₄ m₅ : List ℕ} {me head i s n callee coun
       bits-is : p .bits ≡ (rowsOf m₀ me) .bits - fewestBits n
       bits-is = S .parent .bits ∙ ap (λ (r : Row). r .bits - fewestBits n) caller-same
 
-      pub whole-row : rowAt (block m₅ s) ≡ childRow (tableListing t) (callerAt (rowsOf m₀) (environmentOf k m₀) me n) (callAt t head) i s
+      pub whole-row : rowAt (block m₄ s) ≡ childRow (tableListing t) (callerAt (rowsOf m₀) (environmentOf k m₀) me n) (callAt t head) i s
       unfolding rowAt childRow callerAt nonzero keptBlock workingBlock putIn
       whole-row =
-          let apart : (k : ℕ) → k < 110 → block m₅ s k ≡ stored k = λ k h. word-stored k (λ e. omega arith) (λ x y. omega arith) in
+          let apart : (k : ℕ) → k < 110 → block m₄ s k ≡ stored k = λ k h. word-stored k (λ e. omega arith) (λ x y. omega arith) in
           rw (
             is-called,
             apart 0 (omega arith),

@@ -1,7 +1,7 @@
 -- What making all children of an `F` asks for and promises. The letters are those of specs/NewChild; `cells` is the address of the first child field.
 use mathlib.Core.Path.{_≡_}
-use mathlib.Core.Bool.{true, false}
-use mathlib.Core.List.{List, []}
+use mathlib.Core.Bool.{true}
+use mathlib.Core.List.{List}
 use Prim.Native.Nat.{ℕ, _+_, _≤_, _<_}
 use lib.ListN.{length, take}
 use Rattle.table.specs.Decode.{callsAt, headAfter, tableListing}
@@ -30,7 +30,9 @@ pub record MayFork (t m : List ℕ) (me cells n : ℕ) : Type 0 where
   pub fields : (j : ℕ) → j < n → ChildStands t (length (bindingsOf m me)) (headAfter t cells j)
   pub divides : MayDivide (rowsOf m) me n
   pub room : usedBelow (rowsOf m) 64 + n ≤ 64
-  pub empty : (s : ℕ) → s < 64 → (rowsOf m s) .used ≡ false → (rowsOf m s) .own ≡ []
+  -- free slots are blank, whatever the number of environment variables
+  pub variables : ℕ
+  pub tidy : Tidy variables m
 
 -- All children exist, in the slots r, if the caller's names lead to variables that are there; nothing else changed.
 pub record MakesChildren (t before : List ℕ) (me cells n : ℕ) (after : List ℕ) (r : NewSlots) : Type 0 where

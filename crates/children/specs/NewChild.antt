@@ -2,7 +2,7 @@
 -- child field, i its number, s the slot it takes, n the number of children of the `F`, k the number of environment variables.
 use mathlib.Core.Path.{_≡_}
 use mathlib.Core.Bool.{true}
-use mathlib.Core.List.{List, []}
+use mathlib.Core.List.{List}
 use Prim.Native.Nat.{ℕ, _≤_, _<_}
 use lib.ListN.{length}
 use Rattle.table.specs.Decode.{callAt, tableListing}
@@ -10,21 +10,21 @@ use Rattle.table.specs.Entry.{ChildStands}
 use Rattle.table.specs.Question6.{isTable}
 use Rattle.scheduler.specs.Rows.{Row}
 use Rattle.scheduler.specs.Engine.{callerAt, childRow}
-use Rattle.blocks.specs.Blocks.{rowsOf, environmentOf}
+use Rattle.blocks.specs.Blocks.{block, rowsOf, environmentOf}
 use Rattle.blocks.specs.Store.{storeOf, withSlot}
 use Rattle.blocks.specs.Changes.{SameOutside, SameTriggers}
 use Rattle.tidy.specs.Tidy.{Tidy}
 use Rattle.evaluate.specs.Bound.{Bound, bindingsOf}
 use Rattle.children.specs.NewRow.{MayDivide}
 
--- The child field fits its caller, and slot s has no variables, as a free slot has none.
+-- The child field fits its caller, and slot s is blank, as a free slot is.
 pub record MayMake (t m : List ℕ) (me head i s n : ℕ) : Type 0 where
   pub size : 12288 ≤ length m
   pub table : isTable t ≡ true
   pub caller : me < 64
   pub slot : s < 64
   pub apart : me ≡ s → ⊥
-  pub empty : (rowsOf m s) .own ≡ []
+  pub blank : (k : ℕ) → k < 144 → block m s k ≡ 0
   pub field : ChildStands t (length (bindingsOf m me)) head
   pub divides : MayDivide (rowsOf m) me n
   pub numbered : i < n

@@ -8,18 +8,16 @@ use crate::rows::put_kept;
 use crate::rows::put_working;
 use crate::slots::free_slot;
 use crate::values::pass_values;
-use blocks::clear_words;
 use table_read::head_at;
 use table_read::next_head;
 use table_read::opening_of;
 
 // The whole row of child number i, whose field stands at `head`, in slot s: one of n children of the routine in slot `me`.
-// Nothing of a routine that was in the slot before shows.
+// A free slot's words are 0, so nothing of a routine that was in it before shows.
 pub fn new_child(t: &[u32], m: &mut [u32], me: usize, head: usize, i: u32, s: usize, n: u32)
     requires { ⌜ MayMake (now t) (now m) me head i s n ⌝ }
     ensures { λ _. ⌜ MakesChild (now (t .entry)) (now (m .entry)) me head i s n (now (m .exit)) ⌝ }
 {
-    clear_words(m, s, 0, 144);
     let field = head_at(t, head);
     let callee = field.callee;
     let opening = opening_of(t, callee);

@@ -1,7 +1,7 @@
 -- The parent's live children counted: what else stays of its row, and what the fork then asks. Letters: a the words before, b the words after, u the running state.
 use mathlib.Core.Path.{_≡_, refl, sym, ap, subst, _∙_}
-use mathlib.Core.Bool.{Bool, true, false}
-use mathlib.Core.List.{List, []}
+use mathlib.Core.Bool.{true}
+use mathlib.Core.List.{List}
 use Prim.Native.Nat.{ℕ, zero, suc, _+_, _≤_, _<_}
 use native.Mathlib.Decide.{ℕ-discrete}
 use native.Mathlib.Omega.{arith}
@@ -16,13 +16,21 @@ use Rattle.blocks.specs.Changes.{Changes, putIn}
 use Rattle.blocks.specs.Bindings.{variablesBeside}
 use Rattle.table.specs.Entry.{ChildStands}
 use Rattle.table.specs.Decode.{headAfter}
+use Rattle.tidy.specs.Tidy.{Tidy}
+use Rattle.tidy.proofs.Whole.{slot-keeps-tidy, working-slot}
 use Rattle.evaluate.specs.Bound.{numberOf, Bound, bindingsOf}
 use Rattle.children.specs.NewRow.{MayDivide}
 use Rattle.children.specs.Fork.{MayFork}
 use Rattle.steps.specs.declared.running.Running.{Running}
-use Rattle.steps.proofs.Stores.{rows-changed, environment-kept, row-changed}
+use Rattle.steps.proofs.Stores.{rows-changed, environment-kept, row-changed, live-word}
 use Rattle.steps.proofs.Joining.{row-elsewhere}
 use Rattle.forks.specs.Asked.{MayForkStep}
+
+-- The parent's block with its children counted is tidy.
+pub counted-tidy : {k : ℕ} {a b : List ℕ} (me n : ℕ) {change : Store → Store} → Changes me a b (putIn (block a me) 106 n) change
+    → me < 64 → (rowsOf a me) .used ≡ true → Tidy k a → Tidy k b
+counted-tidy {a = a} me n q slot live tidy =
+    slot-keeps-tidy (q .inBlock) slot (working-slot (block a me) 106 n (omega arith) (live-word a me slot live) (tidy .slots me slot)) tidy
 
 module _ {me : ℕ} {a b : List ℕ} {c : Block} (n : ℕ) (q : Changes me a b c (withSlot me (λ r. withChildren r n))) where
   -- A field that the number of children does not touch.
@@ -75,9 +83,9 @@ module _ {me : ℕ} {a b : List ℕ} {c : Block} (n : ℕ) (q : Changes me a b c
   unfolding withChildren
   used-same = ap (λ (rows : Rows). usedBelow rows 64) (rows-changed (λ r. withChildren r n) q) ∙ used-keep (rowsOf a) me (withChildren (rowsOf a me) n) 64 refl
 
-  pub may-fork : {t : List ℕ} {cells : ℕ} (u : Running) → u .me ≡ me → MayForkStep t a u cells n → (rowsOf a me) .level ≤ 9 → u .live + n ≤ 64
-      → MayFork t b me cells n
-  may-fork {t} {cells} u here may level room =
+  pub may-fork : {t : List ℕ} {cells : ℕ} (u : Running) → u .me ≡ me → (may : MayForkStep t a u cells n) → (rowsOf a me) .level ≤ 9 → u .live + n ≤ 64
+      → Tidy (may .variables) b → MayFork t b me cells n
+  may-fork {t} {cells} u here may level room tidy =
       record {
         size = let e = q .outside .size in let h = may .pops .size in omega arith;
         table = may .table;
@@ -86,5 +94,6 @@ module _ {me : ℕ} {a b : List ℕ} {c : Block} (n : ℕ) (q : Changes me a b c
         fields = λ j h. rw bindings-kept (rw here at (may .fields j h));
         divides = divides-kept (rw here at (may .divides (rw here level)));
         room = let e = used-same in let f = may .counted in omega arith;
-        empty = λ s h free. own-kept s ∙ may .empty s h (sym (used-kept s) ∙ free);
+        variables = may .variables;
+        tidy = tidy;
       }

@@ -18,7 +18,6 @@ use Rattle.blocks.specs.Blocks.{block, rowsOf, environmentOf}
 use Rattle.blocks.specs.Store.{storeOf, withSlot}
 use Rattle.blocks.specs.Changes.{Changes, putIn}
 use Rattle.tidy.specs.Tidy.{Tidy}
-use Rattle.tidy.proofs.Whole.{slot-keeps-tidy, working-slot}
 use Rattle.ready.specs.Slots.{slotsOf}
 use Rattle.evaluate.specs.Bound.{Bound, bindingsOf}
 use Rattle.children.specs.declared.fork.NewSlots.{NewSlots}
@@ -28,10 +27,10 @@ use Rattle.steps.specs.declared.running.Answer.the-variants.{Goes, Ends, Halts}
 use Rattle.steps.specs.declared.running.Stepped.{Stepped}
 use Rattle.steps.specs.Outcome.{left-by, Reading, Pops, Executes}
 use Rattle.steps.specs.Asked.{MayPop, Slots}
-use Rattle.steps.proofs.Stores.{rows-changed, environment-kept, change-stays, stays-then, stays-start, live-word}
+use Rattle.steps.proofs.Stores.{rows-changed, environment-kept, change-stays, stays-then, stays-start}
 use Rattle.forks.specs.Asked.{MayForkStep}
 use Rattle.forks.proofs.NewSlots.{count-calls, new-small, new-sleepers, slots-each, slots-join}
-use Rattle.forks.proofs.Counted.{field-kept, bound-kept}
+use Rattle.forks.proofs.Counted.{field-kept, bound-kept, counted-tidy}
 
 module _ (t a : List ℕ) (u : Running) (cells n moment : ℕ) where
   -- 14: "live routines plus new children at most 64?"
@@ -65,15 +64,11 @@ module _ {t a b c : List ℕ} {u : Running} {cells n : ℕ} {new : NewSlots}
   slots-small k = rw (f .slots (may .variables) bound-now) (new-small (tableListing t) (environmentOf (may .variables) b) (u .me) n (rowsOf b) (callsAt t cells n) 0 k)
 
   -- The new slots can be put before the others.
-  pub may-put : u .live + n ≤ 64 → ((u .ready) .count + new .count ≤ 64) × (new .count ≤ 8) × ((k : ℕ) → k < new .count → getD (new .places) k 0 < 64)
+  pub may-put : u .live + n ≤ 64 → ((u .ready) .count + new .count ≤ 64) × (new .count ≤ 8)
   may-put room =
       let e = f .count in
       let w = may .waiting in
-      let h = may .most in (
-        omega arith,
-        omega arith,
-        λ k l. subst (λ (s : ℕ). s < 64) (getD-take (new .count) (new .places) k 0 l) (slots-small k),
-      )
+      let h = may .most in (omega arith, omega arith)
 
   module _ (v : Running) (ready : slotsOf (v .ready) ≡ slotsIn new ++ slotsOf (u .ready)) (woken : v .woken ≡ u .woken) where
     -- The first that is ready, the first child, can go on.
@@ -120,6 +115,5 @@ module _ {t a b c : List ℕ} {u : Running} {cells n : ℕ} {new : NewSlots}
               (rw (rows, environment, first, live, woken) at (pops .outcome k go left));
           stays = stays-then (change-stays q) (stays-then (record { outside = f .outside; triggers = f .triggers }) (pops .stays));
           tidy = λ k triggers reading alive tidy.
-              pops .tidy k alive (f .tidy k (slot-keeps-tidy (q .inBlock) (may .slot)
-              (working-slot (block a (u .me)) 106 n (omega arith) (live-word a (u .me) (may .slot) (may .live)) (tidy .slots (u .me) (may .slot))) tidy));
+              pops .tidy k alive (f .tidy k (counted-tidy (u .me) n q (may .slot) (may .live) tidy));
         }

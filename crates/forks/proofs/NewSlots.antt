@@ -1,12 +1,11 @@
--- The slots of new children: below 64, put before the others; and what they leave of the sleepers. Letters: rows as in scheduler's Engine.
+-- The slots of new children: below 64; and what they leave of the sleepers. Letters: rows as in scheduler's Engine.
 use mathlib.Core.Path.{_≡_, refl, sym, ap, _∙_}
 use mathlib.Core.Bool.{Bool, true, false}
-use mathlib.Core.List.{List, [], _∷_, _++_, append-assoc}
+use mathlib.Core.List.{List, [], _∷_, _++_}
 use Prim.Native.Nat.{ℕ, zero, suc, _+_, _≤_, _<_}
 use native.Mathlib.Decide.{ℕ-discrete}
 use native.Mathlib.Omega.{arith}
-use lib.ListN.{length, getD, take, drop, length-take}
-use lib.Seq.{take-at, drop-at, take-suc}
+use lib.ListN.{getD}
 use Rattle.listing.specs.Listing.{Listing, Call}
 use Rattle.walk.specs.State.{Variable}
 use Rattle.walk.specs.Walk.{childCount}
@@ -71,10 +70,3 @@ slots-each (s ∷ l) h = slots-one (h 0) (slots-each l (λ k. h (suc k)))
 pub slots-join : {a b : List ℕ} → Slots a → Slots b → Slots (a ++ b)
 slots-join slots-none p = p
 slots-join (slots-one h q) p = slots-one h (slots-join q p)
-
--- One slot more behind the first k.
-pub put-next : (places others : List ℕ) (k : ℕ) → k < length places
-    → take k (take k places ++ others) ++ (getD places k 0 ∷ drop k (take k places ++ others)) ≡ take (suc k) places ++ others
-put-next places others k h =
-    let l : length (take k places) ≡ k = simp length-take (omega arith) in
-    rw (take-at (take k places) others k l, drop-at (take k places) others k l, take-suc places k 0 h, append-assoc (take k places) (getD places k 0 ∷ []) others)

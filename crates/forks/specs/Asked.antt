@@ -1,7 +1,7 @@
 -- What an `F` of the running routine asks of the words and of the running state. Letters: t the table's words, u the running state,
 -- `cells` the address of the first child field, n the number of children.
-use mathlib.Core.Bool.{true, false}
-use mathlib.Core.List.{List, []}
+use mathlib.Core.Bool.{true}
+use mathlib.Core.List.{List}
 use mathlib.Core.Path.{_≡_}
 use Prim.Native.Nat.{ℕ, _+_, _≤_, _<_}
 use lib.ListN.{length}
@@ -12,6 +12,7 @@ use Rattle.scheduler.specs.Rows.{Row}
 use Rattle.scheduler.proofs.Children.{usedBelow}
 use Rattle.blocks.specs.Blocks.{rowsOf}
 use Rattle.blocks.specs.Store.{storeOf}
+use Rattle.tidy.specs.Tidy.{Tidy}
 use Rattle.evaluate.specs.Bound.{Bound, bindingsOf}
 use Rattle.children.specs.NewRow.{MayDivide}
 use Rattle.steps.specs.declared.running.Running.{Running}
@@ -29,7 +30,7 @@ pub record MayForkStep (t words : List ℕ) (u : Running) (cells n : ℕ) : Type
   pub counted : usedBelow (rowsOf words) 64 ≡ u .live
   pub room : u .live ≤ 64
   pub waiting : (u .ready) .count ≤ u .live
-  pub empty : (s : ℕ) → s < 64 → (rowsOf words s) .used ≡ false → (rowsOf words s) .own ≡ []
-  -- the environment's variables, with which all names are bound
+  -- the environment's variables, with which all names are bound; free slots are blank
   pub variables : ℕ
+  pub tidy : Tidy variables words
   pub bound : Bound (storeOf variables words) (bindingsOf words (u .me))

@@ -3,8 +3,8 @@ use mathlib.Core.List.{List, [], _∷_, _++_, append-assoc}
 use mathlib.Core.Path.{_≡_, refl, ap, ap₂, _∙_}
 use Prim.Native.Nat.{ℕ, zero, suc, _+_, _≤_, _<_}
 use native.Mathlib.Omega.{arith}
-use lib.ListN.{length, getD, set}
-use lib.Seq.{getD-set-same, getD-set-other}
+use lib.ListN.{length, getD, set, take, drop, drop-of-length-le}
+use lib.Seq.{getD-set-same, getD-set-other, drop-cons, getD-take, length-take-le}
 use Rattle.ready.specs.Slots.{falling, slotsOf}
 use Rattle.ready.specs.declared.ReadyList.{ReadyList}
 
@@ -49,3 +49,18 @@ falling-stored p i n v h =
 pub length-slots : (q : ReadyList) → length (slotsOf q) ≡ q .count
 unfolding slotsOf
 length-slots q = length-falling (q .places) 0 (q .count)
+
+-- ── new slots before the others ───────────────────────────────────────────────────────────────────
+-- The next new slot, from the last one down, stored behind the entries in use.
+pub put-next : (p new others : List ℕ) (count at left : ℕ) → left < count → count ≤ length new → at < length p → falling p 0 at ≡ drop (suc left) (take count new) ++ others
+    → falling (set p at (getD new left 0)) 0 (suc at) ≡ drop left (take count new) ++ others
+unfolding falling
+put-next p new others count at left h few room e =
+    let here : length (take count new) ≡ count = length-take-le count new few in
+    let stored : falling (set p at (getD new left 0)) 0 (suc at) ≡ getD new left 0 ∷ falling p 0 at =
+    let z : 0 + at ≡ at = omega arith in
+    ap₂ (λ (v : ℕ) (r : List ℕ). v ∷ r) (rw z (getD-set-same p at (getD new left 0) 0 room)) (falling-set p at (getD new left 0) 0 at (λ j a b q. omega arith)) in
+    stored ∙ rw (drop-cons (take count new) left 0 (omega arith), getD-take count new left 0 h, e)
+
+pub none-put : (new : List ℕ) (count : ℕ) → count ≤ length new → drop count (take count new) ≡ []
+none-put new count few = drop-of-length-le (take count new) {i = count} (let e = length-take-le count new few in omega arith)

@@ -58,8 +58,8 @@ module _ {t m : List ℕ} {u : Running} (may : MayStep t m u) where
         counted = may .counted;
         room = may .room;
         waiting = may .waiting;
-        empty = may .empty;
         variables = may .variables;
+        tidy = may .tidy;
         bound = may .bound;
       }
 

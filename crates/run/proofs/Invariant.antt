@@ -21,10 +21,8 @@ use Rattle.scheduler.proofs.Steady.{TableFits, steady-record}
 use Rattle.scheduler.proofs.Reachable.{Reached}
 use Rattle.scheduler.proofs.Bounds.{Bounds, reached-bounds}
 use Rattle.scheduler.proofs.RowBounds.{ready-rises}
-use Rattle.blocks.specs.Blocks.{block, nonzero, ownerAt, variablesIn, rowAt, rowsOf, environmentOf}
+use Rattle.blocks.specs.Blocks.{ownerAt, rowsOf, environmentOf}
 use Rattle.blocks.specs.Store.{storeOf}
-use Rattle.blocks.specs.Tabulate.{tabulateFrom}
-use Rattle.blocks.proofs.RowChanges.{row-of}
 use Rattle.tidy.specs.Tidy.{Tidy}
 use Rattle.ready.specs.Slots.{slotsOf}
 use Rattle.ready.specs.Ordered.{Ordered}
@@ -53,20 +51,6 @@ few-bits n = go (ltb 1 n) (ltb 2 n) (ltb 4 n)
     go true false c = omega arith
     go true true false = omega arith
     go true true true = omega arith
-
-zero-of : (k : ℕ) → nonzero k ≡ false → k ≡ 0
-unfolding nonzero
-zero-of zero e = refl
-zero-of (suc k) e = let z : _≡_ {A = ℕ} 0 1 = cc in absurd (omega arith)
-
--- A free slot of tidy words has no variables.
-free-owns-none : {n : ℕ} {w : List ℕ} → Tidy n w → (s : ℕ) → s < 64 → (rowsOf w s) .used ≡ false → (rowsOf w s) .own ≡ []
-unfolding rowAt variablesIn tabulateFrom
-free-owns-none {n} {w} tidy s h free =
-    let e = row-of w s h in
-    let first : block w s 0 ≡ 0 = zero-of (block w s 0) (sym (ap (λ (r : Row). r .used) e) ∙ free) in
-    let none : block w s 4 ≡ 0 = tidy .slots s h .free first 4 (omega arith) in
-    ap (λ (r : Row). r .own) e ∙ rw none
 
 module _ (t w : List ℕ) (n moment : ℕ) (triggers : Owner → List ℕ) (T : TableFits (tableListing t)) (left : ℕ) (u : Running) (table : isTable t ≡ true)
     (R : Reached (tableListing t) moment triggers T left (rowsOf w) (environmentOf n w) (slotsOf (u .ready)) (u .live) (u .woken) (u .me)) where
@@ -121,8 +105,8 @@ module _ (t w : List ℕ) (n moment : ℕ) (triggers : Owner → List ℕ) (T : 
             let e = length-slots (u .ready) in
             let f = live-few in-order (ready-live (tableListing t) moment triggers T left (rowsOf w) (environmentOf n w) (slotsOf (u .ready)) (u .live) (u .woken) (u .me) R) in
             let g = R .sound .used in omega arith;
-        empty = λ s h free. free-owns-none tidy s h free;
         variables = n;
+        tidy = tidy;
         bound = names-bound;
       }
 

@@ -1,6 +1,6 @@
 -- What one step asks of the words and of the running state. Letters: t the table's words, u the running state.
-use mathlib.Core.Bool.{true, false}
-use mathlib.Core.List.{List, []}
+use mathlib.Core.Bool.{true}
+use mathlib.Core.List.{List}
 use mathlib.Core.Path.{_≡_}
 use Prim.Native.Nat.{ℕ, suc, _+_, _≤_, _<_}
 use lib.ListN.{length}
@@ -12,6 +12,7 @@ use Rattle.blocks.specs.Blocks.{rowsOf}
 use Rattle.blocks.specs.Store.{storeOf}
 use Rattle.ready.specs.Ordered.{Ordered}
 use Rattle.ready.specs.Slots.{slotsOf}
+use Rattle.tidy.specs.Tidy.{Tidy}
 use Rattle.evaluate.specs.Bound.{Bound, bindingsOf}
 use Rattle.children.specs.NewRow.{MayDivide}
 use Rattle.steps.specs.declared.running.Running.{Running}
@@ -30,11 +31,11 @@ pub record MayStep (t words : List ℕ) (u : Running) : Type 0 where
   pub parent : (k : ℕ) → (rowsOf words (u .me)) .level ≡ suc k →
       ((rowsOf words (u .me)) .parent < 64) × (suc ((rowsOf words ((rowsOf words (u .me)) .parent)) .place) < 4294967296)
   pub divides : (n : ℕ) → n ≤ 8 → (rowsOf words (u .me)) .level ≤ 9 → MayDivide (rowsOf words) (u .me) n
-  -- the live routines are those in use; the ready ones are among them; a free slot has no variables
+  -- the live routines are those in use; the ready ones are among them
   pub counted : usedBelow (rowsOf words) 64 ≡ u .live
   pub room : u .live ≤ 64
   pub waiting : (u .ready) .count ≤ u .live
-  pub empty : (s : ℕ) → s < 64 → (rowsOf words s) .used ≡ false → (rowsOf words s) .own ≡ []
-  -- the environment's variables, with which all names are bound
+  -- the environment's variables, with which all names are bound; free slots are blank
   pub variables : ℕ
+  pub tidy : Tidy variables words
   pub bound : Bound (storeOf variables words) (bindingsOf words (u .me))

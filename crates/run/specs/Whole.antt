@@ -56,7 +56,8 @@ pub record MayBeginRun (t words : List ℕ) (moment left : ℕ) (ready : ReadyLi
       ((go : RowsRunner) → nextReady go left (rowsOf words) (environmentOf (environmentSize (tableListing t)) words) (slotsOf ready) live 0 ≡
       go σ′ environment′ ready′ live′ woken′ me′) → Reached (tableListing t) moment triggers fits left σ′ environment′ ready′ live′ woken′ me′
 
--- What the run leaves: the instant's end, or a stop under a number. n: the number of environment variables.
+-- What the run leaves: the instant's end, or a stop under a number; the blocks' words are then any, since the stopped form takes their place.
+-- n: the number of environment variables.
 unfoldable pub ranBy : ℕ → List ℕ → Ran → RowsResult
 ranBy n words (Ended x) = ends (rowsOf words) (environmentOf n words) (x .left) (x .live) (x .woken)
 ranBy n words (Halted k) = halts k

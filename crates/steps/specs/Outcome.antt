@@ -22,6 +22,7 @@ use Rattle.steps.specs.declared.running.Answer.the-variants.{Goes, Ends,
 use Rattle.steps.specs.declared.running.Stepped.{Stepped}
 
 -- Document 01's number for each case of the answer, and what the rows leave: somebody runs, the instant ends, or the machine stops under a number.
+-- At a stop the blocks' words are any, since the stopped form takes their place.
 unfoldable pub left-by : ℕ → List ℕ → RowsRunner → ℕ → Answer → Running → RowsResult
 left-by n words go left Goes u =
     go (rowsOf words) (environmentOf n words) (slotsOf (u .ready)) (u .live) (u .woken) (u .me)

@@ -1,6 +1,6 @@
 -- Comparing a table's words with the areas of a listing, area by area.
 use mathlib.Core.Path.{_≡_, refl, sym, ap, _∙_}
-use mathlib.Core.Bool.{true, false, _&&_}
+use mathlib.Core.Bool.{Bool, true, false, _&&_}
 use mathlib.Core.List.{List, [], _∷_, _++_, map}
 use Prim.Native.Nat.{ℕ, zero, suc, _+_, _*_, _-_, _≤_, _<_}
 use native.Mathlib.Omega.{arith}
@@ -121,6 +121,14 @@ code-in-row w (suc n) a first h =
     rw (length-append (r .code) (allCode rs)) (cc)
 
 -- ── the turns of the checks, with so many words or instructions left ─────────────
+and-true : (x : Bool) → x && true ≡ x
+and-true true = refl
+and-true false = refl
+
+and-false : (x : Bool) → x && false ≡ false
+and-false true = refl
+and-false false = refl
+
 module _ (w : List ℕ) (a : ℕ) where
   pub zeros-stop : (left : ℕ) → 0 < left → (word w a ≡ 0 → ⊥) → zerosAt w a left ≡ false
   unfolding zerosAt
@@ -131,9 +139,18 @@ module _ (w : List ℕ) (a : ℕ) where
   unfolding zerosAt
   zeros-turn left next z h = rw (z, eq-eqb (word w a) 0 h)
 
-  pub zeros-end : (left : ℕ) → left ≡ 0 → zerosAt w a left ≡ true
+  -- A word that is 0 leaves the answer as it is; another one makes it no; at the end it is the answer.
+  pub clear-stays : (left next : ℕ) (clear clear′ b : Bool) → left ≡ suc next → word w a ≡ 0 → clear′ ≡ clear
+      → clear && zerosAt w a left ≡ b → clear′ && zerosAt w (a + 1) next ≡ b
+  clear-stays left next clear clear′ b z h s e = rw (s, zeros-turn left next z h) e
+
+  pub clear-no-more : (left next : ℕ) (clear clear′ b : Bool) → 0 < left → (word w a ≡ 0 → ⊥) → clear′ ≡ false
+      → clear && zerosAt w a left ≡ b → clear′ && zerosAt w (a + 1) next ≡ b
+  clear-no-more left next clear clear′ b l h s e = rw s (sym (and-false clear) ∙ (rw (zeros-stop left l h) at e))
+
+  pub clear-ends : (left : ℕ) (clear b : Bool) → left ≡ 0 → clear && zerosAt w a left ≡ b → clear ≡ b
   unfolding zerosAt
-  zeros-end left z = rw z
+  clear-ends left clear b z e = sym (and-true clear) ∙ (rw z at e)
 
   pub operands-end : (left : ℕ) → left ≡ 0 → operandCount w a left ≡ 0
   unfolding operandCount

@@ -144,19 +144,20 @@ fn routine_past(t: &[u32], number: usize, first: usize, cells: usize) -> usize
 
 // ---- behind the routines ----
 
-// Are the words from `from` to before `to` 0?
+// Are the words from `from` to before `to` 0? It goes on to the last one, since the compiler then takes several at a time.
 fn zeros_pass(t: &[u32], from: usize, to: usize) -> bool
     requires { ⌜ (from ≤ to) × (to ≤ length (now t)) ⌝ }
     ensures { λ r. ⌜ r ≡ zerosAt (now (t .entry)) from (to - from) ⌝ }
 {
+    let mut clear = true;
     let mut i = from;
     while i < to {
         if t[i] != 0 {
-            return false;
+            clear = false;
         }
         i += 1;
     }
-    true
+    clear
 }
 
 // The pieces of the instruction at `e` that stand in its entry.

@@ -4,7 +4,7 @@ use mathlib.Core.List.{List}
 use Prim.Native.Nat.{ℕ, _+_, _*_, _≤_, _<_}
 use Rattle.blocks.specs.Blocks.{Block, block}
 
--- The six words of variable i are 0.
+-- Value, waiting value and due moment of variable i are 0 (of the two kept words see `spareLow`, `spareHigh`).
 pub record Blank (b : Block) (i : ℕ) : Type 0 where
   pub value : b (8 + i * 6) ≡ 0
   pub waiting : b (9 + i * 6) ≡ 0

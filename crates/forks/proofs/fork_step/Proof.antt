@@ -7,7 +7,7 @@ use borrow.Author.Needs.{needs}
 use Rattle.scheduler.specs.Rows.{Row}
 use Rattle.blocks.specs.Blocks.{rowsOf}
 use Rattle.steps.specs.declared.running.Running.{Running}
-use Rattle.forks.proofs.Counted.{may-fork}
+use Rattle.forks.proofs.Counted.{counted-tidy, may-fork}
 use Rattle.forks.proofs.Forked.{too-many, too-deep, may-put, may-pop-child, forks}
 use Rattle.forks.proofs.fork_step.Statement.{statement}
 use Rattle.forks.proofs.fork_step.Tie as tie
@@ -48,37 +48,39 @@ fork-children-requires c κs =
     let room : a .running .live + a .n ≤ 64 = omega (arith, over) in
     let is = c .before .before .before .before .before .before .level .ensures in
     let level : (rowsOf (now (a .m)) (a .running .me)) .level ≤ 9 = omega (arith, c .before .before .before .before .before .if2 .left) in
-    may-fork (a .n) (c .before .before .before .set-children .ensures) (a .running) refl (c .before .before .before .before .before .before .before .before .before .before .before .before .pre) level room
+    let q = c .before .before .before .set-children .ensures in
+    let may = c .before .before .before .before .before .before .before .before .before .before .before .before .pre in
+    may-fork (a .n) q (a .running) refl may level room (counted-tidy (a .running .me) (a .n) q (may .slot) (may .live) (may .tidy))
 
-put-first-requires : tie.Need-put-first-requires
-put-first-requires c κs =
-    let a = c .before .before .before .before .before .before .before .before .before .before .before .before .before .before .before .before .args in
-    let over = c .before .before .before .before .before .before .before .before .before .before .before .before .if1 .left in
+put-before-requires : tie.Need-put-before-requires
+put-before-requires c κs =
+    let a = c .before .before .before .before .before .before .before .before .before .before .before .before .before .before .before .before .before .args in
+    let over = c .before .before .before .before .before .before .before .before .before .before .before .before .before .if1 .left in
     let room : a .running .live + a .n ≤ 64 = omega (arith, over) in
-    may-put (c .before .before .before .before .before .before .before .set-children .ensures) (c .before .before .before .fork-children .ensures) (c .before .before .before .before .before .before .before .before .before .before .before .before .before .before .before .before .pre) room
+    may-put (c .before .before .before .before .before .before .before .before .set-children .ensures) (c .before .before .before .before .fork-children .ensures) (c .before .before .before .before .before .before .before .before .before .before .before .before .before .before .before .before .before .pre) room
 
 next-ready-requires : tie.Need-next-ready-requires
 next-ready-requires c κs =
-    let a = c .before .before .before .before .before .before .before .before .before .before .before .before .before .before .before .before .before .before .args in
+    let a = c .before .before .before .before .before .before .before .before .before .before .before .before .before .before .before .before .before .before .before .args in
     let u = a .running in
-    let over = c .before .before .before .before .before .before .before .before .before .before .before .before .before .before .if1 .left in
+    let over = c .before .before .before .before .before .before .before .before .before .before .before .before .before .before .before .if1 .left in
     let room : u .live + a .n ≤ 64 = omega (arith, over) in
-    may-pop-child (c .before .before .before .before .before .before .before .before .before .set-children .ensures) (c .before .before .before .before .before .fork-children .ensures) (c .before .before .before .before .before .before .before .before .before .before .before .before .before .before .before .before .before .before .pre)
-    (record { ready = c .before .put-first .result; live = u .live + a .n; woken = u .woken; me = u .me }) (c .before .put-first .ensures .1) refl (c .before .put-first .ensures .0) room
+    may-pop-child (c .before .before .before .before .before .before .before .before .before .before .set-children .ensures) (c .before .before .before .before .before .before .fork-children .ensures) (c .before .before .before .before .before .before .before .before .before .before .before .before .before .before .before .before .before .before .before .pre)
+    (record { ready = c .before .put-before .result; live = u .live + a .n; woken = u .woken; me = u .me }) (c .before .put-before .ensures .1) refl (c .before .put-before .ensures .0) room
 
 same-length-2 : tie.Need-same-length-2
 same-length-2 c = search needs
 
 returns-3 : tie.Need-returns-3
 returns-3 c = λ moment.
-    let a = c .before .before .before .before .before .before .before .before .before .before .before .before .before .before .before .before .before .before .before .before .before .args in
+    let a = c .before .before .before .before .before .before .before .before .before .before .before .before .before .before .before .before .before .before .before .before .before .before .args in
     let u = a .running in
-    let over = c .before .before .before .before .before .before .before .before .before .before .before .before .before .before .before .before .before .if1 .left in
+    let over = c .before .before .before .before .before .before .before .before .before .before .before .before .before .before .before .before .before .before .if1 .left in
     let room : u .live + a .n ≤ 64 = omega (arith, over) in
-    let is = c .before .before .before .before .before .before .before .before .before .before .before .before .before .before .before .level .ensures in
-    let level : (rowsOf (now (a .m)) (u .me)) .level ≤ 9 = omega (arith, c .before .before .before .before .before .before .before .before .before .before .before .before .before .before .if2 .left) in
-    forks (c .before .before .before .before .before .before .before .before .before .before .before .before .set-children .ensures) (c .before .before .before .before .before .before .before .before .fork-children .ensures) (c .before .before .before .before .before .before .before .before .before .before .before .before .before .before .before .before .before .before .before .before .before .pre)
-    (record { ready = c .before .before .before .before .put-first .result; live = u .live + a .n; woken = u .woken; me = u .me }) (c .before .before .before .before .put-first .ensures .1) refl moment refl room level
+    let is = c .before .before .before .before .before .before .before .before .before .before .before .before .before .before .before .before .level .ensures in
+    let level : (rowsOf (now (a .m)) (u .me)) .level ≤ 9 = omega (arith, c .before .before .before .before .before .before .before .before .before .before .before .before .before .before .before .if2 .left) in
+    forks (c .before .before .before .before .before .before .before .before .before .before .before .before .before .set-children .ensures) (c .before .before .before .before .before .before .before .before .before .fork-children .ensures) (c .before .before .before .before .before .before .before .before .before .before .before .before .before .before .before .before .before .before .before .before .before .before .pre)
+    (record { ready = c .before .before .before .before .put-before .result; live = u .live + a .n; woken = u .woken; me = u .me }) (c .before .before .before .before .put-before .ensures .1) refl moment refl room level
     (c .before .before .next-ready .ensures)
 
 pub fork-step-spec : {M : Type 1} → statement M
@@ -93,7 +95,7 @@ fork-step-spec =
     returns-2
     set-children-requires
     fork-children-requires
-    put-first-requires
+    put-before-requires
     next-ready-requires
     same-length-2
     returns-3)

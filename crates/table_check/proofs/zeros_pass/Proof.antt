@@ -1,7 +1,9 @@
 -- `table_check::zeros_pass` meets its contract.
 use denote.Ref.{now}
 use Prim.Native.Nat.{_≤_, _+_, _-_}
-use mathlib.Core.Path.{_≡_, refl, sym, _∙_}
+use mathlib.Core.Path.{_≡_, refl}
+use mathlib.Core.Bool.{_&&_}
+use mathlib.Core.Logic.{⊎-elim}
 use native.Mathlib.Omega.{arith}
 use Rattle.table_check.specs.Check.{zerosAt}
 use Rattle.table_check.proofs.Areas as areas
@@ -9,11 +11,11 @@ use Rattle.table_check.proofs.zeros_pass.Statement.{statement}
 use Rattle.table_check.proofs.zeros_pass.Tie as tie
 
 abbrev Inv-loop : tie.InvT-loop
-Inv-loop t from to i₀ i =
-    (i ≤ to) × (zerosAt t i (to - i) ≡ zerosAt t from (to - from))
+Inv-loop t from to clear₀ i₀ clear i =
+    (i ≤ to) × (clear && zerosAt t i (to - i) ≡ zerosAt t from (to - from))
 
 abbrev μ-loop : tie.MeasureT-loop
-μ-loop t from to i₀ i =
+μ-loop t from to clear₀ i₀ clear i =
     to - i
 
 loop-holds : tie.Need-loop-holds Inv-loop μ-loop
@@ -26,12 +28,6 @@ mul-if1 c = omega arith
 shared-slice-read-if1 : tie.Need-shared-slice-read-if1 Inv-loop μ-loop
 shared-slice-read-if1 c = omega arith
 
-returns : tie.Need-returns Inv-loop μ-loop
-returns c =
-    let v = c .before .before .before .loop in
-    let a = c .before .before .before .before .args in
-    sym (areas.zeros-stop (now (a .t)) (v .i) (a .to - v .i) (omega arith) (c .if1 .taken)) ∙ v .inv .1
-
 add-i : tie.Need-add-i Inv-loop μ-loop
 add-i c = omega arith
 
@@ -42,13 +38,18 @@ loop-again : tie.Need-loop-again Inv-loop μ-loop
 loop-again c =
     let v = c .before .before .before .loop in
     let a = c .before .before .before .before .args in
-    (omega arith, areas.zeros-turn (now (a .t)) (v .i) (a .to - v .i) (a .to - (v .i + 1)) (omega arith) (omega arith) ∙ v .inv .1)
+    let left = a .to - v .i in
+    let next = a .to - (v .i + 1) in (
+      omega arith,
+      ⊎-elim (λ w. areas.clear-no-more (now (a .t)) (v .i) left next (v .clear) (c .if1 .clear) _ (omega arith) (w .0 .taken) (w .1) (v .inv .1))
+          (λ w. areas.clear-stays (now (a .t)) (v .i) left next (v .clear) (c .if1 .clear) _ (omega arith) (w .0 .left) (w .1) (v .inv .1)) (c .if1 .came),
+    )
 
-returns-2 : tie.Need-returns-2 Inv-loop μ-loop
-returns-2 c =
+returns : tie.Need-returns Inv-loop μ-loop
+returns c =
     let v = c .before .loop in
     let a = c .before .before .args in
-    sym (areas.zeros-end (now (a .t)) (v .i) (a .to - v .i) (omega arith)) ∙ v .inv .1
+    areas.clear-ends (now (a .t)) (v .i) (a .to - v .i) (v .clear) _ (omega arith) (v .inv .1)
 
 pub zeros-pass-spec : {M : Type 1} → statement M
 zeros-pass-spec =
@@ -59,8 +60,7 @@ zeros-pass-spec =
     loop-holds
     mul-if1
     shared-slice-read-if1
-    returns
     add-i
     loop-less
     loop-again
-    returns-2)
+    returns)

@@ -3,37 +3,33 @@ use native.Mathlib.Omega.{arith}
 use denote.Ref.{now}
 use Rattle.children.proofs.OwnNames.{changed-then}
 use Rattle.children.proofs.Priorities.{reaches-child}
-use Rattle.children.proofs.ChildSteps.{table-size, callee-small, argument-count, head-inside, still-long, may-divide, may-bind, blank-start, may-pass}
+use Rattle.children.proofs.ChildSteps.{table-size, callee-small, argument-count, head-inside, still-long, may-divide, may-bind, may-pass}
 use Rattle.children.proofs.ChildMade.{child-made}
 use Rattle.children.proofs.fork.new_child.Statement.{statement}
 use Rattle.children.proofs.fork.new_child.Tie as tie
 
-clear-words-requires : tie.Need-clear-words-requires
-clear-words-requires c κs =
-    let M = c .before .before .before .pre in (M .size, omega (arith, M .slot), omega arith, omega arith)
-
 head-at-requires : tie.Need-head-at-requires
 head-at-requires c κs =
-    let M = c .before .before .before .before .before .before .pre in (table-size (now (c .before .before .before .before .before .before .args .t)) (M .table), head-inside M)
+    let M = c .before .before .pre in (table-size (now (c .before .before .args .t)) (M .table), head-inside M)
 
 opening-of-requires : tie.Need-opening-of-requires
 opening-of-requires c κs =
-    let M = c .before .before .before .before .before .before .before .pre in (M .table, rw (c .head-at .ensures .1) (M .field .callee))
+    let M = c .before .before .before .pre in (M .table, rw (c .head-at .ensures .1) (M .field .callee))
 
 add-pass-values : tie.Need-add-pass-values
 add-pass-values c =
-    omega (arith, head-inside (c .before .before .before .before .before .before .before .before .before .pre))
+    omega (arith, head-inside (c .before .before .before .before .before .pre))
 
 pass-values-requires : tie.Need-pass-values-requires
 pass-values-requires c κs =
-    let M = c .before .before .before .before .before .before .before .before .before .pre in
+    let M = c .before .before .before .before .before .pre in
     let O = c .before .opening-of .ensures in
-    may-pass M (c .before .before .before .before .before .clear-words .ensures) (argument-count (M .field) (c .before .before .head-at .ensures .1) O) (omega (arith, O .names))
+    may-pass M (argument-count (M .field) (c .before .before .head-at .ensures .1) O) (omega (arith, O .names))
 
 parent-of-requires : tie.Need-parent-of-requires
 parent-of-requires c κs =
-    let M = c .before .before .before .before .before .before .before .before .before .before .before .before .before .pre in
-    let p = changed-then (blank-start M (c .before .before .before .before .before .before .before .before .before .clear-words .ensures)) (c .before .before .before .pass-values .ensures .inBlock) in
+    let M = c .before .before .before .before .before .before .before .before .before .pre in
+    let p = c .before .before .before .pass-values .ensures .inBlock in
     (still-long M p, M .caller, may-divide M p)
 
 add-put-kept : tie.Need-add-put-kept
@@ -46,43 +42,42 @@ cast-put-kept c =
 
 put-kept-requires : tie.Need-put-kept-requires
 put-kept-requires c κs =
-    let M = c .before .before .before .before .before .before .before .before .before .before .before .before .before .before .before .pre in
-    let p = changed-then (blank-start M (c .before .before .before .before .before .before .before .before .before .before .before .clear-words .ensures)) (c .before .before .before .before .before .pass-values .ensures .inBlock) in
+    let M = c .before .before .before .before .before .before .before .before .before .before .before .pre in
+    let p = c .before .before .before .before .before .pass-values .ensures .inBlock in
     (still-long M p, M .slot)
 
 cast-put-working : tie.Need-cast-put-working
 cast-put-working c =
-    omega (arith, callee-small (c .before .before .before .before .before .before .before .before .before .before .before .before .before .before .before .before .before .before .before .pre .table) (c .before .before .before .before .before .before .before .before .before .before .before .before .before .before .before .before .before .before .before .pre .field) (c .before .before .before .before .before .before .before .before .before .before .before .before .head-at .ensures .1))
+    omega (arith, callee-small (c .before .before .before .before .before .before .before .before .before .before .before .before .before .before .before .pre .table) (c .before .before .before .before .before .before .before .before .before .before .before .before .before .before .before .pre .field) (c .before .before .before .before .before .before .before .before .before .before .before .before .head-at .ensures .1))
 
 put-working-requires : tie.Need-put-working-requires
 put-working-requires c κs =
-    let M = c .before .before .before .before .before .before .before .before .before .before .before .before .before .before .before .before .before .before .before .pre in
-    let p = changed-then (blank-start M (c .before .before .before .before .before .before .before .before .before .before .before .before .before .before .before .clear-words .ensures)) (c .before .before .before .before .before .before .before .before .before .pass-values .ensures .inBlock) in
+    let M = c .before .before .before .before .before .before .before .before .before .before .before .before .before .before .before .pre in
+    let p = c .before .before .before .before .before .before .before .before .before .pass-values .ensures .inBlock in
     let P = c .before .before .before .before .before .parent-of .ensures in
-    (still-long M (changed-then p (c .before .before .before .put-kept .ensures)), M .slot, omega (arith, P .slot, M .caller), reaches-child (c .before .before .before .before .before .before .before .before .before .before .before .before .before .before .before .before .before .before .before .args .i) (may-divide M p) P (M .numbered))
+    (still-long M (changed-then p (c .before .before .before .put-kept .ensures)), M .slot, omega (arith, P .slot, M .caller), reaches-child (c .before .before .before .before .before .before .before .before .before .before .before .before .before .before .before .args .i) (may-divide M p) P (M .numbered))
 
 add-bind-names : tie.Need-add-bind-names
 add-bind-names c =
-    omega (arith, head-inside (c .before .before .before .before .before .before .before .before .before .before .before .before .before .before .before .before .before .before .before .before .before .before .before .pre))
+    omega (arith, head-inside (c .before .before .before .before .before .before .before .before .before .before .before .before .before .before .before .before .before .before .before .pre))
 
 bind-names-requires : tie.Need-bind-names-requires
 bind-names-requires c κs =
-    let M = c .before .before .before .before .before .before .before .before .before .before .before .before .before .before .before .before .before .before .before .before .before .before .before .pre in
+    let M = c .before .before .before .before .before .before .before .before .before .before .before .before .before .before .before .before .before .before .before .pre in
     let O = c .before .before .before .before .before .before .before .before .before .before .before .before .before .before .before .opening-of .ensures in
-    let p = changed-then (blank-start M (c .before .before .before .before .before .before .before .before .before .before .before .before .before .before .before .before .before .before .before .clear-words .ensures)) (c .before .before .before .before .before .before .before .before .before .before .before .before .before .pass-values .ensures .inBlock) in
+    let p = c .before .before .before .before .before .before .before .before .before .before .before .before .before .pass-values .ensures .inBlock in
     may-bind M (changed-then (changed-then p (c .before .before .before .before .before .before .before .put-kept .ensures)) (c .before .before .before .put-working .ensures)) (argument-count (M .field) (c .before .before .before .before .before .before .before .before .before .before .before .before .before .before .before .before .head-at .ensures .1) O) (O .names)
 
 same-length : tie.Need-same-length
 same-length c =
-    omega (arith, c .before .before .before .before .before .before .before .before .before .before .before .before .before .before .before .before .before .before .before .before .before .before .clear-words .ensures .size, c .before .before .before .before .before .before .before .before .before .before .before .before .before .before .before .before .pass-values .ensures .inBlock .size, c .before .before .before .before .before .before .before .before .before .before .put-kept .ensures .size, c .before .before .before .before .before .before .put-working .ensures .size, c .before .before .bind-names .ensures .inBlock .size)
+    omega (arith, c .before .before .before .before .before .before .before .before .before .before .before .before .before .before .before .before .pass-values .ensures .inBlock .size, c .before .before .before .before .before .before .before .before .before .before .put-kept .ensures .size, c .before .before .before .before .before .before .put-working .ensures .size, c .before .before .bind-names .ensures .inBlock .size)
 
 returns : tie.Need-returns
 returns c =
     child-made (record {
-      may = c .before .before .before .before .before .before .before .before .before .before .before .before .before .before .before .before .before .before .before .before .before .before .before .before .before .before .pre;
+      may = c .before .before .before .before .before .before .before .before .before .before .before .before .before .before .before .before .before .before .before .before .before .before .pre;
       called = c .before .before .before .before .before .before .before .before .before .before .before .before .before .before .before .before .before .before .before .head-at .ensures .1;
       opened = c .before .before .before .before .before .before .before .before .before .before .before .before .before .before .before .before .before .before .opening-of .ensures;
-      blank = c .before .before .before .before .before .before .before .before .before .before .before .before .before .before .before .before .before .before .before .before .before .before .clear-words .ensures;
       values = c .before .before .before .before .before .before .before .before .before .before .before .before .before .before .before .before .pass-values .ensures;
       parent = c .before .before .before .before .before .before .before .before .before .before .before .before .parent-of .ensures;
       kept = c .before .before .before .before .before .before .before .before .before .before .put-kept .ensures;
@@ -94,7 +89,6 @@ pub new-child-spec : {M : Type 1} → statement M
 new-child-spec =
     tie.close
     (tie.spec
-    clear-words-requires
     head-at-requires
     opening-of-requires
     add-pass-values

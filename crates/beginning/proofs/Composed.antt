@@ -10,7 +10,7 @@ use native.Mathlib.Omega.{arith}
 use lib.ListN.{length, take}
 use Rattle.listing.specs.Listing.{Listing}
 use Rattle.walk.specs.State.{State}
-use Rattle.walk.specs.Instant.{Write, environmentSize, dueWrites, applyInputs}
+use Rattle.walk.specs.Instant.{Write, environmentSize, dueWrites, applyInputs, nextDue}
 use Rattle.walk.specs.Calls.{Words32, running, inputsOf}
 use Rattle.walk.specs.Question7.{IsState}
 use Rattle.table.specs.Decode.{tableListing}
@@ -30,12 +30,13 @@ use Rattle.ready.specs.declared.ReadyList.{ReadyList}
 use Rattle.triggers.specs.Chains.{triggersAt, NoTriggers, OnlyTriggers}
 use Rattle.triggers.specs.Awaited.{Sleepers, NamesOf}
 use Rattle.filling.specs.Filling.{orderOf, portsOf, FillsRows, MayFillAll}
-use Rattle.instants.specs.Beginnings.{DueMade, InputsWritten, NumbersBelow}
+use Rattle.instants.specs.Beginnings.{DueMade, NothingDue, InputsWritten, NumbersBelow}
 use Rattle.instants.proofs.InputNumbers.{rising-numbers-below}
 use Rattle.beginning.specs.FirstReady.{MayList, FirstReady}
 use Rattle.beginning.specs.Begun.{MayBegin, BegunFrom, Begun}
 use Rattle.beginning.proofs.Found.{found-live, found-tidy, found-environment, found-no-triggers}
 use Rattle.beginning.proofs.Filled.{state-found, filledFrom, filled-from-holds, filled-rows, may-fill-all}
+use Rattle.beginning.proofs.NotDue.{only-after, rows-not-made, environment-not-made}
 use Rattle.beginning.proofs.Made.{made-placed, made-sleepers, made-names, made-bound, made-may-list}
 
 -- ── trigger words do not make words untidy ────────────────────────────────────────────────────────
@@ -157,7 +158,7 @@ module _ (t m₀ : List ℕ) (table : isTable t ≡ true) (long : 12288 ≤ leng
           }
 
 -- ── the parts of `begin_instant` ──────────────────────────────────────────────────────────────────
-module _ (t m₀ : List ℕ) (moment : ℕ) (numbers values : List ℕ) (P : MayBegin t m₀ moment numbers values) where
+module _ (t m₀ : List ℕ) (moment soonest : ℕ) (numbers values : List ℕ) (P : MayBegin t m₀ moment soonest numbers values) where
   inputs-few : (tableListing t) .inputs ≤ environmentSize (tableListing t)
   unfolding environmentSize
   inputs-few = omega arith
@@ -176,6 +177,21 @@ module _ (t m₀ : List ℕ) (moment : ℕ) (numbers values : List ℕ) (P : May
   module _ (small : Words32 m₀) where
     pub may-begin-pass : MayFillAll t m₀
     may-begin-pass = may-fill-all t m₀ (P .table) small (P .state) (P .stands) (P .size)
+
+    pub nothing-due-at : (m₁ : List ℕ) → FillsRows m₀ (filledRows (tableListing t) (rowsOf m₀) (portsOf t m₀) (λ level. 64) (orderOf m₀)) m₁ → (soonest ≡ moment → ⊥) →
+        NothingDue (environmentSize (tableListing t)) moment m₁
+    nothing-due-at m₁ F other =
+        let s = P .state in
+        let rows : rowsOf m₁ ≡ filledFrom t m₀ (P .table) small s (P .stands) = F .rows ∙ filled-rows t m₀ (P .table) small s (P .stands) in
+        let environment : environmentOf (environmentSize (tableListing t)) m₁ ≡ s .environment =
+        F .environment (environmentSize (tableListing t)) ∙ found-environment (tableListing t) (table-within-limits t (P .table)) m₀ small s (P .stands) in
+        let H = filled-from-holds t m₀ (P .table) small s (P .stands) in
+        let I = state-found t m₀ (P .table) small s (P .stands) in
+        let after = only-after soonest moment (nextDue s) (P .next) (P .nothing-due) other in
+        record {
+          rows = rw rows (rows-not-made (tableListing t) moment _ s H I after);
+          environment = rw environment (environment-not-made (tableListing t) moment _ s H I after);
+        }
 
     module _ (m₁ m₂ m₃ : List ℕ) (F : FillsRows m₀ (filledRows (tableListing t) (rowsOf m₀) (portsOf t m₀) (λ level. 64) (orderOf m₀)) m₁)
         (D : DueMade (environmentSize (tableListing t)) moment m₁ m₂) (N : InputsWritten (environmentSize (tableListing t)) (inputsOf numbers values) m₂ m₃) where

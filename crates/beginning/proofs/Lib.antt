@@ -8,3 +8,4 @@ pub mod Filled
 pub mod Made
 pub mod Composed
 pub mod Blank
+pub mod NotDue

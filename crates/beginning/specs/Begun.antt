@@ -1,17 +1,18 @@
 -- What the beginning of a call asks for and promises: of an instant, up to its first routine that runs; of the start.
 -- Letters: t the table's words, before and after the machine's, q a slot.
-use mathlib.Core.Bool.{true}
+use mathlib.Core.Bool.{true, false}
 use mathlib.Core.Path.{_≡_}
 use mathlib.Core.List.{List, []}
 use mathlib.Core.Option.{some}
 use Prim.Native.Nat.{ℕ, _≤_, _<_}
 use lib.ListN.{length, getD, take, drop}
 use Rattle.walk.specs.State.{State, liveInForest}
-use Rattle.walk.specs.Instant.{Write, environmentSize, dueWrites, applyInputs}
-use Rattle.walk.specs.Calls.{running, inputsRise, inputsOf}
+use Rattle.walk.specs.Instant.{Write, environmentSize, dueWrites, applyInputs, nextDue}
+use Rattle.walk.specs.Calls.{running, inputsRise, inputsOf, dueBefore}
 use Rattle.table.specs.Decode.{tableListing}
 use Rattle.table.specs.Question6.{isTable}
 use Rattle.machine.specs.ReadMachine.{readMachine}
+use Rattle.machine.specs.Due.{dueAt}
 use Rattle.scheduler.specs.Rows.{Rows, noRows, withRow}
 use Rattle.scheduler.specs.Triggers.{triggersOf, readyOf}
 use Rattle.scheduler.specs.Beginning.{dueInRows, mainRow, newEnvironment}
@@ -26,13 +27,16 @@ use Rattle.steps.specs.declared.running.Running.{Running}
 use Rattle.run.specs.Placed.{Placed}
 
 -- ── an instant ────────────────────────────────────────────────────────────────────────────────────
--- The words are read as a running state; the moment is not the start's; questions 1 and 11 of document 01 are answered for the inputs.
-pub record MayBegin (t words : List ℕ) (moment : ℕ) (numbers values : List ℕ) : Type 0 where
+-- The words are read as a running state, whose next moment due is known (0: none); the moment is not the start's, and nothing is due before it;
+-- questions 1 and 11 of document 01 are answered for the inputs.
+pub record MayBegin (t words : List ℕ) (moment soonest : ℕ) (numbers values : List ℕ) : Type 0 where
   pub table : isTable t ≡ true
   pub size : 12288 ≤ length words
   pub state : State
   pub stands : readMachine (tableListing t) (take 12288 words) ≡ some (running state)
   pub later : 0 < moment
+  pub next : dueAt soonest ≡ nextDue state
+  pub nothing-due : dueBefore (nextDue state) moment ≡ false
   pub inputs : inputsRise ((tableListing t) .inputs) 0 (inputsOf numbers values) ≡ true
   pub same : length numbers ≡ length values
 

@@ -9,7 +9,7 @@ ghost use Rattle.table.specs.Question6.{isTable};
 ghost use Rattle.beginning.specs.Begun.{MayBegin, Begun};
 use crate::first_ready::first_ready;
 use filling::fill_rows;
-use instants::make_due_all;
+use instants::make_due_at;
 use instants::write_inputs;
 use ready::ReadyList;
 use triggers::list_sleepers;
@@ -25,20 +25,21 @@ fn ports(t: &[u32]) -> usize
     inputs + outputs
 }
 
-// Rows filled in, due writes and inputs made, sleepers listed; the routines that are ready.
+// Rows filled in, due writes and inputs made, sleepers listed; the routines that are ready. Given the next moment due (0: none).
 pub fn begin_instant(
     t: &[u32],
     m: &mut [u32],
     present: Moment,
+    soonest: u64,
     numbers: &[u32],
     values: &[u32],
 ) -> ReadyList
-    requires { ⌜ MayBegin (now t) (now m) (present .0) (now numbers) (now values) ⌝ }
+    requires { ⌜ MayBegin (now t) (now m) (present .0) soonest (now numbers) (now values) ⌝ }
     ensures { λ r. ⌜ Begun (now (t .entry)) (now (m .entry)) (now (m .exit)) (present .0) (now (numbers .entry)) (now (values .entry)) r ⌝ }
 {
     let n = ports(t);
     fill_rows(t, m);
-    make_due_all(m, n, present.0);
+    make_due_at(m, n, present.0, soonest);
     write_inputs(m, numbers, values);
     list_sleepers(m, t);
     first_ready(t, m)

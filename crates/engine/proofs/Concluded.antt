@@ -80,6 +80,7 @@ module _ (t words : List ℕ) (moment allowance : ℕ) (ran : Ran) (may : MayCon
           present = ap (λ (s : State). s .now) (agreed .state) ∙ agreed .moment;
           holds = agreed .after;
           is-state = may .states (got .given) (got .is);
+          due = agreed .due;
         }
 
     pub concluded-end : (after numbers values numbers′ values′ : List ℕ) (r : Answer) →

@@ -13,13 +13,11 @@ use Rattle.walk.specs.Instant.{Done, Write, environmentSize, writtenFrom, liste
 use Rattle.walk.specs.Calls.{Words32, running, answered, outcomeNumber, outcomePlace, outcomeSteps, outcomeListed, outcomeDue, numbersAfter, valuesAfter}
 use Rattle.walk.specs.Promises as promises
 use Rattle.table.specs.Decode.{tableListing}
-use Rattle.machine.specs.Words.{wordsInPlace, runningWords, stateOf}
-use Rattle.machine.specs.ReadMachine.{stoppedWords, machineBy, readMachine}
-use Rattle.machine.specs.Due.{dueAt, wordsDue}
-use Rattle.machine.proofs.Basics.{and-left}
-use Rattle.machine.proofs.MachineWords.{words-due-is-next-due}
+use Rattle.machine.specs.ReadMachine.{readMachine}
+use Rattle.machine.specs.Due.{dueAt}
 use Rattle.question7.proofs.FromQuestion6.{table-within-limits}
 use Rattle.scheduler.specs.Order.{walkingOrder}
+use Rattle.scheduler.specs.Beginning.{nextDueOfRows}
 use Rattle.blocks.specs.Tabulate.{tabulateFrom}
 use Rattle.blocks.specs.Blocks.{block, variableIn, variablesIn, rowsOf, environmentOf}
 use Rattle.instants.specs.Outputs.{Listed}
@@ -30,26 +28,6 @@ use Rattle.engine.specs.declared.answers.Due.the-variants.{Never, At}
 use Rattle.engine.specs.declared.answers.Answer.the-variants as answers
 use Rattle.engine.specs.Answers.{dueOf, resultOf}
 use Rattle.engine.specs.Conclusions.{MayFinish, FinishedAs}
-use Rattle.engine.proofs.TableSize.{first-words32}
-
--- ── words that are read as a running state ────────────────────────────────────────────────────────
-running-case : (a b : Bool) (k : ℕ) (t s : State) → machineBy a b k t ≡ some (running s) → (b ≡ true) × (t ≡ s)
-unfolding machineBy
-running-case true b k t s e = let z : _≡_ {A = ℕ} 0 1 = cc in absurd (let y : ⊥ = omega arith in y)
-running-case false true k t s e = (refl, cc)
-running-case false false k t s e = let z : _≡_ {A = ℕ} 0 1 = cc in absurd (let y : ⊥ = omega arith in y)
-
-module _ (listing : Listing) (w : List ℕ) (s : State) (e : readMachine listing w ≡ some (running s)) where
-  case : (runningWords listing w ≡ true) × (stateOf listing w ≡ s)
-  unfolding readMachine
-  case = running-case (stoppedWords w) (runningWords listing w) (getD w 0 0) (stateOf listing w) s e
-
-  pub read-in-place : wordsInPlace (environmentSize listing) w ≡ true
-  unfolding runningWords
-  read-in-place = and-left (wordsInPlace (environmentSize listing) w) _ (case .0)
-
-  pub read-due : Words32 w → wordsDue (environmentSize listing) w ≡ nextDue s
-  read-due small = sym (words-due-is-next-due listing w small (case .0)) ∙ ap nextDue (case .1)
 
 -- ── a moment due, or none ─────────────────────────────────────────────────────────────────────────
 pub due-never : (t : ℕ) → t ≡ 0 → dueOf Never ≡ dueAt t
@@ -94,13 +72,10 @@ module _ (t before after : List ℕ) (moment : ℕ) (may : MayFinish t before mo
       ended-is-read listing (table-within-limits t (may .table)) (environmentSize listing) before after small (may .tidy) (may .state) (may .holds) (may .is-state)
       (subst (λ (m : ℕ). Ended m (walkingOrder (rowsOf before)) before after) (sym (may .present)) E)
 
-  pub finished-in-place : (size : ℕ) → size ≡ environmentSize listing → wordsInPlace size (take 12288 after) ≡ true
-  finished-in-place size e = rw e (read-in-place listing (take 12288 after) (may .state) finished-reads)
-
-  module _ (small′ : Words32 after) (i o : ℕ) (inputs : i ≡ getD t 0 0) (outputs : o ≡ getD t 1 0)
+  module _ (i o : ℕ) (inputs : i ≡ getD t 0 0) (outputs : o ≡ getD t 1 0)
       (numbers values numbers′ values′ : List ℕ) (steps count soonest : ℕ) (due : Due)
       (L : Listed (writtenFrom i (drop i (environmentOf (i + o) before))) numbers values numbers′ values′ count)
-      (D : dueAt soonest ≡ wordsDue (i + o) (take 12288 after)) (U : dueOf due ≡ dueAt soonest) where
+      (D : dueAt soonest ≡ nextDueOfRows (rowsOf before) (environmentOf (i + o) before)) (U : dueOf due ≡ dueAt soonest) where
     all-listed : writtenFrom i (drop i (environmentOf (i + o) before)) ≡ writtenOutputs listing (environmentOf (environmentSize listing) before)
     unfolding writtenOutputs environmentSize tableListing
     all-listed = rw (inputs, outputs)
@@ -110,7 +85,7 @@ module _ (t before after : List ℕ) (moment : ℕ) (may : MayFinish t before mo
     size-is = rw (inputs, outputs)
 
     due-is : dueOf due ≡ nextDue (may .state)
-    due-is = U ∙ (D ∙ (ap (λ (n : ℕ). wordsDue n (take 12288 after)) size-is ∙ read-due listing (take 12288 after) (may .state) finished-reads (first-words32 after small′)))
+    due-is = U ∙ (D ∙ (ap (λ (n : ℕ). nextDueOfRows (rowsOf before) (environmentOf n before)) size-is ∙ may .due))
 
     pub finished-as : FinishedAs t before numbers values after numbers′ values′ steps (may .state)
         (answers.Done (record { steps = steps; listed = count; due = due }))

@@ -1,8 +1,3 @@
-pub mod Comparing
-pub mod TableSize
-pub mod Refusals
-pub mod Asking
-pub mod Calling
 pub mod Literals
 pub mod Finished
 pub mod Concluded

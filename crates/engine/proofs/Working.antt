@@ -37,7 +37,7 @@ use Rattle.beginning.proofs.Filled.{table-fits}
 use Rattle.engine.specs.declared.answers.Answer.{Answer}
 use Rattle.engine.specs.Conclusions.{Leaves, leaves-stopped, leaves-state, Concludes, MayConclude}
 use Rattle.engine.specs.Works.{MayInstant}
-use Rattle.engine.proofs.TableSize.{first-words32}
+use Rattle.questions.proofs.TableSize.{first-words32}
 use Rattle.engine.proofs.Literals.{literals-are-words, inputs-are-words}
 
 -- ── words of before that the call's first parts keep ──────────────────────────────────────────────
@@ -69,7 +69,7 @@ triggers-right listing t s σ environment H =
     }
 
 -- ── an instant ────────────────────────────────────────────────────────────────────────────────────
-module _ (t w₀ : List ℕ) (moment : ℕ) (ns vs : List ℕ) (allowance : ℕ) (may : MayInstant t w₀ moment ns vs allowance) (small : Words32 w₀) where
+module _ (t w₀ : List ℕ) (moment soonest : ℕ) (ns vs : List ℕ) (allowance : ℕ) (may : MayInstant t w₀ moment soonest ns vs allowance) (small : Words32 w₀) where
   abbrev listing : Listing
   listing = tableListing t
 
@@ -82,7 +82,7 @@ module _ (t w₀ : List ℕ) (moment : ℕ) (ns vs : List ℕ) (allowance : ℕ)
   abbrev inputs : List Write
   inputs = inputsOf ns vs
 
-  pub may-begin : MayBegin t w₀ moment ns vs
+  pub may-begin : MayBegin t w₀ moment soonest ns vs
   may-begin =
       record {
         table = may .table;
@@ -90,6 +90,8 @@ module _ (t w₀ : List ℕ) (moment : ℕ) (ns vs : List ℕ) (allowance : ℕ)
         state = s;
         stands = may .stands;
         later = omega (arith, may .later);
+        next = may .next;
+        nothing-due = may .nothing-due;
         inputs = may .inputs;
         same = may .same;
       }

@@ -9,14 +9,14 @@ use lib.ListN.{length, take, drop}
 use Rattle.listing.specs.Listing.{Listing}
 use Rattle.walk.specs.State.{State}
 use Rattle.walk.specs.State as walk
-use Rattle.walk.specs.Instant.{unmarked, Done, environmentSize, writtenOutputs}
+use Rattle.walk.specs.Instant.{unmarked, Done, environmentSize, writtenOutputs, nextDue}
 use Rattle.walk.specs.Calls.{running, haltedWords, answered, numbersAfter, valuesAfter}
 use Rattle.walk.specs.Question7.{IsState}
 use Rattle.walk.specs.Promises as promises
 use Rattle.table.specs.Decode.{tableListing}
 use Rattle.table.specs.Question6.{isTable}
 use Rattle.machine.specs.ReadMachine.{readMachine}
-use Rattle.scheduler.specs.Beginning.{unmarkedRows}
+use Rattle.scheduler.specs.Beginning.{unmarkedRows, nextDueOfRows}
 use Rattle.scheduler.proofs.Holds.{Holds}
 use Rattle.scheduler.proofs.InstantOnRows.{SameOutcome}
 use Rattle.blocks.specs.Blocks.{rowsOf, environmentOf}
@@ -50,6 +50,7 @@ pub record MayFinish (t words : List ℕ) (moment : ℕ) : Type 0 where
   pub present : state .now ≡ moment
   pub holds : Holds false (tableListing t) (unmarkedRows (rowsOf words)) (unmarked (environmentOf (environmentSize (tableListing t)) words)) state
   pub is-state : IsState (tableListing t) state
+  pub due : nextDueOfRows (rowsOf words) (environmentOf (environmentSize (tableListing t)) words) ≡ nextDue state
 
 -- The instant's end, after so many steps: the state's words, the outputs listed, the figures.
 pub record FinishedAs (t before numbers values after numbers′ values′ : List ℕ) (steps : ℕ) (s : State) (r : Answer) : Type 0 where

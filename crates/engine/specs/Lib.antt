@@ -1,5 +1,3 @@
-pub mod Asked
-pub mod Compared
 pub mod Answers
 pub mod Conclusions
 pub mod Works

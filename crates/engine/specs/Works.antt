@@ -11,14 +11,17 @@ use Rattle.walk.specs.Calls.{running, dueBefore, inputsRise, inputsOf}
 use Rattle.table.specs.Decode.{tableListing}
 use Rattle.table.specs.Question6.{isTable}
 use Rattle.machine.specs.ReadMachine.{readMachine}
+use Rattle.machine.specs.Due.{dueAt}
 
-pub record MayInstant (t words : List ℕ) (moment : ℕ) (inNumbers inValues : List ℕ) (allowance : ℕ) : Type 0 where
+-- The next moment due of the state is `soonest` (0: none).
+pub record MayInstant (t words : List ℕ) (moment soonest : ℕ) (inNumbers inValues : List ℕ) (allowance : ℕ) : Type 0 where
   pub size : 12288 ≤ length words
   pub same : length inNumbers ≡ length inValues
   pub table : isTable t ≡ true
   pub state : State
   pub stands : readMachine (tableListing t) (take 12288 words) ≡ some (running state)
   pub later : state .now < moment
+  pub next : dueAt soonest ≡ nextDue state
   pub nothing-due : dueBefore (nextDue state) moment ≡ false
   pub inputs : inputsRise ((tableListing t) .inputs) 0 (inputsOf inNumbers inValues) ≡ true
   pub most : allowance ≤ 1000000

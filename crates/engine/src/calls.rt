@@ -14,8 +14,9 @@ ghost use Rattle.engine.specs.Conclusions.{Concludes};
 ghost use Rattle.engine.specs.Works.{MayInstant};
 use crate::answers::Answer;
 use crate::conclusion::conclude;
-use crate::questions::instant_question;
-use crate::questions::start_question;
+use questions::Questioned;
+use questions::instant_question;
+use questions::start_question;
 use words::Moment;
 
 // The start on a table's 12,288 words, its questions answered.
@@ -36,27 +37,28 @@ fn start_work(
     conclude(table, machine, 0, allowance, ran, numbers, values)
 }
 
-// The instant at t on a table's 12,288 words, its questions answered.
+// The instant at t on a table's 12,288 words, its questions answered with the next moment due (0: none).
 fn instant_work(
     table: &[u32],
     machine: &mut [u32],
     t: u64,
+    soonest: u64,
     in_numbers: &[u32],
     in_values: &[u32],
     numbers: &mut [u32],
     values: &mut [u32],
     allowance: u32,
 ) -> Answer
-    requires { ⌜ (length (now table) ≡ 12288) × (MayInstant (now table) (now machine) t (now «in_numbers») (now «in_values») allowance)
+    requires { ⌜ (length (now table) ≡ 12288) × (MayInstant (now table) (now machine) t soonest (now «in_numbers») (now «in_values») allowance)
         × (16 ≤ length (now numbers)) × (16 ≤ length (now values)) ⌝ }
-    ensures { λ r. ⌜ ((may : MayInstant (now (table .entry)) (now (machine .entry)) t (now («in_numbers» .entry)) (now («in_values» .entry)) allowance) →
+    ensures { λ r. ⌜ ((may : MayInstant (now (table .entry)) (now (machine .entry)) t soonest (now («in_numbers» .entry)) (now («in_values» .entry)) allowance) →
         Concludes (tableListing (now (table .entry))) (now (machine .entry)) (now (numbers .entry)) (now (values .entry))
         (now (machine .exit)) (now (numbers .exit)) (now (values .exit))
         (walk.instant (tableListing (now (table .entry))) (may .state) t (inputsOf (now («in_numbers» .entry)) (now («in_values» .entry))) allowance) r) ⌝ }
 {
     let present = Moment(t);
     let live = machine[3];
-    let ready = beginning::begin_instant(table, machine, present, in_numbers, in_values);
+    let ready = beginning::begin_instant(table, machine, present, soonest, in_numbers, in_values);
     let ran = run::run_ready(table, machine, present, ready, live, allowance);
     conclude(table, machine, t, allowance, ran, numbers, values)
 }
@@ -100,7 +102,7 @@ pub fn instant(
         (now («out_numbers» .entry)) (now («out_values» .entry)) allowance
         (now (machine .exit)) (now («out_numbers» .exit)) (now («out_values» .exit)) (resultOf r) ⌝ }
 {
-    let number = instant_question(
+    let answer = instant_question(
         table,
         machine,
         t,
@@ -110,17 +112,22 @@ pub fn instant(
         out_values,
         allowance,
     );
-    if number != 0 {
-        return Answer::Refused(number);
+    match answer {
+        Questioned::Refused(number) => {
+            return Answer::Refused(number);
+        }
+        Questioned::Passed(soonest) => {
+            return instant_work(
+                &table[0..12288],
+                machine,
+                t,
+                soonest,
+                in_numbers,
+                in_values,
+                out_numbers,
+                out_values,
+                allowance,
+            );
+        }
     }
-    instant_work(
-        &table[0..12288],
-        machine,
-        t,
-        in_numbers,
-        in_values,
-        out_numbers,
-        out_values,
-        allowance,
-    )
 }

@@ -39,8 +39,7 @@ fn finished(
     let inputs = number(table[0]);
     let outputs = number(table[1]);
     let listed = instants::list_outputs(machine, inputs, outputs, numbers, values);
-    finishing::finish(machine, t);
-    let soonest = machine_words::due::next_due(&machine[0..12288], inputs + outputs);
+    let soonest = finishing::finish(machine, t, inputs + outputs);
     let due = due_at(soonest);
     Answer::Done(Figures {
         steps,

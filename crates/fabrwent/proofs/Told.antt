@@ -11,7 +11,7 @@ use Rattle.walk.specs.Promises.{LoadPromise, Keeps}
 use Rattle.walk.specs.Comparison.{Compared, notCompared, compared, comparedNumber, comparedPlace, comparedAlike, alikeCall}
 use Rattle.layout.specs.Layout.{layout}
 use Rattle.engine.specs.Answers.{resultOf, dueOf}
-use Rattle.engine.specs.Compared.{comparedOf}
+use Rattle.comparison.specs.Compared.{comparedOf}
 use Rattle.engine.specs.declared.answers.Due.{Due}
 use Rattle.engine.specs.declared.answers.Due.the-variants.{Never, At}
 use Rattle.engine.specs.declared.answers.Answer.{Answer}

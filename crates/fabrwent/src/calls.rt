@@ -3,8 +3,8 @@ ghost use Rattle.walk.specs.Promises.{StartPromise, InstantPromise};
 ghost use Rattle.layout.specs.Layout.{layout};
 ghost use Rattle.fabrwent.specs.Figures.{resultIn, DueTold, AlikeFigures, turnedAway, goneThrough, ofAnswer};
 ghost use mathlib.Core.Path.{_≡_};
+use comparison::Comparison;
 use engine::Answer;
-use engine::Comparison;
 use engine::Due;
 use engine::Figures;
 
@@ -123,7 +123,7 @@ pub extern "C" fn fabrwent_instant(
 pub extern "C" fn fabrwent_alike(table: &[u32], a: &[u32], b: &[u32]) -> FabrwentAlike
     ensures { λ r. ⌜ AlikeFigures (now (table .entry)) (now (a .entry)) (now (b .entry)) r ⌝ }
 {
-    match engine::alike(table, a, b) {
+    match comparison::alike(table, a, b) {
         Comparison::Refused(number) => FabrwentAlike {
             number: number,
             place: 0,

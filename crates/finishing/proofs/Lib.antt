@@ -7,3 +7,4 @@ pub mod OrderTurns
 pub mod PlaceTurns
 pub mod Clearing
 pub mod Composed
+pub mod DueSlots

@@ -2,13 +2,16 @@
 ghost use mathlib.Core.Path.{_≡_};
 ghost use Prim.Native.Nat.{_≤_, _/_, _%_};
 ghost use lib.ListN.{length};
+ghost use Rattle.machine.specs.Due.{dueAt};
 ghost use Rattle.scheduler.specs.Order.{walkingOrder};
-ghost use Rattle.blocks.specs.Blocks.{rowsOf};
+ghost use Rattle.scheduler.specs.Beginning.{nextDueOfRows};
+ghost use Rattle.blocks.specs.Blocks.{rowsOf, environmentOf};
 ghost use Rattle.finishing.specs.Ended.{stored, Ended};
 use crate::order::order_slots;
 use crate::places::clear_header;
 use crate::places::set_places;
 use crate::working::clear_working;
+use machine_words::due::sooner_of_variables;
 
 // 2 to the 32: a moment's low word counts to here.
 const SIZE: u64 = 4294967296;
@@ -23,14 +26,19 @@ fn store_header(m: &mut [u32], t: u64, count: u32)
     m[3] = count;
 }
 
-// At moment t: header, order list and places written, working words cleared.
-pub fn finish(m: &mut [u32], t: u64)
-    requires { ⌜ 12288 ≤ length (now m) ⌝ }
-    ensures { λ _. ⌜ Ended t (walkingOrder (rowsOf (now (m .entry)))) (now (m .entry)) (now (m .exit)) ⌝ }
+// At moment t: header, order list and places written, working words cleared. Gives the next moment due (0: none), over the `size` environment
+// variables and the slots, which the pass that makes the order list finds.
+pub fn finish(m: &mut [u32], t: u64, size: usize) -> u64
+    requires { ⌜ (12288 ≤ length (now m)) × (size ≤ 16) ⌝ }
+    ensures { λ r. ⌜ (Ended t (walkingOrder (rowsOf (now (m .entry)))) (now (m .entry)) (now (m .exit)))
+        × (dueAt r ≡ nextDueOfRows (rowsOf (now (m .entry))) (environmentOf size (now (m .entry)))) ⌝ }
 {
     clear_header(m);
-    let count = order_slots(m);
+    let outer = sooner_of_variables(m, 12112, size, 0);
+    let ordered = order_slots(m, outer);
+    let count = ordered.count;
     set_places(m, count);
     clear_working(m);
     store_header(m, t, count as u32);
+    ordered.soonest
 }

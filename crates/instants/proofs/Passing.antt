@@ -17,10 +17,11 @@ use Rattle.machine.specs.Words.{blockAt}
 use Rattle.blocks.specs.Blocks.{Block, block, nonzero, rowAt, rowsOf, variablesIn, environmentOf}
 use Rattle.blocks.specs.Changes.{SameOutside, SameTriggers, InBlock}
 use Rattle.blocks.proofs.InBlocks.{other-block, same-outside}
+use Rattle.blocks.proofs.Staying.{outside-start, triggers-start}
 use Rattle.blocks.proofs.RowChanges.{row-of, row-past}
 use Rattle.tidy.specs.Tidy.{TidySlot, TidyEnvironment, Tidy}
 use Rattle.instants.specs.Passes.{dueFirst, dueSlot, Mapped}
-use Rattle.instants.specs.Beginnings.{DueMade}
+use Rattle.instants.specs.Beginnings.{DueMade, NothingDue}
 use Rattle.instants.proofs.DueBlocks.{late-words-stay, due-variables, due-row, due-slot-tidy, due-environment-tidy}
 
 pub none-mapped : (f : Block → Block) (m : List ℕ) → Mapped 0 f m m
@@ -97,3 +98,7 @@ module _ (n t : ℕ) (few : n ≤ 16) (pos : 0 < t) (a m m′ : List ℕ) (slots
           environment = subst (λ (b : Block). TidyEnvironment n b) (sym outer-block) (due-environment-tidy (block a 64) t n n (w .environment) (omega arith));
         };
       }
+
+pub nothing-made : {n t : ℕ} {m : List ℕ} → NothingDue n t m → DueMade n t m m
+nothing-made {m = m} N =
+    record { rows = sym (N .rows); environment = sym (N .environment); outside = outside-start m; triggers = triggers-start m; tidy = λ T. T }

@@ -17,6 +17,11 @@ pub record DueMade (n t : ℕ) (before after : List ℕ) : Type 0 where
   pub triggers : SameTriggers before after
   pub tidy : Tidy n before → Tidy n after
 
+-- No waiting write is due at t: making them would change nothing.
+pub record NothingDue (n t : ℕ) (words : List ℕ) : Type 0 where
+  pub rows : dueInRows t (rowsOf words) ≡ rowsOf words
+  pub environment : dueWrites t (environmentOf n words) ≡ environmentOf n words
+
 -- Inputs written.
 pub record InputsWritten (n : ℕ) (inputs : List Write) (before after : List ℕ) : Type 0 where
   pub rows : rowsOf after ≡ rowsOf before

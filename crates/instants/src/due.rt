@@ -5,7 +5,7 @@ ghost use lib.ListN.{length};
 ghost use Rattle.blocks.specs.Blocks.{block};
 ghost use Rattle.blocks.specs.Changes.{InBlock};
 ghost use Rattle.instants.specs.Passes.{dueFirst, dueSlot, Mapped};
-ghost use Rattle.instants.specs.Beginnings.{DueMade};
+ghost use Rattle.instants.specs.Beginnings.{DueMade, NothingDue};
 
 // The first `count` variables of block s.
 pub fn make_due_in(m: &mut [u32], s: usize, count: usize, t: u64)
@@ -33,7 +33,8 @@ pub fn make_due_slot(m: &mut [u32], s: usize, t: u64)
     make_due_in(m, s, count, t);
 }
 
-fn at_most_16(n: u32) -> usize
+// A count of variables, read as 16 if it is above.
+pub fn at_most_16(n: u32) -> usize
     ensures { λ r. ⌜ r ≡ min n 16 ⌝ }
 {
     if n < 16 {
@@ -61,4 +62,15 @@ pub fn make_due_all(m: &mut [u32], n: usize, t: u64)
 {
     make_due_slots(m, t);
     make_due_in(m, 64, n, t);
+}
+
+// The same where the next moment due is known (0: none): without one at t there is nothing to make.
+pub fn make_due_at(m: &mut [u32], n: usize, t: u64, soonest: u64)
+    requires { ⌜ (12288 ≤ length (now m)) × (n ≤ 16) × (0 < t) × ((soonest ≡ t → ⊥) → NothingDue n t (now m)) ⌝ }
+    ensures { λ _. ⌜ DueMade n t (now (m .entry)) (now (m .exit)) ⌝ }
+{
+    if soonest != t {
+        return;
+    }
+    make_due_all(m, n, t);
 }

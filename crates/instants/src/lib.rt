@@ -4,6 +4,6 @@ pub mod due;
 pub mod inputs;
 pub mod outputs;
 
-pub use due::make_due_all;
+pub use due::make_due_at;
 pub use inputs::write_inputs;
 pub use outputs::list_outputs;

@@ -1,4 +1,4 @@
--- One more variable, or one more routine, of the search for the next moment due.
+-- The sooner of two moments due, and one more variable of the search for the soonest.
 use Prim.Native.Nat.{ℕ, zero, suc, _+_, _*_, _-_, _<_, _≤_}
 use mathlib.Core.Path.{_≡_, refl, sym, _∙_}
 use mathlib.Core.Bool.{Bool, true, false}
@@ -6,13 +6,11 @@ use mathlib.Core.List.{List}
 use lib.ListN.{getD}
 use lib.Dec.{leb}
 use native.Mathlib.Omega.{arith}
-use native.Mathlib.Numerals.{add-one}
 use borrow.Author.Tests.{le-leb, lt-leb}
 use Rattle.walk.specs.Instant.{moment, earlierOf, earlier, dueOf, dueOfVariables}
-use Rattle.machine.specs.Words.{blockAt, environmentBlock, momentAt, slotOf, waitingOf, variableIn, variablesIn, recordIn, recordsIn, wordsInPlace}
-use Rattle.machine.specs.Due.{dueAt, recordsDue, wordsDue}
+use Rattle.machine.specs.Words.{momentAt, waitingOf, variableIn, variablesIn}
+use Rattle.machine.specs.Due.{dueAt}
 use Rattle.machine.proofs.NextDue.{earlier-never, earlier-associative, due-of-words}
-use Rattle.machine.proofs.InPlace.{block-few, knows-place, slot-holds, used-slot, in-place}
 
 -- ── the sooner of two ─────────────────────────────────────────────────────────────────────────────
 pub first-none : (a b : ℕ) → a ≡ 0 → dueAt b ≡ earlier (dueAt a) (dueAt b)
@@ -72,49 +70,3 @@ pub variables-end : (m : List ℕ) (at k soonest found i : ℕ) → k ≤ i → 
     dueAt found ≡ earlier (dueAt soonest) (dueOfVariables (variablesIn m at k))
 unfolding variablesIn dueOfVariables
 variables-end m at k soonest found i h left = let p : k - i ≡ 0 = omega arith in sym (earlier-never (dueAt found)) ∙ rw p at (left .law)
-
--- ── routines ──────────────────────────────────────────────────────────────────────────────────────
-pub record RoutinesLeft (m : List ℕ) (size found k : ℕ) : Type 0 where
-  pub within : k ≤ getD m 3 0
-  pub law : earlier (dueAt found) (recordsDue (recordsIn m k (getD m 3 0 - k))) ≡ wordsDue size m
-
-pub routines-begin : (m : List ℕ) (size found : ℕ) → dueAt found ≡ earlier (dueAt 0) (dueOfVariables (variablesIn m 12112 size)) → RoutinesLeft m size found 0
-unfolding wordsDue dueAt earlier
-routines-begin m size found e = record {
-  within = omega arith;
-  law = let q : getD m 3 0 - 0 ≡ getD m 3 0 = omega arith in rw (q, e);
-}
-
-pub routines-go-on : (m : List ℕ) (size found k at own next : ℕ) → k < getD m 3 0 → RoutinesLeft m size found k → at ≡ blockAt (slotOf m k) → own ≡ getD m (at + 4) 0 →
-    dueAt next ≡ earlier (dueAt found) (dueOfVariables (variablesIn m (at + 8) own)) → RoutinesLeft m size next (k + 1)
-unfolding recordsIn recordIn recordsDue
-routines-go-on m size found k at own next h R a o e =
-    let p : getD m 3 0 - k ≡ suc (getD m 3 0 - (k + 1)) = omega arith in
-    let rest = recordsDue (recordsIn m (k + 1) (getD m 3 0 - (k + 1))) in
-    let here = dueOfVariables (variablesIn m (blockAt (slotOf m k) + 8) (getD m (blockAt (slotOf m k) + 4) 0)) in
-    let old : earlier (dueAt found) (earlier here rest) ≡ wordsDue size m = rw (p, ← add-one k) at (R .law) in
-    record {
-      within = omega arith;
-      law = rw (e, o, a, earlier-associative (dueAt found) here rest) old;
-    }
-
-pub routines-end : (m : List ℕ) (size found k : ℕ) → getD m 3 0 ≤ k → RoutinesLeft m size found k → dueAt found ≡ wordsDue size m
-unfolding recordsIn recordsDue
-routines-end m size found k h R = let p : getD m 3 0 - k ≡ 0 = omega arith in sym (earlier-never (dueAt found)) ∙ rw p at (R .law)
-
--- ── words in place ────────────────────────────────────────────────────────────────────────────────
-pub slot-below : (m : List ℕ) (size k : ℕ) → wordsInPlace size m ≡ true → k < getD m 3 0 → slotOf m k < 64
-slot-below m size k e h = knows-place m (getD m 3 0) k h (in-place m size e .places) .0
-
-pub own-few : (m : List ℕ) (size k : ℕ) → wordsInPlace size m ≡ true → k < getD m 3 0 → getD m (blockAt (slotOf m k) + 4) 0 ≤ 16
-own-few m size k e h =
-    let P = in-place m size e in
-    let (l, q) = knows-place m (getD m 3 0) k h (P .places) in
-    let U = used-slot m (getD m 3 0) (momentAt m 1) (slotOf m k) (slot-holds m (getD m 3 0) (momentAt m 1) 64 (slotOf m k) l (P .slots)) (λ z. let y : ⊥ = omega arith in y) in
-    block-few m (momentAt m 1) (blockAt (slotOf m k)) (getD m (blockAt (slotOf m k) + 4) 0) (U .rests)
-
-pub size-few : (m : List ℕ) (size : ℕ) → wordsInPlace size m ≡ true → size ≤ 16
-size-few m size e = block-few m (momentAt m 1) environmentBlock size (in-place m size e .environment)
-
-pub routines-few : (m : List ℕ) (size : ℕ) → wordsInPlace size m ≡ true → getD m 3 0 ≤ 64
-routines-few m size e = in-place m size e .few

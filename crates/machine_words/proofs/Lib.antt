@@ -1,2 +1,4 @@
 pub mod Laws
 pub mod DueLaws
+pub mod DueOrder
+pub mod TestLaws

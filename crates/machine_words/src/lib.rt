@@ -3,6 +3,7 @@
 
 pub mod due;
 
+use due::sooner;
 ghost use mathlib.Core.Path.{_≡_};
 ghost use Prim.Native.Nat.{ℕ, _+_, _*_, _-_, _<_, _≤_};
 ghost use lib.ListN.{length, getD};
@@ -10,6 +11,16 @@ ghost use lib.Dec.{eqb, ltb};
 ghost use mathlib.Core.Bool.{cond};
 ghost use Rattle.machine.specs.Words.{blockAt, momentAt, zeroFrom, variableRests, variablesRest, blockRests, slotHolds, slotsHold, knowsPlace, knowPlaces, headerInPlace, blocksInPlace, wordsInPlace};
 ghost use Rattle.machine.specs.ReadMachine.{stoppedWords};
+ghost use Rattle.machine.specs.Words.{variablesIn};
+ghost use Rattle.machine.specs.Due.{dueAt, wordsDue};
+ghost use Rattle.walk.specs.Instant.{earlier, dueOfVariables};
+ghost use Rattle.machine_words.specs.Tests.{testOf, tested, slotDue, slotsDue, blocksDue};
+
+// A test that looks for the next moment due on the way: with the soonest found, 0 if there is none.
+pub enum Test {
+    Fails,
+    Passes(u64),
+}
 
 fn wide(x: u32) -> u64
     ensures { λ r. ⌜ (r ≡ x) × (r < 4294967296) ⌝ }
@@ -42,19 +53,20 @@ pub fn present_moment(m: &[u32]) -> u64
     moment_at(m, 1)
 }
 
-// Are the k words from `at` on 0?
+// Are the k words from `at` on 0? It goes on to the last one, since the compiler then takes several at a time.
 pub fn zero_from(m: &[u32], at: usize, k: usize) -> bool
     requires { ⌜ at + k ≤ length (now m) ⌝ }
     ensures { λ b. ⌜ b ≡ zeroFrom (now (m .entry)) at k ⌝ }
 {
+    let mut clear = true;
     let mut i: usize = 0;
     while i < k {
         if m[at + i] != 0 {
-            return false;
+            clear = false;
         }
         i += 1;
     }
-    true
+    clear
 }
 
 // Is a waiting write due after the present moment, or is there none and its value 0?
@@ -79,69 +91,81 @@ fn variable_rests(m: &[u32], at: usize, present: u64) -> bool
     zero_from(m, at + 4, 2)
 }
 
-fn variables_rest(m: &[u32], at: usize, k: usize, present: u64) -> bool
+// Are the k variables from `at` on as an instant leaves them? With the soonest of a moment and those that they are due at.
+fn variables_rest(m: &[u32], at: usize, k: usize, present: u64, soonest: u64) -> Test
     requires { ⌜ (k ≤ 16) × (at + k * 6 ≤ length (now m)) ⌝ }
-    ensures { λ b. ⌜ b ≡ variablesRest present (now (m .entry)) at k ⌝ }
+    ensures { λ r. ⌜ testOf r ≡ tested (variablesRest present (now (m .entry)) at k)
+        (earlier (dueAt soonest) (dueOfVariables (variablesIn (now (m .entry)) at k))) ⌝ }
 {
+    let mut found = soonest;
     let mut i: usize = 0;
     while i < k {
-        if !variable_rests(m, at + i * 6, present) {
-            return false;
+        let here = at + i * 6;
+        if !variable_rests(m, here, present) {
+            return Test::Fails;
         }
+        let due = moment_at(m, here + 2);
+        found = sooner(found, due);
         i += 1;
     }
-    true
+    Test::Passes(found)
 }
 
 // Has the block at `at` k variables at rest, and only zeros after them?
-fn block_rests(m: &[u32], at: usize, k: usize, present: u64) -> bool
+fn block_rests(m: &[u32], at: usize, k: usize, present: u64, soonest: u64) -> Test
     requires { ⌜ at + 184 ≤ length (now m) ⌝ }
-    ensures { λ b. ⌜ b ≡ blockRests present (now (m .entry)) at k ⌝ }
+    ensures { λ r. ⌜ testOf r ≡ tested (blockRests present (now (m .entry)) at k)
+        (earlier (dueAt soonest) (dueOfVariables (variablesIn (now (m .entry)) (at + 8) k))) ⌝ }
 {
     if 16 < k {
-        return false;
+        return Test::Fails;
     }
-    if !variables_rest(m, at + 8, k, present) {
-        return false;
+    if !zero_from(m, at + 8 + k * 6, 176 - k * 6) {
+        return Test::Fails;
     }
-    zero_from(m, at + 8 + k * 6, 176 - k * 6)
+    variables_rest(m, at + 8, k, present, soonest)
 }
 
 // Is slot s free and all 0, or does the order list of n routines lead back to it?
-fn slot_holds(m: &[u32], n: usize, s: usize, present: u64) -> bool
+fn slot_holds(m: &[u32], n: usize, s: usize, present: u64, soonest: u64) -> Test
     requires { ⌜ (length (now m) ≡ 12288) × (s < 64) × (n ≤ 64) ⌝ }
-    ensures { λ b. ⌜ b ≡ slotHolds n present (now (m .entry)) s ⌝ }
+    ensures { λ r. ⌜ testOf r ≡ tested (slotHolds n present (now (m .entry)) s) (earlier (dueAt soonest) (slotDue (now (m .entry)) s)) ⌝ }
 {
     let at = 328 + s * 184;
     let p = number(m[at]);
     if p == 0 {
-        return zero_from(m, at, 184);
+        if !zero_from(m, at, 184) {
+            return Test::Fails;
+        }
+        return Test::Passes(soonest);
     }
     if n < p {
-        return false;
+        return Test::Fails;
     }
     if number(m[63 + p]) != s {
-        return false;
+        return Test::Fails;
     }
     if !zero_from(m, at + 5, 3) {
-        return false;
+        return Test::Fails;
     }
     let k = number(m[at + 4]);
-    block_rests(m, at, k, present)
+    block_rests(m, at, k, present, soonest)
 }
 
-fn slots_hold(m: &[u32], n: usize, present: u64) -> bool
+fn slots_hold(m: &[u32], n: usize, present: u64, soonest: u64) -> Test
     requires { ⌜ (length (now m) ≡ 12288) × (n ≤ 64) ⌝ }
-    ensures { λ b. ⌜ b ≡ slotsHold n present (now (m .entry)) 64 ⌝ }
+    ensures { λ r. ⌜ testOf r ≡ tested (slotsHold n present (now (m .entry)) 64) (earlier (dueAt soonest) (slotsDue (now (m .entry)) 64)) ⌝ }
 {
+    let mut found = soonest;
     let mut s: usize = 64;
     while 0 < s {
-        if !slot_holds(m, n, s - 1, present) {
-            return false;
-        }
+        let Test::Passes(so_far) = slot_holds(m, n, s - 1, present, found) else {
+            return Test::Fails;
+        };
+        found = so_far;
         s -= 1;
     }
-    true
+    Test::Passes(found)
 }
 
 // Is the slot of the k-th routine in order one, and does its block know the place?
@@ -190,27 +214,27 @@ fn header_in_place(m: &[u32]) -> bool
     zero_from(m, 64 + n, 264 - n)
 }
 
-fn blocks_in_place(m: &[u32], n: usize, size: usize) -> bool
+fn blocks_in_place(m: &[u32], n: usize, size: usize) -> Test
     requires { ⌜ (length (now m) ≡ 12288) × (n ≤ 64) × (n ≡ getD (now m) 3 0) ⌝ }
-    ensures { λ b. ⌜ b ≡ blocksInPlace size (now (m .entry)) ⌝ }
+    ensures { λ r. ⌜ testOf r ≡ tested (blocksInPlace size (now (m .entry))) (blocksDue size (now (m .entry))) ⌝ }
 {
     let present = moment_at(m, 1);
     if !zero_from(m, 12104, 8) {
-        return false;
+        return Test::Fails;
     }
-    if !block_rests(m, 12104, size, present) {
-        return false;
-    }
-    slots_hold(m, n, present)
+    let Test::Passes(found) = block_rests(m, 12104, size, present, 0) else {
+        return Test::Fails;
+    };
+    slots_hold(m, n, present, found)
 }
 
-// All of question 7 that needs no table but the number of environment variables.
-pub fn words_in_place(m: &[u32], size: usize) -> bool
+// All of question 7 that needs no table but the number of environment variables, with the next moment due.
+pub fn words_in_place(m: &[u32], size: usize) -> Test
     requires { ⌜ length (now m) ≡ 12288 ⌝ }
-    ensures { λ b. ⌜ b ≡ wordsInPlace size (now (m .entry)) ⌝ }
+    ensures { λ r. ⌜ testOf r ≡ tested (wordsInPlace size (now (m .entry))) (wordsDue size (now (m .entry))) ⌝ }
 {
     if !header_in_place(m) {
-        return false;
+        return Test::Fails;
     }
     let n = number(m[3]);
     blocks_in_place(m, n, size)

@@ -8,11 +8,13 @@ use Rattle.walk.specs.Instant.{environmentSize}
 use Rattle.table.specs.Decode.{word, tableListing}
 use Rattle.machine.specs.Words.{wordsInPlace, runningWords}
 use Rattle.machine.specs.ReadMachine.{stoppedWords, machineBy, readMachine}
+use Rattle.machine.specs.Due.{dueAt, wordsDue}
+use Rattle.machine.proofs.MachineWords.{words-due-is-next-due}
 use Rattle.machine.proofs.InPlace.{knows-place, in-place}
 use Rattle.machine.proofs.PassingWordsHold.{Words32, own-rests}
 use Rattle.question7.specs.Tables.{TableBounds}
 use Rattle.question7.specs.Scan.{Ready, whole}
-use Rattle.question7.specs.Answer.{answerOf}
+use Rattle.question7.specs.Answer.{answerOf, checkOf}
 use Rattle.question7.specs.declared.MachineCheck.the-variants.{NotAState, Stopped, Running}
 
 pub size-of : (w : List ℕ) (i o : ℕ) → i ≡ word w 0 → o ≡ word w 1 → i + o ≡ environmentSize (tableListing w)
@@ -27,22 +29,27 @@ ready w m T s e = record {
   rests = λ k h. own-rests m s (environmentSize (tableListing w)) e k h;
 }
 
-pub not-running : (w m : List ℕ) (size : ℕ) → size ≡ environmentSize (tableListing w) → wordsInPlace size m ≡ false → false ≡ runningWords (tableListing w) m
-unfolding runningWords
-not-running w m size e f = rw (← e, f)
+module _ (w m : List ℕ) (size : ℕ) (e : size ≡ environmentSize (tableListing w)) where
+  pub not-in-place : wordsInPlace size m ≡ false → runningWords (tableListing w) m ≡ false
+  unfolding runningWords
+  not-in-place f = rw (← e, f)
 
-pub running-by-tree : (w m : List ℕ) (size : ℕ) (b : Bool) → size ≡ environmentSize (tableListing w) → wordsInPlace size m ≡ true → b ≡ whole w m → b ≡ runningWords (tableListing w) m
-unfolding runningWords
-running-by-tree w m size b e f g = rw (← e, f) g
+  pub running-by-tree : (b : Bool) → wordsInPlace size m ≡ true → whole w m ≡ b → runningWords (tableListing w) m ≡ b
+  unfolding runningWords
+  running-by-tree b f g = rw (← e, f, g)
 
-pub answer-stopped : (w m : List ℕ) (k : ℕ) → k ≡ getD m 0 0 → stoppedWords m ≡ true → Stopped k ≡ answerOf (readMachine (tableListing w) m)
-unfolding readMachine machineBy answerOf
+  pub due-of-listing : (t : ℕ) → dueAt t ≡ wordsDue size m → dueAt t ≡ wordsDue (environmentSize (tableListing w)) m
+  due-of-listing t f = rw (← e) f
+
+pub answer-stopped : (w m : List ℕ) (k : ℕ) → k ≡ getD m 0 0 → stoppedWords m ≡ true → checkOf (Stopped k) ≡ answerOf (readMachine (tableListing w) m)
+unfolding readMachine machineBy answerOf checkOf
 answer-stopped w m k a e = rw (e, a)
 
-pub answer-running : (w m : List ℕ) → stoppedWords m ≡ false → runningWords (tableListing w) m ≡ true → Running ≡ answerOf (readMachine (tableListing w) m)
-unfolding readMachine machineBy answerOf
-answer-running w m e f = rw (e, f)
+pub answer-running : (w m : List ℕ) (t : ℕ) → Words32 m → stoppedWords m ≡ false → runningWords (tableListing w) m ≡ true →
+    dueAt t ≡ wordsDue (environmentSize (tableListing w)) m → checkOf (Running t) ≡ answerOf (readMachine (tableListing w) m)
+unfolding readMachine machineBy answerOf checkOf
+answer-running w m t small e f g = rw (e, f, words-due-is-next-due (tableListing w) m small f, g)
 
-pub answer-none : (w m : List ℕ) → stoppedWords m ≡ false → runningWords (tableListing w) m ≡ false → NotAState ≡ answerOf (readMachine (tableListing w) m)
-unfolding readMachine machineBy answerOf
+pub answer-none : (w m : List ℕ) → stoppedWords m ≡ false → runningWords (tableListing w) m ≡ false → checkOf NotAState ≡ answerOf (readMachine (tableListing w) m)
+unfolding readMachine machineBy answerOf checkOf
 answer-none w m e f = rw (e, f)

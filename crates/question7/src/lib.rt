@@ -4,6 +4,7 @@
 pub mod routines;
 pub mod scan;
 
+use machine_words::Test;
 use machine_words::number;
 use machine_words::stopped_words;
 use machine_words::words_in_place;
@@ -14,48 +15,56 @@ ghost use lib.ListN.{length, take};
 ghost use mathlib.Core.Bool.{true};
 ghost use Rattle.table.specs.Decode.{tableListing};
 ghost use Rattle.table.specs.Question6.{isTable};
+ghost use Rattle.walk.specs.Instant.{environmentSize};
 ghost use Rattle.machine.specs.Words.{runningWords};
+ghost use Rattle.machine.specs.Due.{wordsDue};
+ghost use Rattle.machine_words.specs.Tests.{testOf, tested};
 ghost use Rattle.machine.specs.ReadMachine.{readMachine};
 ghost use Rattle.walk.specs.Calls.{firstWords};
-ghost use Rattle.question7.specs.Answer.{answerOf};
+ghost use Rattle.question7.specs.Answer.{answerOf, checkOf};
 
+// The stop's number, or the next moment due (0: none).
 pub enum MachineCheck {
     NotAState,
     Stopped(u32),
-    Running,
+    Running(u64),
 }
 
-// Do the words stand for a state of the walk on the table's listing?
-pub fn running_words(t: &[u32], m: &[u32]) -> bool
+// Do the words stand for a state of the walk on the table's listing? With the next moment due.
+pub fn running_words(t: &[u32], m: &[u32]) -> Test
     requires { ⌜ (length (now t) ≡ 12288) × (length (now m) ≡ 12288) × (isTable (now t) ≡ true) ⌝ }
-    ensures { λ b. ⌜ b ≡ runningWords (tableListing (now (t .entry))) (now (m .entry)) ⌝ }
+    ensures { λ r. ⌜ testOf r ≡ tested (runningWords (tableListing (now (t .entry))) (now (m .entry)))
+        (wordsDue (environmentSize (tableListing (now (t .entry)))) (now (m .entry))) ⌝ }
 {
     let size = number(t[0]) + number(t[1]);
-    if !words_in_place(m, size) {
-        return false;
+    let Test::Passes(soonest) = words_in_place(m, size) else {
+        return Test::Fails;
+    };
+    if !tree_passes(t, m) {
+        return Test::Fails;
     }
-    tree_passes(t, m)
+    Test::Passes(soonest)
 }
 
 // Question 7 on the 12,288 words of each memory.
 pub fn machine_answer(t: &[u32], m: &[u32]) -> MachineCheck
     requires { ⌜ (length (now t) ≡ 12288) × (length (now m) ≡ 12288) × (isTable (now t) ≡ true) ⌝ }
-    ensures { λ r. ⌜ r ≡ answerOf (readMachine (tableListing (now (t .entry))) (now (m .entry))) ⌝ }
+    ensures { λ r. ⌜ checkOf r ≡ answerOf (readMachine (tableListing (now (t .entry))) (now (m .entry))) ⌝ }
 {
     if stopped_words(m) {
         let k = m[0];
         return MachineCheck::Stopped(k);
     }
-    if running_words(t, m) {
-        return MachineCheck::Running;
+    match running_words(t, m) {
+        Test::Fails => MachineCheck::NotAState,
+        Test::Passes(soonest) => MachineCheck::Running(soonest),
     }
-    MachineCheck::NotAState
 }
 
 // Question 7 on memories of at least 12,288 words; the table has passed question 6.
 pub fn check_machine(t: &[u32], m: &[u32]) -> MachineCheck
     requires { ⌜ (12288 ≤ length (now t)) × (12288 ≤ length (now m)) × (isTable (firstWords (now t)) ≡ true) ⌝ }
-    ensures { λ r. ⌜ r ≡ answerOf (readMachine (tableListing (firstWords (now (t .entry)))) (firstWords (now (m .entry)))) ⌝ }
+    ensures { λ r. ⌜ checkOf r ≡ answerOf (readMachine (tableListing (firstWords (now (t .entry)))) (firstWords (now (m .entry)))) ⌝ }
 {
     machine_answer(&t[0..12288], &m[0..12288])
 }

@@ -3,6 +3,7 @@ use mathlib.Core.Path.{sym, _∙_}
 use borrow.Author.Tests.{not-true, not-false}
 use Rattle.machine.specs.Words.{wordsInPlace}
 use Rattle.machine_words.proofs.Laws.{few-routines}
+use Rattle.machine_words.proofs.TestLaws.{fails, words-by-blocks}
 use borrow.Author.Needs.{needs}
 use Rattle.machine_words.proofs.words_in_place.Statement.{statement}
 use Rattle.machine_words.proofs.words_in_place.Tie as tie
@@ -13,7 +14,7 @@ header-in-place-requires c κs = search needs
 returns : tie.Need-returns
 unfolding wordsInPlace
 returns c =
-    rw (sym (c .before .header-in-place .ensures) ∙ not-true _ (c .if1 .taken))
+    fails _ _ (rw (sym (c .before .header-in-place .ensures) ∙ not-true _ (c .if1 .taken)))
 
 shared-slice-read-number : tie.Need-shared-slice-read-number
 shared-slice-read-number c = search needs
@@ -27,9 +28,8 @@ blocks-in-place-requires c κs =
     search needs
 
 returns-2 : tie.Need-returns-2
-unfolding wordsInPlace
 returns-2 c =
-    rw (sym (c .before .before .before .before .header-in-place .ensures) ∙ not-false _ (c .before .before .before .if1 .left)) (c .blocks-in-place .ensures)
+    c .blocks-in-place .ensures ∙ words-by-blocks _ _ (sym (c .before .before .before .before .header-in-place .ensures) ∙ not-false _ (c .before .before .before .if1 .left))
 
 pub words-in-place-spec : {M : Type 1} → statement M
 words-in-place-spec =

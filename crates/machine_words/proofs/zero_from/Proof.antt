@@ -1,19 +1,22 @@
 -- `machine_words::zero_from` meets its contract.
 use Prim.Native.Nat.{_+_, _-_, _≤_}
-use mathlib.Core.Path.{_≡_, sym, _∙_}
+use mathlib.Core.Path.{_≡_}
+use mathlib.Core.Bool.{_&&_}
+use mathlib.Core.Logic.{⊎-elim}
+use denote.Ref.{now}
 use native.Mathlib.Omega.{arith}
 use Rattle.machine.specs.Words.{zeroFrom}
-use Rattle.machine_words.proofs.Laws.{zero-goes-on, zero-ends}
+use Rattle.machine_words.proofs.Laws.{clear-stays, clear-no-more, clear-ends}
 use borrow.Author.Needs.{needs}
 use Rattle.machine_words.proofs.zero_from.Statement.{statement}
 use Rattle.machine_words.proofs.zero_from.Tie as tie
 
 abbrev Inv-loop : tie.InvT-loop
-Inv-loop m at k i₀ i =
-    (i ≤ k) × (zeroFrom m (at + i) (k - i) ≡ zeroFrom m at k)
+Inv-loop m at k clear₀ i₀ clear i =
+    (i ≤ k) × (clear && zeroFrom m (at + i) (k - i) ≡ zeroFrom m at k)
 
 abbrev μ-loop : tie.MeasureT-loop
-μ-loop m at k i₀ i = k - i
+μ-loop m at k clear₀ i₀ clear i = k - i
 
 loop-holds : tie.Need-loop-holds Inv-loop μ-loop
 loop-holds c =
@@ -28,11 +31,6 @@ mul-if1 c = search needs
 shared-slice-read-if1 : tie.Need-shared-slice-read-if1 Inv-loop μ-loop
 shared-slice-read-if1 c = search needs
 
-returns : tie.Need-returns Inv-loop μ-loop
-returns c =
-    let v = c .before .before .before .loop in
-    sym (zero-ends _ _ _ (v .i) (c .before .before .loop-test .taken) (c .if1 .taken)) ∙ v .inv .1
-
 add-i : tie.Need-add-i Inv-loop μ-loop
 add-i c = search needs
 
@@ -42,14 +40,18 @@ loop-less c = search needs
 loop-again : tie.Need-loop-again Inv-loop μ-loop
 loop-again c =
     let v = c .before .before .before .loop in
-    (omega arith, sym (zero-goes-on _ _ _ (v .i) (c .before .before .loop-test .taken) (c .if1 .left)) ∙ v .inv .1)
+    let a = c .before .before .before .before .args in
+    let more = c .before .before .loop-test .taken in (
+      omega arith,
+      ⊎-elim (λ w. clear-no-more (now (a .m)) (a .at) (a .k) (v .i) (v .clear) (c .if1 .clear) _ more (w .0 .taken) (w .1) (v .inv .1))
+          (λ w. clear-stays (now (a .m)) (a .at) (a .k) (v .i) (v .clear) (c .if1 .clear) _ more (w .0 .left) (w .1) (v .inv .1)) (c .if1 .came),
+    )
 
-returns-2 : tie.Need-returns-2 Inv-loop μ-loop
-unfolding zeroFrom
-returns-2 c =
+returns : tie.Need-returns Inv-loop μ-loop
+returns c =
     let v = c .before .loop in
-    let z : c .before .before .args .k - v .i ≡ 0 = omega arith in
-    rw z at (v .inv .1)
+    let a = c .before .before .args in
+    clear-ends (now (a .m)) (a .at) (a .k) (v .i) (v .clear) _ (omega arith) (v .inv .1)
 
 pub zero-from-spec : {M : Type 1} → statement M
 zero-from-spec =
@@ -61,8 +63,7 @@ zero-from-spec =
     add-if1
     mul-if1
     shared-slice-read-if1
-    returns
     add-i
     loop-less
     loop-again
-    returns-2)
+    returns)

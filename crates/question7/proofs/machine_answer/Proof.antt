@@ -1,5 +1,7 @@
 -- `question7::machine_answer` meets its contract.
 use mathlib.Core.Path.{refl, sym, _∙_}
+use native.Mathlib.Omega.{arith}
+use Rattle.machine_words.proofs.TestLaws.{has-failed, has-passed}
 use Rattle.question7.proofs.AnswerLaws.{answer-stopped, answer-running, answer-none}
 use borrow.Author.Needs.{needs}
 use Rattle.question7.proofs.machine_answer.Statement.{statement}
@@ -18,13 +20,20 @@ returns c =
 running-words-requires : tie.Need-running-words-requires
 running-words-requires c κs = search needs
 
+enum-told : tie.Need-enum-told
+enum-told c = search needs
+
+enum-known-soonest : tie.Need-enum-known-soonest
+enum-known-soonest c = search needs
+
 returns-2 : tie.Need-returns-2
 returns-2 c =
-    answer-running _ _ (sym (c .before .before .before .stopped-words .ensures) ∙ c .before .before .if1 .left) (sym (c .before .running-words .ensures) ∙ c .if2 .taken)
+    answer-none _ _ (sym (c .before .before .before .before .stopped-words .ensures) ∙ c .before .before .before .if1 .left) (has-failed _ _ _ (c .before .before .running-words .ensures) (c .enum-told .given .1))
 
 returns-3 : tie.Need-returns-3
 returns-3 c =
-    answer-none _ _ (sym (c .before .before .before .stopped-words .ensures) ∙ c .before .before .if1 .left) (sym (c .before .running-words .ensures) ∙ c .if2 .left)
+    let p = has-passed _ _ _ _ (c .before .before .before .running-words .ensures) (c .before .soonest .given .1) in
+    answer-running _ _ _ (λ i. omega (arith, c .before .before .before .before .before .before .shared-slice-known2 .given i)) (sym (c .before .before .before .before .before .stopped-words .ensures) ∙ c .before .before .before .before .if1 .left) (p .0) (p .1)
 
 pub machine-answer-spec : {M : Type 1} → statement M
 machine-answer-spec =
@@ -34,5 +43,7 @@ machine-answer-spec =
     shared-slice-read-k
     returns
     running-words-requires
+    enum-told
+    enum-known-soonest
     returns-2
     returns-3)

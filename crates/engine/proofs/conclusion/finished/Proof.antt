@@ -1,10 +1,9 @@
 -- `engine::conclusion::finished` meets its contract.
 use native.Mathlib.Omega.{arith}
 use denote.Ref.{now}
-use lib.ListN.{length-take}
 use Prim.Native.Nat.{_+_}
-use Rattle.engine.proofs.TableSize.{whole-size}
-use Rattle.engine.proofs.Finished.{finished-in-place, finished-as, listed-below}
+use Rattle.questions.proofs.TableSize.{whole-size}
+use Rattle.engine.proofs.Finished.{finished-as, listed-below}
 use borrow.Author.Needs.{needs}
 use Rattle.engine.proofs.conclusion.finished.Statement.{statement}
 use Rattle.engine.proofs.conclusion.finished.Tie as tie
@@ -27,38 +26,21 @@ list-outputs-requires c κs =
     let s = whole-size (now (c .before .before .before .before .before .before .before .before .before .before .before .args .table)) (p .1 .table) _ _ (c .before .before .before .before .before .number .ensures .0) (c .before .before .before .number2 .ensures .0) in
     (p .1 .size, s .1, p .2, p .3)
 
+add-finish : tie.Need-add-finish
+add-finish c = search needs
+
 finish-requires : tie.Need-finish-requires
-finish-requires c κs = search needs
-
-sub-next-due : tie.Need-sub-next-due
-sub-next-due c =
-    omega (arith, c .before .before .finish .ensures .size, c .before .before .before .before .before .before .before .before .before .before .before .before .before .before .before .before .before .before .before .before .pre .1 .size)
-
-part-next-due-start : tie.Need-part-next-due-start
-part-next-due-start c = search needs
-
-part-next-due-end : tie.Need-part-next-due-end
-part-next-due-end c = search needs
-
-add-next-due : tie.Need-add-next-due
-add-next-due c = search needs
-
-next-due-requires : tie.Need-next-due-requires
-next-due-requires c κs =
-    let a = c .before .before .before .before .before .before .before .before .before .before .before .before .before .before .before .before .before .before .before .before .before .before .args in
-    let p = c .before .before .before .before .before .before .before .before .before .before .before .before .before .before .before .before .before .before .before .before .before .before .pre in
-    let s = whole-size (now (a .table)) (p .1 .table) _ _ (c .before .before .before .before .before .before .before .before .before .before .before .before .before .before .before .before .number .ensures .0) (c .before .before .before .before .before .before .before .before .before .before .before .before .before .before .number2 .ensures .0) in
-    let E = c .before .before .before .before .finish .ensures in (
-      simp length-take (omega (arith, E .size, p .1 .size)),
-      finished-in-place (now (a .table)) (now (a .machine)) _ (a .t) (p .1) (λ k. omega (arith, c .before .before .before .before .before .before .before .before .before .before .before .before .before .before .before .before .before .before .before .before .slice-known .given k)) E _ (s .0),
-    )
+finish-requires c κs =
+    let p = c .before .before .before .before .before .before .before .before .before .before .before .before .before .before .before .before .before .pre in
+    let s = whole-size (now (c .before .before .before .before .before .before .before .before .before .before .before .before .before .before .before .before .before .args .table)) (p .1 .table) _ _ (c .before .before .before .before .before .before .before .before .before .before .before .number .ensures .0) (c .before .before .before .before .before .before .before .before .before .number2 .ensures .0) in
+    (p .1 .size, s .1)
 
 due-at-requires : tie.Need-due-at-requires
 due-at-requires c κs = search needs
 
 cast-t13 : tie.Need-cast-t13
 cast-t13 c =
-    omega (arith, c .before .before .before .before .before .before .before .before .before .before .before .before .list-outputs .ensures .count, listed-below (c .before .before .before .before .before .before .before .before .before .before .before .before .before .before .before .before .before .before .number .result + c .before .before .before .before .before .before .before .before .before .before .before .before .before .before .before .before .number2 .result) (c .before .before .before .before .before .before .before .before .before .before .before .before .before .before .before .before .before .before .number .result) (now (c .before .before .before .before .before .before .before .before .before .before .before .before .before .before .before .before .before .before .before .before .before .before .before .before .args .machine)))
+    omega (arith, c .before .before .before .before .before .before .before .before .before .list-outputs .ensures .count, listed-below (c .before .before .before .before .before .before .before .before .before .before .before .before .before .before .before .number .result + c .before .before .before .before .before .before .before .before .before .before .before .before .before .number2 .result) (c .before .before .before .before .before .before .before .before .before .before .before .before .before .before .before .number .result) (now (c .before .before .before .before .before .before .before .before .before .before .before .before .before .before .before .before .before .before .before .before .before .args .machine)))
 
 same-length : tie.Need-same-length
 same-length c = search needs
@@ -71,11 +53,11 @@ same-length-3 c = search needs
 
 returns : tie.Need-returns
 returns c =
-    let a = c .before .before .before .before .before .before .before .before .before .before .before .before .before .before .before .before .before .before .before .before .before .before .before .before .args in
+    let a = c .before .before .before .before .before .before .before .before .before .before .before .before .before .before .before .before .before .before .before .before .before .args in
     λ may.
-    finished-as (now (a .table)) (now (a .machine)) _ (a .t) may (λ k. omega (arith, c .before .before .before .before .before .before .before .before .before .before .before .before .before .before .before .before .before .before .before .before .before .before .slice-known .given k)) (c .before .before .before .before .before .before .finish .ensures)
-    (λ k. omega (arith, c .before .before .before .before .slice-known6 .given k)) _ _ (c .before .before .before .before .before .before .before .before .before .before .before .before .before .before .before .before .before .before .number .ensures .0) (c .before .before .before .before .before .before .before .before .before .before .before .before .before .before .before .before .number2 .ensures .0) _ _ _ _ (a .steps) _ _ _
-    (c .before .before .before .before .before .before .before .before .before .before .before .before .list-outputs .ensures) (c .before .next-due .ensures) (c .due-at .ensures)
+    finished-as (now (a .table)) (now (a .machine)) _ (a .t) may (λ k. omega (arith, c .before .before .before .before .before .before .before .before .before .before .before .before .before .before .before .before .before .before .before .slice-known .given k)) (c .before .before .before .finish .ensures .0)
+    _ _ (c .before .before .before .before .before .before .before .before .before .before .before .before .before .before .before .number .ensures .0) (c .before .before .before .before .before .before .before .before .before .before .before .before .before .number2 .ensures .0) _ _ _ _ (a .steps) _ _ _
+    (c .before .before .before .before .before .before .before .before .before .list-outputs .ensures) (c .before .before .before .finish .ensures .1) (c .due-at .ensures)
 
 pub finished-spec : {M : Type 1} → statement M
 finished-spec =
@@ -86,12 +68,8 @@ finished-spec =
     shared-slice-read-number-2
     number-requires-2
     list-outputs-requires
+    add-finish
     finish-requires
-    sub-next-due
-    part-next-due-start
-    part-next-due-end
-    add-next-due
-    next-due-requires
     due-at-requires
     cast-t13
     same-length

@@ -1,6 +1,7 @@
 use Rattle.finishing.proofs.OrderTurns.{built-below}
 use Rattle.finishing.proofs.PlaceTurns.{built-differ}
 use Rattle.finishing.proofs.Composed.{instant-ended}
+use Rattle.finishing.proofs.DueSlots.{all-due}
 use Rattle.finishing.specs.Ended.{Ended}
 use Rattle.scheduler.specs.Order.{walkingOrder}
 use Rattle.blocks.specs.Blocks.{rowsOf}
@@ -16,12 +17,15 @@ use Rattle.finishing.proofs.ending.finish.Tie as tie
 clear-header-requires : tie.Need-clear-header-requires
 clear-header-requires c κs = search needs
 
+sooner-of-variables-requires : tie.Need-sooner-of-variables-requires
+sooner-of-variables-requires c κs = search needs
+
 order-slots-requires : tie.Need-order-slots-requires
 order-slots-requires c κs = search needs
 
 set-places-requires : tie.Need-set-places-requires
 set-places-requires c κs =
-    let o = c .before .before .before .order-slots .ensures in
+    let o = c .before .before .before .order-slots .ensures .0 in
     (search needs, search needs, built-below (omega arith) o, built-differ o)
 
 clear-working-requires : tie.Need-clear-working-requires
@@ -38,9 +42,13 @@ same-length c = search needs
 
 returns : tie.Need-returns
 returns c =
-    let a = c .before .before .before .before .before .before .before .before .before .before .before .before .before .before .before .before .before .before .before .before .before .args in
-    subst (λ (l : List ℕ). Ended (a .t) (walkingOrder (rowsOf (now (a .m)))) (now (a .m)) l) (sym (c .before .before .store-header .ensures))
-    (instant-ended (a .t) _ (search needs) (c .before .before .before .before .before .before .before .before .before .before .before .before .before .before .before .before .before .before .clear-header .ensures) (c .before .before .before .before .before .before .before .before .before .before .before .before .before .before .order-slots .ensures) (c .before .before .before .before .before .before .before .before .before .before .set-places .ensures) (c .before .before .before .before .before .before .clear-working .ensures))
+    let a = c .before .before .before .before .before .before .before .before .before .before .before .before .before .before .before .before .before .before .before .before .before .before .before .args in
+    let h = c .before .before .before .before .before .before .before .before .before .before .before .before .before .before .before .before .before .before .before .before .clear-header .ensures in
+    let o = c .before .before .before .before .before .before .before .before .before .before .before .before .before .before .order-slots .ensures in (
+      subst (λ (l : List ℕ). Ended (a .t) (walkingOrder (rowsOf (now (a .m)))) (now (a .m)) l) (sym (c .before .before .store-header .ensures))
+          (instant-ended (a .t) _ (search needs) h (o .0) (c .before .before .before .before .before .before .before .before .before .before .set-places .ensures) (c .before .before .before .before .before .before .clear-working .ensures)),
+      all-due (now (a .m)) _ (a .size) _ _ h (c .before .before .before .before .before .before .before .before .before .before .before .before .before .before .before .before .before .before .before .before .before .before .before .pre .1) (c .before .before .before .before .before .before .before .before .before .before .before .before .before .before .before .before .sooner-of-variables .ensures) (o .1),
+    )
 
 pub finish-spec : {M : Type 1} → statement M
-finish-spec = tie.close (tie.spec clear-header-requires order-slots-requires set-places-requires clear-working-requires cast-store-header store-header-requires same-length returns)
+finish-spec = tie.close (tie.spec clear-header-requires sooner-of-variables-requires order-slots-requires set-places-requires clear-working-requires cast-store-header store-header-requires same-length returns)

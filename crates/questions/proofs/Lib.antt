@@ -1,0 +1,4 @@
+pub mod TableSize
+pub mod Refusals
+pub mod Asking
+pub mod Calling

@@ -1,0 +1,217 @@
+// The questions that the calls put before they run: 1 and 6 to 12. A number that answers is the one that refuses, 0 if none does.
+ghost use mathlib.Core.Bool.{true, not};
+ghost use mathlib.Core.Path.{_≡_};
+ghost use Prim.Native.Nat.{ℕ, _≤_};
+ghost use lib.Dec.{ltb};
+ghost use lib.ListN.{length};
+ghost use Rattle.walk.specs.Calls.{Outcome, ask, dueBefore, allowed, firstWords};
+ghost use Rattle.walk.specs.Instant.{environmentSize};
+ghost use Rattle.table.specs.Question6.{isTable};
+ghost use Rattle.table.specs.Decode.{tableListing};
+ghost use Rattle.machine.specs.Words.{momentAt};
+ghost use Rattle.machine.specs.Due.{dueAt};
+ghost use Rattle.machine.specs.ReadMachine.{readMachine};
+ghost use Rattle.questions.specs.Asked.{machineRefusal, longEnough, numbersRise, askedBy, MachineAsked, InstantAsked, StartAsked};
+ghost use Rattle.questions.specs.declared.Questioned.the-variants.{Passed};
+use machine_words::number;
+use question7::MachineCheck;
+
+// "Table 12,288 words of 32 bits, machine 12,288, output lists 16 each"
+pub const MEMORY: usize = 12288;
+
+const OUTPUTS: usize = 16;
+
+// The answer to an instant's questions: the number that refuses, or the next moment due of the machine (0: none).
+pub enum Questioned {
+    Refused(u32),
+    Passed(u64),
+}
+
+// The number of environment variables of a table that has passed question 6.
+pub fn environment_size(table: &[u32]) -> usize
+    requires { ⌜ (12288 ≤ length (now table)) × (isTable (firstWords (now table)) ≡ true) ⌝ }
+    ensures { λ r. ⌜ (r ≡ environmentSize (tableListing (firstWords (now (table .entry))))) × (r ≤ 16) ⌝ }
+{
+    let inputs = number(table[0]);
+    let outputs = number(table[1]);
+    inputs + outputs
+}
+
+// 7 and 8 of a machine.
+pub fn machine_refusal(table: &[u32], machine: &[u32]) -> u32
+    requires { ⌜ (12288 ≤ length (now table)) × (12288 ≤ length (now machine)) × (isTable (firstWords (now table)) ≡ true) ⌝ }
+    ensures { λ r. ⌜ r ≡ machineRefusal (readMachine (tableListing (firstWords (now (table .entry)))) (firstWords (now (machine .entry)))) ⌝ }
+{
+    let check = question7::check_machine(table, machine);
+    match check {
+        MachineCheck::NotAState => 7,
+        MachineCheck::Stopped(_) => 8,
+        MachineCheck::Running(_) => 0,
+    }
+}
+
+// 1 "Are the lent memories long enough?", of their lengths.
+fn long_enough(table: usize, machine: usize, numbers: usize, values: usize) -> bool
+    ensures { λ r. ⌜ r ≡ longEnough table machine numbers values ⌝ }
+{
+    if table < MEMORY {
+        return false;
+    }
+    if machine < MEMORY {
+        return false;
+    }
+    if numbers < OUTPUTS {
+        return false;
+    }
+    values >= OUTPUTS
+}
+
+// 10 "Is nothing due before t?": whether something is, by the next moment due (0: none).
+fn due_before(soonest: u64, t: u64) -> bool
+    ensures { λ r. ⌜ r ≡ dueBefore (dueAt soonest) t ⌝ }
+{
+    if soonest == 0 {
+        return false;
+    }
+    soonest < t
+}
+
+// 11 "Are the input numbers below i and strictly rising?"
+fn numbers_rise(numbers: &[u32], inputs: usize) -> bool
+    ensures { λ r. ⌜ r ≡ numbersRise inputs 0 (now (numbers .entry)) ⌝ }
+{
+    let mut least: usize = 0;
+    let mut k: usize = 0;
+    while k < numbers.len() {
+        let n = number(numbers[k]);
+        if n < least {
+            return false;
+        }
+        if n >= inputs {
+            return false;
+        }
+        least = n + 1;
+        k += 1;
+    }
+    true
+}
+
+// 12 "Is the allowance 1 to 1,000,000?"
+fn allowance_fits(allowance: u32) -> bool
+    ensures { λ r. ⌜ r ≡ allowed allowance ⌝ }
+{
+    if allowance < 1 {
+        return false;
+    }
+    allowance <= 1000000
+}
+
+// 9 to 12, of the 12,288 words of a running machine and its next moment due.
+fn state_question(
+    machine: &[u32],
+    soonest: u64,
+    inputs: usize,
+    t: u64,
+    numbers: &[u32],
+    allowance: u32,
+) -> Questioned
+    requires { ⌜ length (now machine) ≡ 12288 ⌝ }
+    ensures { λ r. ⌜ ((next : Outcome) → askedBy r next ≡ ask 9 (ltb (momentAt (now (machine .entry)) 1) t)
+        (ask 10 (not (dueBefore (dueAt soonest) t))
+        (ask 11 (numbersRise inputs 0 (now (numbers .entry))) (ask 12 (allowed allowance) next)))) × ((d : ℕ) → r ≡ Passed d → d ≡ soonest) ⌝ }
+{
+    let present = machine_words::present_moment(machine);
+    if t <= present {
+        return Questioned::Refused(9);
+    }
+    if due_before(soonest, t) {
+        return Questioned::Refused(10);
+    }
+    if !numbers_rise(numbers, inputs) {
+        return Questioned::Refused(11);
+    }
+    if !allowance_fits(allowance) {
+        return Questioned::Refused(12);
+    }
+    Questioned::Passed(soonest)
+}
+
+// 7 to 12, on a table that has passed question 6.
+fn machine_question(
+    table: &[u32],
+    machine: &[u32],
+    t: u64,
+    numbers: &[u32],
+    allowance: u32,
+) -> Questioned
+    requires { ⌜ (12288 ≤ length (now table)) × (12288 ≤ length (now machine)) × (isTable (firstWords (now table)) ≡ true) ⌝ }
+    ensures { λ r. ⌜ MachineAsked (tableListing (firstWords (now (table .entry)))) (firstWords (now (machine .entry))) t (now (numbers .entry)) allowance r ⌝ }
+{
+    let check = question7::check_machine(table, machine);
+    match check {
+        MachineCheck::NotAState => Questioned::Refused(7),
+        MachineCheck::Stopped(_) => Questioned::Refused(8),
+        MachineCheck::Running(soonest) => {
+            let inputs = number(table[0]);
+            state_question(&machine[0..12288], soonest, inputs, t, numbers, allowance)
+        }
+    }
+}
+
+// All questions of the instant call: 1, 6, 7, 8, 9, 10, 11, 12.
+pub fn instant_question(
+    table: &[u32],
+    machine: &[u32],
+    t: u64,
+    in_numbers: &[u32],
+    in_values: &[u32],
+    out_numbers: &[u32],
+    out_values: &[u32],
+    allowance: u32,
+) -> Questioned
+    ensures { λ r. ⌜ InstantAsked (now (table .entry)) (now (machine .entry)) t (now («in_numbers» .entry)) (now («in_values» .entry))
+        (now («out_numbers» .entry)) (now («out_values» .entry)) allowance r ⌝ }
+{
+    if !long_enough(
+        table.len(),
+        machine.len(),
+        out_numbers.len(),
+        out_values.len(),
+    ) {
+        return Questioned::Refused(1);
+    }
+    if in_numbers.len() != in_values.len() {
+        return Questioned::Refused(1);
+    }
+    if !table_check::is_table(table) {
+        return Questioned::Refused(6);
+    }
+    machine_question(table, machine, t, in_numbers, allowance)
+}
+
+// All questions of the start: 1, 6, 12.
+pub fn start_question(
+    table: &[u32],
+    machine: &[u32],
+    out_numbers: &[u32],
+    out_values: &[u32],
+    allowance: u32,
+) -> u32
+    ensures { λ r. ⌜ StartAsked (now (table .entry)) (now (machine .entry)) (now («out_numbers» .entry)) (now («out_values» .entry)) allowance r ⌝ }
+{
+    if !long_enough(
+        table.len(),
+        machine.len(),
+        out_numbers.len(),
+        out_values.len(),
+    ) {
+        return 1;
+    }
+    if !table_check::is_table(table) {
+        return 6;
+    }
+    if !allowance_fits(allowance) {
+        return 12;
+    }
+    0
+}

@@ -1,3 +1,2 @@
 pub mod LayoutIsExact
-pub mod Causes
 pub mod Demands

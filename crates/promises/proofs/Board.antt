@@ -91,8 +91,9 @@ pub record BoardSession (layout : Layout) (run : BoardRun layout) : Type 0 where
   pub starts : startOn listing (run .allowance) ≡ done d
   pub startResult : run .result ≡ resultOf (done d)
   pub startWrites : listedBy 0 (run .result) (run .numbers) (run .values) ≡ eventsAt 0 (d .listed)
+  pub startState : layout .readMachine listing (firstWords (run .machine)) ≡ some (running (d .state))
   -- and so did every call
-  pub calls : AsTheWalk (run .calls) (answersFrom listing (running (d .state)) (asInstantCalls (run .table) (run .machine) (run .calls)))
+  pub calls : AsTheWalk layout listing (running (d .state)) (run .calls) (answersFrom listing (running (d .state)) (asInstantCalls (run .table) (run .machine) (run .calls)))
 
 module _ (layout : Layout) (exact : Exact layout) (run : BoardRun layout) where
   table-reads : (listing : Listing) {answer : Loading} → TableAfter layout (run .tableBefore) (run .table) answer → answer ≡ Load.loaded listing →
@@ -142,5 +143,6 @@ module _ (layout : Layout) (exact : Exact layout) (run : BoardRun layout) where
             startWrites = left-lists-hold-the-writes 0 (done (w .d)) (run .numbersBefore) (run .valuesBefore) (run .numbers) (run .values) (run .result)
                 (k .result ∙ ap resultOf whole) (k .numbersAre ∙ ap (λ (x : Outcome). numbersAfter x (run .numbersBefore)) whole)
                 (k .valuesAre ∙ ap (λ (x : Outcome). valuesAfter x (run .valuesBefore)) whole);
+            startState = m;
             calls = calls-are-the-walks layout listing e (run .table) t (run .machine) (running ((w .d) .state)) (run .calls) stands (run .answered);
           }

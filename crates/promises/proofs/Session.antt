@@ -67,6 +67,14 @@ length-halted : (k : ℕ) → length (haltedWords k) ≡ 12288
 unfolding haltedWords
 length-halted k = length-and-zeros k 12287 12288 refl
 
+-- A call on a board answers as the walk, of any memory that passes question 7.
+pub call-answers-as-the-walk : (layout : Layout) (listing : Listing) (table : List ℕ) → layout .readTable (firstWords table) ≡ some listing →
+    (machine : List ℕ) (m : Machine) → layout .readMachine listing (firstWords machine) ≡ some m → (c : BoardCall) →
+    instantCall layout table machine (c .time) (c .inNumbers) (c .inValues) (c .numbers) (c .values) (c .allowance) ≡
+    callOn listing m (asInstantCall table machine c)
+unfolding instantCall callOn asInstantCall found
+call-answers-as-the-walk layout listing table reads machine m e c = rw (reads, e)
+
 module _ (layout : Layout) (listing : Listing) (exact : ExactMachine layout listing) (table : List ℕ)
     (reads : layout .readTable (firstWords table) ≡ some listing)
   where
@@ -75,14 +83,7 @@ module _ (layout : Layout) (listing : Listing) (exact : ExactMachine layout list
       pub machineReads : layout .readMachine listing (firstWords machine) ≡ some m
       pub isState : (s : State) → m ≡ running s → IsState listing s
 
-    -- A call on a board answers as the walk.
-    pub call-answers-as-the-walk : (machine : List ℕ) (m : Machine) → layout .readMachine listing (firstWords machine) ≡ some m → (c : BoardCall) →
-        instantCall layout table machine (c .time) (c .inNumbers) (c .inValues) (c .numbers) (c .values) (c .allowance) ≡
-        callOn listing m (asInstantCall table machine c)
-    unfolding instantCall callOn asInstantCall found
-    call-answers-as-the-walk machine m e c = rw (reads, e)
-
-    -- and leaves the walk's machine.
+    -- The call leaves the walk's machine.
     machine-after : (machine machine′ : List ℕ) (m : Machine) (o : Outcome) → Stands machine m → MachineAfter layout table machine machine′ o →
         ((k : ℕ) → o ≡ stopped k → isStop k ≡ true) → layout .readMachine listing (firstWords machine′) ≡ some (machineAfter m o)
     unfolding machineAfter
@@ -136,10 +137,18 @@ pub data StopsAre13To17 : List Answered → Type 0 where
   no-answer : StopsAre13To17 []
   one-answer : {a : Answered} {xs : List Answered} → ((k : ℕ) → a .outcome ≡ stopped k → isStop k ≡ true) → StopsAre13To17 xs → StopsAre13To17 (a ∷ xs)
 
--- The calls' results and the writes in the lists they left are those of these answers of the walk.
-pub record AsTheWalk (calls : List BoardCall) (answers : List Answered) : Type 0 where
+-- The words that each call left stand for the walk's machine after it, the machine before them all being m.
+pub data LeavesTheWalks (layout : Layout) (listing : Listing) : Machine → List BoardCall → List Answered → Type 0 where
+  no-call : {m : Machine} → LeavesTheWalks layout listing m [] []
+  one-call : {m : Machine} {c : BoardCall} {a : Answered} {cs : List BoardCall} {xs : List Answered} →
+      layout .readMachine listing (firstWords (c .machineAfter)) ≡ some (machineAfter m (a .outcome)) →
+      LeavesTheWalks layout listing (machineAfter m (a .outcome)) cs xs → LeavesTheWalks layout listing m (c ∷ cs) (a ∷ xs)
+
+-- The calls' results, the writes in the lists they left and the machines they left are those of these answers of the walk.
+pub record AsTheWalk (layout : Layout) (listing : Listing) (m : Machine) (calls : List BoardCall) (answers : List Answered) : Type 0 where
   pub results : resultsOn calls ≡ resultsOf answers
   pub writes : boardReported calls ≡ reported answers
+  pub states : LeavesTheWalks layout listing m calls answers
   pub stops : StopsAre13To17 answers
 
 module _ (layout : Layout) (listing : Listing) (exact : ExactMachine layout listing) (table : List ℕ)
@@ -152,18 +161,24 @@ module _ (layout : Layout) (listing : Listing) (exact : ExactMachine layout list
         record { machineReads = r; isState = λ s e. exact .state-only (firstWords machine′) s (words-of-a-part 12288 machine′ small) (r ∙ ap some e) }
 
     pub calls-are-the-walks : (machine : List ℕ) (m : Machine) (cs : List BoardCall) → Stands layout listing exact table reads machine m →
-        BoardCalls layout table machine cs → AsTheWalk cs (answersFrom listing m (asInstantCalls table machine cs))
+        BoardCalls layout table machine cs → AsTheWalk layout listing m cs (answersFrom listing m (asInstantCalls table machine cs))
     unfolding answersFrom asInstantCalls asInstantCall resultsOf resultsOn boardReported reported
-    calls-are-the-walks machine m _ st no-more = record { results = refl; writes = refl; stops = no-answer }
+    calls-are-the-walks machine m _ st no-more = record { results = refl; writes = refl; states = no-call; stops = no-answer }
     calls-are-the-walks machine m _ st (and-then {c = c} {cs = cs} p small rest) =
-        let e = call-answers-as-the-walk layout listing exact table reads machine m (st .machineReads) c in
+        let e = call-answers-as-the-walk layout listing table reads machine m (st .machineReads) c in
         let o = callOn listing m (asInstantCall table machine c) in
         let after : MachineAfter layout table machine (c .machineAfter) o = rw e at (p .machineIs) in
         let stops : (k : ℕ) → o ≡ stopped k → isStop k ≡ true = λ k. call-stops-13-to-17 listing m (asInstantCall table machine c) k (st .isState) in
-        let next = calls-are-the-walks (c .machineAfter) (machineAfter m o) cs (stands-after machine (c .machineAfter) m o st small after stops) rest in
+        let left = stands-after machine (c .machineAfter) m o st small after stops in
+        let next = calls-are-the-walks (c .machineAfter) (machineAfter m o) cs left rest in
         let r : c .result ≡ resultOf o = p .result ∙ ap resultOf e in
         let ns : c .numbersAfter ≡ numbersAfter o (c .numbers) = p .numbersAre ∙ ap (λ (x : Outcome). numbersAfter x (c .numbers)) e in
         let vs : c .valuesAfter ≡ valuesAfter o (c .values) = p .valuesAre ∙ ap (λ (x : Outcome). valuesAfter x (c .values)) e in
         let w : listedBy (c .time) (c .result) (c .numbersAfter) (c .valuesAfter) ≡ eventsAt (c .time) (outcomeListed o) =
         left-lists-hold-the-writes (c .time) o (c .numbers) (c .values) (c .numbersAfter) (c .valuesAfter) (c .result) r ns vs in
-        record { results = ap₂ _∷_ r (next .results); writes = ap₂ _++_ w (next .writes); stops = one-answer stops (next .stops) }
+        record {
+          results = ap₂ _∷_ r (next .results);
+          writes = ap₂ _++_ w (next .writes);
+          states = one-call (left .machineReads) (next .states);
+          stops = one-answer stops (next .stops);
+        }

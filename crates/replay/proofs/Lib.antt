@@ -10,4 +10,5 @@ pub mod Promised
 pub mod Playing
 pub mod Stepping
 pub mod FirstSteps
+pub mod Calling
 pub mod Moving

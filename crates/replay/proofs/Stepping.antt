@@ -9,15 +9,13 @@ use lib.ListN.{length, take, drop}
 use Rattle.listing.specs.Bytes.{Bytes}
 use Rattle.listing.specs.Listing.{Listing}
 use Rattle.walk.specs.State.{State}
-use Rattle.walk.specs.Instant.{Write, moment, nextDue}
 use Rattle.walk.specs.Calls.{dueBefore, inputsOf, startOn}
 use Rattle.walk.specs.Trace.{script, callAt, lastAt}
 use Rattle.walk.specs.Session.{Played, andThen, played, callFrom, printed, writeLines, endOf, endLine, endCode, play, playAll, sessionAllowance}
-use Rattle.layout.specs.Layout.{layout}
 use Rattle.engine.specs.Answers.{dueOf}
 use Rattle.replay.specs.Standing.{Runs, Stands, starting, reading, toward, until, over, Left}
-use Rattle.replay.specs.Made.{Soon, due-at, none-due, CallPrinted, bytesOf, StartMade, InstantMade, EndsWith, Steps}
-use Rattle.replay.specs.Made as specs
+use Rattle.replay.specs.Made.{Soon, due-at, none-due, stepAfter, EndsWith}
+use Rattle.replay.specs.Advancing.{Steps}
 use Rattle.replay.specs.declared.phase.Clock.{Clock}
 use Rattle.replay.specs.declared.phase.Phase.{Phase}
 use Rattle.replay.specs.declared.phase.Phase.the-variants.{Starting, Reading, Toward, Until, Over}
@@ -26,6 +24,10 @@ use Rattle.replay.specs.declared.calls.Made.{Made}
 use Rattle.replay.specs.declared.calls.Made.the-variants.{Ended, Went}
 use Rattle.engine.specs.declared.answers.Due.the-variants.{Never, At}
 use Rattle.replay.proofs.Lawful.{lawful, is-state}
+use Rattle.replay.proofs.PiecePrinted.{begins-take, begins-room}
+use Rattle.replay.proofs.CallPrinted.{CallPrinted}
+use Rattle.replay.proofs.CallPrinted as call
+use Rattle.replay.proofs.Promised.{bytesOf, StartPrinted, InstantPrinted}
 use Rattle.replay.proofs.Playing.{due-toward, call-toward, due-until, end-until}
 
 append-nothing : (xs : Bytes) → xs ++ [] ≡ xs
@@ -37,21 +39,16 @@ module _ (listing trace table machine numbers values : List ℕ) where
   over-left : (phase : Phase) (bytes piece : Bytes) → phase ≡ Over → bytes ≡ piece → Left listing trace table machine numbers values phase bytes piece
   over-left phase bytes piece e f = record { rest = []; parts = f ∙ sym (append-nothing piece); stands = rw e over }
 
-pub ends-steps : (listing trace table machine numbers values : List ℕ) (phase : Phase) (table′ machine′ numbers′ values′ out : List ℕ) (code present : ℕ) (step : Step) →
-    EndsWith out code present step → ((bytes : Bytes) → Stands listing trace table machine numbers values phase bytes → bytes ≡ endLine code present) →
+pub ends-steps : (listing trace table machine numbers values : List ℕ) (phase : Phase) (table′ machine′ numbers′ values′ before out : List ℕ) (code present : ℕ) (step : Step) →
+    EndsWith before code present out step → ((bytes : Bytes) → Stands listing trace table machine numbers values phase bytes → bytes ≡ endLine code present) →
     Steps listing trace table machine numbers values phase table′ machine′ numbers′ values′ out step
-ends-steps listing trace table machine numbers values phase table′ machine′ numbers′ values′ out code present step e all =
+ends-steps listing trace table machine numbers values phase table′ machine′ numbers′ values′ before out code present step e all =
     record {
-      room = e .room;
-      prints = λ bytes h. over-left listing trace table′ machine′ numbers′ values′ (step .phase) bytes (take (step .printed) out) (e .over) (all bytes h ∙ sym (e .is));
+      room = begins-room (e .prints);
+      prints = λ bytes h. over-left listing trace table′ machine′ numbers′ values′ (step .phase) bytes (take (step .printed) out) (e .over) (all bytes h ∙ sym (begins-take (e .prints)));
     }
 
 -- ── a step that made a call ───────────────────────────────────────────────────────────────────────
--- The phase after it: all is printed, or the phase with what the call told.
-abbrev pub stepAfter : Made → (Clock → Phase) → Step
-stepAfter (Ended n) phase = record { phase = Over; printed = n }
-stepAfter (Went clock n) phase = record { phase = phase clock; printed = n }
-
 step-room : (made : Made) (phase : Clock → Phase) (out : List ℕ) → bytesOf made ≤ length out → stepAfter made phase .printed ≤ length out
 step-room (Ended n) phase out h = h
 step-room (Went clock n) phase out h = h
@@ -60,11 +57,11 @@ module _ (listing trace table machine numbers values out : List ℕ) (l : Listin
     (stands : (clock : Clock) (u : State) → Runs table machine clock l u → Stands listing trace table machine numbers values (phase clock) (printed (next u))) where
   call-left : (made : Made) (bytes : Bytes) → CallPrinted table machine out l p made → bytes ≡ printed (andThen p next) →
       Left listing trace table machine numbers values (stepAfter made phase .phase) bytes (take (stepAfter made phase .printed) out)
-  call-left _ bytes (specs.CallPrinted.ended {n} is) e = over-left listing trace table machine numbers values Over bytes (take n out) refl (e ∙ is next)
-  call-left _ bytes (specs.CallPrinted.went {n} {clock} u runs is) e = record { rest = printed (next u); parts = e ∙ is next; stands = stands clock u runs }
+  call-left _ bytes (call.ended {n} is) e = over-left listing trace table machine numbers values Over bytes (take n out) refl (e ∙ is next)
+  call-left _ bytes (call.went {n} {clock} u runs is) e = record { rest = printed (next u); parts = e ∙ is next; stands = stands clock u runs }
 
 -- The start.
-pub starting-steps : (listing trace table machine numbers values machine′ out : List ℕ) (made : Made) → StartMade table machine machine′ out made →
+pub starting-steps : (listing trace table machine numbers values machine′ out : List ℕ) (made : Made) → StartPrinted table machine′ out made →
     Steps listing trace table machine numbers values Starting table machine′ numbers values out (stepAfter made (λ (clock : Clock). Reading clock 0))
 unfolding playAll
 starting-steps listing trace table machine numbers values machine′ out made m = record { room = step-room made _ out (m .room); prints = go }
@@ -77,7 +74,7 @@ starting-steps listing trace table machine numbers values machine′ out made m 
 
 -- The due instants before a call, and the call.
 module _ (listing trace table machine numbers values machine′ out : List ℕ) (clock : Clock) (time count next : ℕ) (fits : time < 18446744073709551616) where
-  pub due-toward-steps : (m : ℕ) (made : Made) → Soon (dueOf (clock .due)) time (At m) → InstantMade table machine machine′ out (clock .now) m [] made →
+  pub due-toward-steps : (m : ℕ) (made : Made) → Soon (dueOf (clock .due)) time (At m) → InstantPrinted table machine machine′ out (clock .now) m [] made →
       Steps listing trace table machine numbers values (Toward clock time count next) table machine′ numbers values out
       (stepAfter made (λ (c : Clock). Toward c time count next))
   due-toward-steps m made (due-at at before) i = record { room = step-room made _ out (i .room); prints = go }
@@ -91,7 +88,7 @@ module _ (listing trace table machine numbers values machine′ out : List ℕ) 
           (e ∙ ap printed (due-toward l s (lawful runs) (is-state runs) time ws (script (drop next trace)) fits m (sym (runs .due) ∙ at) before))
 
   pub call-toward-steps : (made : Made) → Soon (dueOf (clock .due)) time Never →
-      InstantMade table machine machine′ out (clock .now) time (inputsOf (take count numbers) (take count values)) made →
+      InstantPrinted table machine machine′ out (clock .now) time (inputsOf (take count numbers) (take count values)) made →
       Steps listing trace table machine numbers values (Toward clock time count next) table machine′ numbers values out (stepAfter made (λ (c : Clock). Reading c next))
   call-toward-steps made (none-due none) i = record { room = step-room made _ out (i .room); prints = go }
     where
@@ -113,7 +110,7 @@ module _ (listing trace table machine numbers values machine′ out : List ℕ) 
 
 -- The due instants up to the last line's time, and the end.
 module _ (listing trace table machine numbers values machine′ out : List ℕ) (clock : Clock) (time : ℕ) (nothingAfter : Bool) (fits : time < 18446744073709551616) where
-  pub due-until-steps : (m : ℕ) (made : Made) → Soon (dueOf (clock .due)) (suc time) (At m) → InstantMade table machine machine′ out (clock .now) m [] made →
+  pub due-until-steps : (m : ℕ) (made : Made) → Soon (dueOf (clock .due)) (suc time) (At m) → InstantPrinted table machine machine′ out (clock .now) m [] made →
       Steps listing trace table machine numbers values (Until clock time nothingAfter) table machine′ numbers values out
       (stepAfter made (λ (c : Clock). Until c time nothingAfter))
   due-until-steps m made (due-at at before) i = record { room = step-room made _ out (i .room); prints = go }

@@ -1,3 +1,4 @@
 pub mod Standing
 pub mod Made
+pub mod Phases
 pub mod Advancing

@@ -1,22 +1,17 @@
--- What each step of a session promises.
+-- What is printed of a call on the engine, and what the call leaves.
 use mathlib.Core.Path.{_≡_}
 use mathlib.Core.Logic.{_≢_}
 use mathlib.Core.List.{List, _++_}
-use Prim.Native.Nat.{ℕ, suc, _≤_, _<_}
+use Prim.Native.Nat.{ℕ, _≤_, _<_}
 use mathlib.Core.Bool.{false}
-use lib.ListN.{length, take}
-use Rattle.listing.specs.Listing.{Listing}
-use Rattle.walk.specs.State.{State}
-use Rattle.walk.specs.Instant.{Write, NextDue, moment}
-use mathlib.Core.Option.{some}
-use Rattle.listing.specs.Bytes.{Bytes}
-use Rattle.walk.specs.Calls.{dueBefore, inputsOf, firstWords, laterWords, startOn}
+use lib.ListN.{length, take, drop}
+use Rattle.walk.specs.Instant.{NextDue, moment}
+use Rattle.walk.specs.Calls.{Words32, Outcome, dueBefore, inputsOf, startCall, instantCall}
 use Rattle.walk.specs.Events.{eventsAt}
-use Rattle.walk.specs.Promises.{Result}
-use Rattle.walk.specs.Session.{sessionAllowance, Played, played, callFrom, andThen, printed, writeLines, endLine}
+use Rattle.walk.specs.Promises.{Result, Keeps}
+use Rattle.walk.specs.Session.{sessionAllowance, writeLines, endLine}
 use Rattle.layout.specs.Layout.{layout}
 use Rattle.engine.specs.Answers.{dueOf}
-use Rattle.replay.specs.Standing.{Runs, Stands, Left}
 use Rattle.engine.specs.declared.answers.Due.{Due}
 use Rattle.engine.specs.declared.answers.Due.the-variants.{Never, At}
 use Rattle.replay.specs.declared.phase.Phase.{Phase}
@@ -31,44 +26,45 @@ pub data Soon (due : NextDue) (t : ℕ) : Due → Type 0 where
   due-at : {m : ℕ} → due ≡ moment m → m < t → Soon due t (At m)
   none-due : dueBefore due t ≡ false → Soon due t Never
 
+-- These n bytes are printed at the beginning of the lent bytes, and those behind them stay.
+pub record Begins (before bytes after : List ℕ) (n : ℕ) : Type 0 where
+  pub count : n ≡ length bytes
+  pub fits : n ≤ length before
+  pub is : after ≡ bytes ++ drop n before
+
 -- The result of a call at t is printed: the `X` line with its number and the moment before it, or the lines of its writes.
-pub data ResultPrinted (result : Result) (now t : ℕ) (numbers values out : List ℕ) : Made → Type 0 where
-  ended : {n : ℕ} → result .number ≢ 0 → n ≤ length out → take n out ≡ endLine (result .number) now → ResultPrinted result now t numbers values out (Ended n)
-  went : {n : ℕ} {clock : Clock} → result .number ≡ 0 → n ≤ length out →
-      take n out ≡ writeLines (eventsAt t (inputsOf (take (result .listed) numbers) (take (result .listed) values))) →
-      clock .now ≡ t → dueOf (clock .due) ≡ result .due → ResultPrinted result now t numbers values out (Went clock n)
+pub data ResultPrinted (result : Result) (now t : ℕ) (numbers values before after : List ℕ) : Made → Type 0 where
+  ended : {n : ℕ} → result .number ≢ 0 → Begins before (endLine (result .number) now) after n → ResultPrinted result now t numbers values before after (Ended n)
+  went : {n : ℕ} {clock : Clock} → result .number ≡ 0 →
+      Begins before (writeLines (eventsAt t (inputsOf (take (result .listed) numbers) (take (result .listed) values)))) after n →
+      clock .now ≡ t → dueOf (clock .due) ≡ result .due → ResultPrinted result now t numbers values before after (Went clock n)
 
--- A call of which p comes is made and printed: with its `X` line the session ends, or it goes on from a state for which the machine stands.
-pub data CallPrinted (table machine out : List ℕ) (l : Listing) (p : Played) : Made → Type 0 where
-  ended : {n : ℕ} → ((next : State → Played) → printed (andThen p next) ≡ take n out) → CallPrinted table machine out l p (Ended n)
-  went : {n : ℕ} {clock : Clock} (u : State) → Runs table machine clock l u →
-      ((next : State → Played) → printed (andThen p next) ≡ take n out ++ printed (next u)) → CallPrinted table machine out l p (Went clock n)
+-- A call with outcome o, at t from the moment `now`: its result and all lent memories are what the engine promises, and its result is printed.
+pub record CallMade (o : Outcome) (now t : ℕ) (table machine numbers values out machine′ numbers′ values′ out′ : List ℕ) (made : Made) : Type 0 where
+  pub result : Result
+  pub promise : Keeps layout table machine numbers values machine′ numbers′ values′ o result
+  pub words : Words32 machine′
+  pub prints : ResultPrinted result now t numbers′ values′ out out′ made
 
-abbrev pub bytesOf : Made → ℕ
-bytesOf (Ended n) = n
-bytesOf (Went clock n) = n
+-- The start, "allowance 10,000".
+abbrev pub StartMade : List ℕ → List ℕ → List ℕ → List ℕ → List ℕ → List ℕ → List ℕ → List ℕ → List ℕ → Made → Type 0
+StartMade table machine numbers values = CallMade (startCall layout table machine numbers values sessionAllowance) 0 0 table machine numbers values
 
--- The instant at t with these inputs, from a state at the present moment, and what was printed of it.
-pub record InstantMade (table machine machine′ out : List ℕ) (present t : ℕ) (inputs : List Write) (made : Made) : Type 0 where
-  pub room : bytesOf made ≤ length out
-  pub past : laterWords machine′ ≡ laterWords machine
-  pub prints : (l : Listing) (s : State) (clock : Clock) → Runs table machine clock l s → clock .now ≡ present →
-      CallPrinted table machine′ out l (callFrom l t inputs s) made
+-- The instant at t with these inputs, after the moment `now`.
+abbrev pub InstantMade : ℕ → ℕ → List ℕ → List ℕ → List ℕ → List ℕ → List ℕ → List ℕ → List ℕ → List ℕ → List ℕ → List ℕ → List ℕ → Made → Type 0
+InstantMade now t inNumbers inValues table machine numbers values =
+    CallMade (instantCall layout table machine t inNumbers inValues numbers values sessionAllowance) now t table machine numbers values
 
--- The start, and what was printed of it.
-pub record StartMade (table machine machine′ out : List ℕ) (made : Made) : Type 0 where
-  pub room : bytesOf made ≤ length out
-  pub past : laterWords machine′ ≡ laterWords machine
-  pub prints : (l : Listing) → layout .readTable (firstWords table) ≡ some l → CallPrinted table machine′ out l (played 0 0 (startOn l sessionAllowance)) made
+-- The step after a call: "the first refusal or stop ends it", or the session goes on with what the call told.
+abbrev pub stepAfter : Made → (Clock → Phase) → Step
+stepAfter (Ended n) phase = record { phase = Over; printed = n }
+stepAfter (Went clock n) phase = record { phase = phase clock; printed = n }
 
--- The `X` line was printed.
-pub record EndsWith (out : List ℕ) (code present : ℕ) (step : Step) : Type 0 where
+-- The step that prints the `X` line.
+pub record EndsWith (before : List ℕ) (code present : ℕ) (after : List ℕ) (step : Step) : Type 0 where
   pub over : step .phase ≡ Over
-  pub room : step .printed ≤ length out
-  pub is : take (step .printed) out ≡ endLine code present
+  pub prints : Begins before (endLine code present) after (step .printed)
 
--- A step from a phase: what it printed is the first of what was to be printed, and from what it left the rest is to be printed.
-pub record Steps (listing trace table machine numbers values : List ℕ) (phase : Phase) (table′ machine′ numbers′ values′ out : List ℕ) (step : Step) : Type 0 where
-  pub room : step .printed ≤ length out
-  pub prints : (bytes : Bytes) → Stands listing trace table machine numbers values phase bytes →
-      Left listing trace table′ machine′ numbers′ values′ (step .phase) bytes (take (step .printed) out)
+-- The step that prints nothing.
+abbrev pub silent : Phase → Step
+silent phase = record { phase = phase; printed = 0 }

@@ -2,7 +2,8 @@
 ghost use mathlib.Core.Path.{_≡_};
 ghost use Prim.Native.Nat.{_≤_};
 ghost use lib.ListN.{length};
-ghost use Rattle.replay.specs.Advancing.{lengthsSuffice, Moves, Advances};
+ghost use Rattle.replay.specs.Advancing.{lengthsSuffice, Advances};
+ghost use Rattle.replay.specs.Phases.{memories, Does};
 use crate::from_phase::from_opening;
 use crate::from_phase::from_reading;
 use crate::from_phase::from_starting;
@@ -60,8 +61,9 @@ fn step_on(
 ) -> Step
     requires { ⌜ (12288 ≤ length (now table)) × (12288 ≤ length (now machine)) × (17 ≤ length (now numbers)) × (17 ≤ length (now values))
         × (length (now «out_numbers») ≡ 16) × (length (now «out_values») ≡ 16) × (1100 ≤ length (now out)) ⌝ }
-    ensures { λ r. ⌜ Moves (now (listing .entry)) (now (trace .entry)) (now (table .entry)) (now (machine .entry)) (now (numbers .entry)) (now (values .entry)) phase
-        (now (table .exit)) (now (machine .exit)) (now (numbers .exit)) (now (values .exit)) (now (out .exit)) r ⌝ }
+    ensures { λ r. ⌜ Does (now (listing .entry)) (now (trace .entry))
+        (memories (now (table .entry)) (now (machine .entry)) (now (numbers .entry)) (now (values .entry)) (now («out_numbers» .entry)) (now («out_values» .entry)) (now (out .entry)))
+        (memories (now (table .exit)) (now (machine .exit)) (now (numbers .exit)) (now (values .exit)) (now («out_numbers» .exit)) (now («out_values» .exit)) (now (out .exit))) r phase ⌝ }
 {
     match phase {
         Phase::Opening => from_opening(listing, trace, table, out),

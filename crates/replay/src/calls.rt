@@ -3,7 +3,6 @@ ghost use mathlib.Core.Path.{_≡_};
 ghost use Prim.Native.Nat.{suc, _≤_};
 ghost use lib.ListN.{length};
 ghost use Rattle.engine.specs.Answers.{dueOf, resultOf};
-ghost use Rattle.walk.specs.Calls.{inputsOf};
 ghost use Rattle.replay.specs.Made.{Soon, ResultPrinted, StartMade, InstantMade};
 use crate::phase::Clock;
 use engine::Answer;
@@ -94,7 +93,7 @@ pub fn print_answer(
     out: &mut [u8],
 ) -> Made
     requires { ⌜ (16 ≤ length (now numbers)) × (16 ≤ length (now values)) × (1100 ≤ length (now out)) × (resultOf answer .listed ≤ 16) ⌝ }
-    ensures { λ r. ⌜ ResultPrinted (resultOf answer) present t (now (numbers .entry)) (now (values .entry)) (now (out .exit)) r ⌝ }
+    ensures { λ r. ⌜ ResultPrinted (resultOf answer) present t (now (numbers .entry)) (now (values .entry)) (now (out .entry)) (now (out .exit)) r ⌝ }
 {
     let result = tell(answer);
     let number = result.number;
@@ -117,7 +116,8 @@ pub fn make_start(
     out: &mut [u8],
 ) -> Made
     requires { ⌜ (12288 ≤ length (now table)) × (12288 ≤ length (now machine)) × (length (now «out_numbers») ≡ 16) × (length (now «out_values») ≡ 16) × (1100 ≤ length (now out)) ⌝ }
-    ensures { λ r. ⌜ StartMade (now (table .entry)) (now (machine .entry)) (now (machine .exit)) (now (out .exit)) r ⌝ }
+    ensures { λ r. ⌜ StartMade (now (table .entry)) (now (machine .entry)) (now («out_numbers» .entry)) (now («out_values» .entry)) (now (out .entry))
+        (now (machine .exit)) (now («out_numbers» .exit)) (now («out_values» .exit)) (now (out .exit)) r ⌝ }
 {
     let answer = start(table, machine, out_numbers, out_values, ALLOWANCE);
     print_answer(answer, 0, 0, out_numbers, out_values, out)
@@ -137,8 +137,9 @@ pub fn make_instant(
 ) -> Made
     requires { ⌜ (12288 ≤ length (now table)) × (12288 ≤ length (now machine)) × (length (now «in_numbers») ≡ length (now «in_values»))
         × (length (now «out_numbers») ≡ 16) × (length (now «out_values») ≡ 16) × (1100 ≤ length (now out)) ⌝ }
-    ensures { λ r. ⌜ InstantMade (now (table .entry)) (now (machine .entry)) (now (machine .exit)) (now (out .exit)) present t
-        (inputsOf (now («in_numbers» .entry)) (now («in_values» .entry))) r ⌝ }
+    ensures { λ r. ⌜ InstantMade present t (now («in_numbers» .entry)) (now («in_values» .entry))
+        (now (table .entry)) (now (machine .entry)) (now («out_numbers» .entry)) (now («out_values» .entry)) (now (out .entry))
+        (now (machine .exit)) (now («out_numbers» .exit)) (now («out_values» .exit)) (now (out .exit)) r ⌝ }
 {
     let answer = instant(
         table,

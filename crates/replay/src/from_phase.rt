@@ -1,10 +1,9 @@
 // The steps of a session, one from each phase.
 ghost use mathlib.Core.Path.{_≡_};
-ghost use mathlib.Core.List.{List};
-ghost use Prim.Native.Nat.{ℕ, _≤_};
+ghost use Prim.Native.Nat.{_≤_};
 ghost use lib.ListN.{length};
-ghost use Rattle.walk.specs.Calls.{laterWords};
-ghost use Rattle.replay.specs.Made.{EndsWith, Steps};
+ghost use Rattle.replay.specs.Made.{EndsWith};
+ghost use Rattle.replay.specs.Phases.{FromOpening, FromStarting, FromReading};
 use crate::calls::Made;
 use crate::calls::make_start;
 use crate::phase::Clock;
@@ -22,7 +21,7 @@ const BYTES: usize = 49152;
 // The `X` line, and all is printed.
 pub fn end_with(out: &mut [u8], code: u32, present: u64) -> Step
     requires { ⌜ 1100 ≤ length (now out) ⌝ }
-    ensures { λ r. ⌜ EndsWith (now (out .exit)) code present r ⌝ }
+    ensures { λ r. ⌜ EndsWith (now (out .entry)) code present (now (out .exit)) r ⌝ }
 {
     let printed = put_end_line(out, 0, code, present);
     Step {
@@ -34,8 +33,7 @@ pub fn end_with(out: &mut [u8], code: u32, present: u64) -> Step
 // "Before loading, a listing over 49,152 bytes has code 3, else a trace over 49,152 code 2."
 pub fn from_opening(listing: &[u8], trace: &[u8], table: &mut [u32], out: &mut [u8]) -> Step
     requires { ⌜ (12288 ≤ length (now table)) × (1100 ≤ length (now out)) ⌝ }
-    ensures { λ r. ⌜ ((machine numbers values : List ℕ) → Steps (now (listing .entry)) (now (trace .entry)) (now (table .entry)) machine numbers values Phase.Opening
-        (now (table .exit)) machine numbers values (now (out .exit)) r) × (laterWords (now (table .exit)) ≡ laterWords (now (table .entry))) ⌝ }
+    ensures { λ r. ⌜ FromOpening (now (listing .entry)) (now (trace .entry)) (now (table .entry)) (now (out .entry)) (now (table .exit)) (now (out .exit)) r ⌝ }
 {
     if listing.len() > BYTES {
         return end_with(out, 3, 0);
@@ -62,8 +60,8 @@ pub fn from_starting(
     out: &mut [u8],
 ) -> Step
     requires { ⌜ (12288 ≤ length (now table)) × (12288 ≤ length (now machine)) × (length (now «out_numbers») ≡ 16) × (length (now «out_values») ≡ 16) × (1100 ≤ length (now out)) ⌝ }
-    ensures { λ r. ⌜ ((listing trace numbers values : List ℕ) → Steps listing trace (now (table .entry)) (now (machine .entry)) numbers values Phase.Starting
-        (now (table .entry)) (now (machine .exit)) numbers values (now (out .exit)) r) × (laterWords (now (machine .exit)) ≡ laterWords (now (machine .entry))) ⌝ }
+    ensures { λ r. ⌜ FromStarting (now (table .entry)) (now (machine .entry)) (now («out_numbers» .entry)) (now («out_values» .entry)) (now (out .entry))
+        (now (machine .exit)) (now («out_numbers» .exit)) (now («out_values» .exit)) (now (out .exit)) r ⌝ }
 {
     let made = make_start(table, machine, out_numbers, out_values, out);
     match made {
@@ -88,8 +86,8 @@ pub fn from_reading(
     at: usize,
 ) -> Step
     requires { ⌜ (17 ≤ length (now numbers)) × (17 ≤ length (now values)) × (1100 ≤ length (now out)) ⌝ }
-    ensures { λ r. ⌜ ((listing table machine : List ℕ) → Steps listing (now (trace .entry)) table machine (now (numbers .entry)) (now (values .entry)) (Phase.Reading clock at)
-        table machine (now (numbers .exit)) (now (values .exit)) (now (out .exit)) r) ⌝ }
+    ensures { λ r. ⌜ FromReading (now (trace .entry)) (now (numbers .entry)) (now (values .entry)) (now (out .entry)) clock at
+        (now (numbers .exit)) (now (values .exit)) (now (out .exit)) r ⌝ }
 {
     if at > trace.len() {
         return Step {

@@ -1,14 +1,14 @@
 // The steps toward a call with inputs and toward the end: "The program makes every due instant between, joining one with inputs of its time,
 // and those due up to Q's time".
 ghost use mathlib.Core.Path.{_≡_};
-ghost use mathlib.Core.List.{List};
-ghost use Prim.Native.Nat.{ℕ, _≤_};
+ghost use Prim.Native.Nat.{_≤_, _<_};
 ghost use lib.ListN.{length};
 ghost use Rattle.listing.specs.Listing.{Listing};
-ghost use Rattle.walk.specs.Calls.{laterWords};
+ghost use Rattle.words.specs.Moments.{momentRange};
 ghost use Rattle.walk.specs.Session.{endCode};
 ghost use Rattle.engine.specs.Answers.{dueOf};
-ghost use Rattle.replay.specs.Made.{Soon, Steps};
+ghost use Rattle.replay.specs.Made.{Soon};
+ghost use Rattle.replay.specs.Phases.{FromToward, FromUntil};
 use crate::calls::Made;
 use crate::calls::due_before;
 use crate::calls::due_until;
@@ -35,9 +35,8 @@ fn join_inputs(
 ) -> Step
     requires { ⌜ (12288 ≤ length (now table)) × (12288 ≤ length (now machine)) × (17 ≤ length (now numbers)) × (17 ≤ length (now values))
         × (length (now «out_numbers») ≡ 16) × (length (now «out_values») ≡ 16) × (1100 ≤ length (now out)) × (Soon (dueOf (clock .due)) time Due.Never) ⌝ }
-    ensures { λ r. ⌜ ((listing trace : List ℕ) → Steps listing trace (now (table .entry)) (now (machine .entry)) (now (numbers .entry)) (now (values .entry))
-        (Phase.Toward clock time count next) (now (table .entry)) (now (machine .exit)) (now (numbers .entry)) (now (values .entry)) (now (out .exit)) r)
-        × (laterWords (now (machine .exit)) ≡ laterWords (now (machine .entry))) ⌝ }
+    ensures { λ r. ⌜ FromToward (now (table .entry)) (now (machine .entry)) (now (numbers .entry)) (now (values .entry)) (now («out_numbers» .entry)) (now («out_values» .entry)) (now (out .entry))
+        clock time count next (now (machine .exit)) (now («out_numbers» .exit)) (now («out_values» .exit)) (now (out .exit)) r ⌝ }
 {
     if count > 17 {
         return Step {
@@ -85,9 +84,8 @@ pub fn from_toward(
 ) -> Step
     requires { ⌜ (12288 ≤ length (now table)) × (12288 ≤ length (now machine)) × (17 ≤ length (now numbers)) × (17 ≤ length (now values))
         × (length (now «out_numbers») ≡ 16) × (length (now «out_values») ≡ 16) × (1100 ≤ length (now out)) ⌝ }
-    ensures { λ r. ⌜ ((listing trace : List ℕ) → Steps listing trace (now (table .entry)) (now (machine .entry)) (now (numbers .entry)) (now (values .entry))
-        (Phase.Toward clock time count next) (now (table .entry)) (now (machine .exit)) (now (numbers .entry)) (now (values .entry)) (now (out .exit)) r)
-        × (laterWords (now (machine .exit)) ≡ laterWords (now (machine .entry))) ⌝ }
+    ensures { λ r. ⌜ (time < momentRange) × FromToward (now (table .entry)) (now (machine .entry)) (now (numbers .entry)) (now (values .entry)) (now («out_numbers» .entry)) (now («out_values» .entry)) (now (out .entry))
+        clock time count next (now (machine .exit)) (now («out_numbers» .exit)) (now («out_values» .exit)) (now (out .exit)) r ⌝ }
 {
     let present = clock.now;
     let due = clock.due;
@@ -155,9 +153,8 @@ pub fn from_until(
 ) -> Step
     requires { ⌜ (12288 ≤ length (now table)) × (12288 ≤ length (now machine)) × (17 ≤ length (now numbers)) × (17 ≤ length (now values))
         × (length (now «out_numbers») ≡ 16) × (length (now «out_values») ≡ 16) × (1100 ≤ length (now out)) ⌝ }
-    ensures { λ r. ⌜ ((listing trace : List ℕ) → Steps listing trace (now (table .entry)) (now (machine .entry)) (now (numbers .entry)) (now (values .entry))
-        (Phase.Until clock time «nothing_after») (now (table .entry)) (now (machine .exit)) (now (numbers .entry)) (now (values .entry)) (now (out .exit)) r)
-        × (laterWords (now (machine .exit)) ≡ laterWords (now (machine .entry))) ⌝ }
+    ensures { λ r. ⌜ (time < momentRange) × FromUntil (now (table .entry)) (now (machine .entry)) (now («out_numbers» .entry)) (now («out_values» .entry)) (now (out .entry))
+        clock time «nothing_after» (now (machine .exit)) (now («out_numbers» .exit)) (now («out_values» .exit)) (now (out .exit)) r ⌝ }
 {
     let present = clock.now;
     let due = clock.due;

@@ -2,6 +2,9 @@
 // Every byte that it prints is printed by `replay::advance`, whose steps from the opening to the end print the session.
 ghost use mathlib.Core.Path.{_≡_};
 ghost use lib.ListN.{length};
+ghost use Rattle.io.specs.Counts.{Counts};
+ghost use Rattle.replay.specs.Phases.{memories};
+ghost use Rattle.session.specs.Turning.{isOver, Turned, Ran};
 use libc::STDERR_FILENO;
 use libc::STDOUT_FILENO;
 use replay::Advanced;
@@ -50,8 +53,16 @@ fn explain() {
     );
 }
 
-// Opens the file that an argument names; below 0, having said why, if it cannot.
-fn open_argument(i: usize) -> i32 {
+// What was read of a file: whether it could be opened, and how many bytes were put into the lent ones.
+struct Taken {
+    is_read: bool,
+    count: usize,
+}
+
+// Reads the file that an argument names; having said why, if it cannot. Which bytes a file has, the kit's `io` does not promise.
+fn read_argument(i: usize, text: &mut [u8]) -> Taken
+    ensures { λ r. ⌜ Counts (r .count) (now (text .exit)) ⌝ }
+{
     let mut path = io::buffer();
     let length = os::arg(i, &mut path);
     if os::errno() != 0 {
@@ -60,21 +71,47 @@ fn open_argument(i: usize) -> i32 {
             b"session: two file names are wanted, the listing's and the trace's\n",
         );
         explain();
-        return -1;
+        return Taken {
+            is_read: false,
+            count: 0,
+        };
     }
     let fd = os::open_read(&path[..length]);
     if fd < 0 {
         os::fail(&path[..length]);
         explain();
+        return Taken {
+            is_read: false,
+            count: 0,
+        };
     }
-    fd
+    let count = io::read_full(fd, text);
+    // A file that was read can be read on, be it past its end: a directory, for one, cannot.
+    let mut next = io::buffer();
+    let is_read = libc::read(fd, &mut next) >= 0;
+    if !is_read {
+        os::fail(&path[..length]);
+        explain();
+    }
+    libc::close(fd);
+    Taken { is_read, count }
 }
 
-fn is_over(phase: Phase) -> bool {
-    if let Phase::Over = phase { true } else { false }
+// Is all printed?
+fn is_over(phase: Phase) -> bool
+    ensures { λ r. ⌜ r ≡ isOver phase ⌝ }
+{
+    match phase {
+        Phase::Opening => false,
+        Phase::Starting => false,
+        Phase::Reading(_, _) => false,
+        Phase::Toward(_, _, _, _) => false,
+        Phase::Until(_, _, _) => false,
+        Phase::Over => true,
+    }
 }
 
-// One step, and what it prints is written out.
+// One step, and what it prints is written out. Whether it was written the kit's `io` does not promise: a turn that could not write is the last.
 fn turn(
     listing: &[u8],
     trace: &[u8],
@@ -86,7 +123,11 @@ fn turn(
     out_values: &mut [u32],
     out: &mut [u8],
     phase: Phase,
-) -> Phase {
+) -> Phase
+    ensures { λ r. ⌜ Turned (now (listing .entry)) (now (trace .entry))
+        (memories (now (table .entry)) (now (machine .entry)) (now (numbers .entry)) (now (values .entry)) (now («out_numbers» .entry)) (now («out_values» .entry)) (now (out .entry))) phase
+        (memories (now (table .exit)) (now (machine .exit)) (now (numbers .exit)) (now (values .exit)) (now («out_numbers» .exit)) (now («out_values» .exit)) (now (out .exit))) r ⌝ }
+{
     let answer = replay::advance(
         listing,
         trace,
@@ -112,7 +153,7 @@ fn turn(
     }
 }
 
-// The steps to the end. A proved loop has to end, so it counts its turns down, from a number that no session uses up.
+// The steps to the end. A proved loop has to end, so it counts its turns down, from a number that no session reaches in practice.
 fn run(
     listing: &[u8],
     trace: &[u8],
@@ -123,7 +164,11 @@ fn run(
     out_numbers: &mut [u32],
     out_values: &mut [u32],
     out: &mut [u8],
-) {
+)
+    ensures { λ _. ⌜ Ran (now (listing .entry)) (now (trace .entry))
+        (memories (now (table .entry)) (now (machine .entry)) (now (numbers .entry)) (now (values .entry)) (now («out_numbers» .entry)) (now («out_values» .entry)) (now (out .entry)))
+        (memories (now (table .exit)) (now (machine .exit)) (now (numbers .exit)) (now (values .exit)) (now («out_numbers» .exit)) (now («out_values» .exit)) (now (out .exit))) ⌝ }
+{
     let mut phase = Phase::Opening;
     let mut turns = u64::MAX;
     while turns > 0 && !is_over(phase) {
@@ -143,6 +188,7 @@ fn run(
     }
 }
 
+// The session on memories of its own. It has no result and is lent nothing to write in.
 fn play(listing: &[u8], trace: &[u8]) {
     let mut table = memory();
     let mut machine = memory();
@@ -165,19 +211,17 @@ fn play(listing: &[u8], trace: &[u8]) {
 }
 
 fn main() {
-    let first = open_argument(1);
-    if first < 0 {
-        return;
-    }
-    let second = open_argument(2);
-    if second < 0 {
-        return;
-    }
     let mut listing = text();
-    let m = io::read_full(first, &mut listing);
+    let first = read_argument(1, &mut listing);
+    if !first.is_read {
+        return;
+    }
     let mut trace = text();
-    let n = io::read_full(second, &mut trace);
-    libc::close(first);
-    libc::close(second);
+    let second = read_argument(2, &mut trace);
+    if !second.is_read {
+        return;
+    }
+    let m = first.count;
+    let n = second.count;
     play(&listing[..m], &trace[..n]);
 }

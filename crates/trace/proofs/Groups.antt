@@ -3,12 +3,12 @@ use mathlib.Core.Path.{_≡_, refl, sym, ap, _∙_}
 use mathlib.Core.Logic.{_⊎_, inl, inr}
 use mathlib.Core.Bool.{Bool, true, false, cond}
 use mathlib.Core.List.{List, [], _∷_, _++_}
-use Prim.Native.Nat.{ℕ, _+_, _≤_, _<_, min}
+use Prim.Native.Nat.{ℕ, _+_, _-_, _≤_, _<_, min}
 use native.Mathlib.Omega.{arith}
 use native.Mathlib.Numerals.{add-one}
 use lib.Dec.{eqb, ltb}
 use lib.ListN.{length, take, drop, set, length-set, length-append}
-use lib.Seq.{take-all, take-append-le, take-suc-set, length-take-le}
+use lib.Seq.{take-all, take-append-le, take-suc-set, length-take-le, drop-drop, drop-set-lt}
 use borrow.Author.Tests.{eq-eqb, ne-eqb, lt-ltb, le-ltb, ltb-true, ltb-false, eqb-true, eqb-false}
 use denote.Enum.Declared.{tagOf}
 use Rattle.walk.specs.Instant.{Write}
@@ -17,9 +17,10 @@ use Rattle.walk.specs.Trace as W
 use Rattle.walk.specs.Trace.{script, withInput, joinInput}
 use Rattle.reader.specs.declared.place.Place.{Place}
 use Rattle.trace.specs.Lines.{lineAnswer}
-use Rattle.trace.specs.Groups.{CallIs, NextIs, endedBy, putAt, Put, JoinsOn, Apart}
+use Rattle.trace.specs.Groups.{CallIs, NextIs, NextRead, Behind, keptOf, endedBy, putAt, Put, JoinsOn, Apart}
 use Rattle.trace.specs.declared.line.TraceLine.{TraceLine}
 use Rattle.trace.specs.declared.line.TraceLine.the-variants as LV
+use Rattle.trace.specs.declared.group.Next.{Next}
 use Rattle.trace.specs.declared.group.Next.the-variants as NV
 use Rattle.trace.proofs.line.TraceLine.{the-type}
 use Rattle.trace.proofs.Scripts.{here, from-bad, from-input, from-last, last-open}
@@ -72,6 +73,10 @@ module _ (s : List ℕ) (at : ℕ) where
       go true f = from-last s at t b next e (eqb-true b 10 f)
       go false f = last-open s at t b next e (eqb-false b 10 f)
   no-input-next ns vs LV.Bad e i = from-bad s at e
+
+-- nothing is put into the lists
+pub nothing-read : (s : List ℕ) (at : ℕ) (ns vs : List ℕ) (r : Next) → NextIs s at ns vs r → NextRead s at ns vs ns vs r
+nothing-read s at ns vs r i = record { is = i; numbers-stay = record { size = refl; behind = refl }; values-stay = record { size = refl; behind = refl } }
 
 pub ended-other : (n : ℕ) (line : TraceLine) → (tagOf the-type line ≡ 0) ⊎ (tagOf the-type line ≡ 2) → NV.Broken ≡ endedBy n line
 ended-other n (LV.Input t m v b next) i = refl
@@ -162,6 +167,34 @@ module _ {count n v : ℕ} {ns vs ns' vs' : List ℕ} {count' : ℕ} (p : Put co
   pub put-values : length vs' ≡ length vs
   put-values = ap length (p .values-are) ∙ put-length count v vs
 
+-- the words behind those kept stay
+pub stays : (xs : List ℕ) (n : ℕ) → Behind xs xs n
+stays xs n = record { size = refl; behind = refl }
+
+behind-then : {before between after : List ℕ} {m n : ℕ} → Behind before between m → Behind between after n → m ≤ n → Behind before after n
+behind-then {before} {between} {after} {m} {n} b c l =
+    let same : m + (n - m) ≡ n = omega arith in
+    let later : drop n between ≡ drop n before = rw same at (sym (drop-drop (n - m) m between) ∙ ap (drop (n - m)) (b .behind) ∙ drop-drop (n - m) m before) in
+    record { size = c .size ∙ b .size; behind = c .behind ∙ later }
+
+put-behind : (count x : ℕ) (xs : List ℕ) → Behind xs (putAt count x xs) (cond (ltb count 17) (count + 1) count)
+put-behind count x xs = go (ltb count 17)
+  where
+    go : (t : Bool) → Behind xs (cond t (set xs count x) xs) (cond t (count + 1) count)
+    go true = record { size = length-set xs count x; behind = drop-set-lt (count + 1) xs count x (omega arith) }
+    go false = stays xs count
+
+put-more : (count : ℕ) → count ≤ cond (ltb count 17) (count + 1) count
+put-more count = go (ltb count 17)
+  where
+    go : (t : Bool) → count ≤ cond t (count + 1) count
+    go true = omega arith
+    go false = omega arith
+
+module _ {count n v : ℕ} {ns vs ns' vs' : List ℕ} {count' : ℕ} (p : Put count n v ns vs ns' vs' count') where
+  put-stays : Behind ns ns' count' × Behind vs vs' count' × (count ≤ count')
+  put-stays = rw (p .numbers-are, p .values-are, p .count-is) (put-behind count n ns, put-behind count v vs, put-more count)
+
 -- ── the loop over the lines of one time ──────────────────────────────────────────
 -- inputs of one time ahead of a script
 unfoldable pub ahead : ℕ → List Write → W.Script → W.Script
@@ -186,8 +219,8 @@ pub record Grouped (s : List ℕ) (at time : ℕ) (ns₀ vs₀ ns vs : List ℕ)
   pub kept : Kept (first ∷ others) ns vs count
   pub forward : at < next
   pub inside : next ≤ length s
-  pub same-numbers : length ns ≡ length ns₀
-  pub same-values : length vs ≡ length vs₀
+  pub same-numbers : Behind ns₀ ns count
+  pub same-values : Behind vs₀ vs count
 
 module _ (s : List ℕ) (at time n v next : ℕ) (ns vs ns' vs' : List ℕ) (count : ℕ) where
   pub group-begun : JoinsOn s at time n v next → 17 ≤ length ns → 17 ≤ length vs → Put 0 n v ns vs ns' vs' count → Grouped s at time ns' vs' ns' vs' count next
@@ -200,8 +233,8 @@ module _ (s : List ℕ) (at time n v next : ℕ) (ns vs ns' vs' : List ℕ) (cou
         kept = put-kept [] n v ns vs 0 (kept-none ns vs a b) ns' vs' count p;
         forward = j .forward;
         inside = j .inside;
-        same-numbers = refl;
-        same-values = refl;
+        same-numbers = stays ns' count;
+        same-values = stays vs' count;
       }
 
 module _ {s : List ℕ} {at time : ℕ} {ns₀ vs₀ ns vs : List ℕ} {count next : ℕ} (g : Grouped s at time ns₀ vs₀ ns vs count next) where
@@ -218,8 +251,8 @@ module _ {s : List ℕ} {at time : ℕ} {ns₀ vs₀ ns vs : List ℕ} {count ne
         kept = put-kept (g .first ∷ g .others) n v ns vs count (g .kept) ns' vs' count' p;
         forward = omega (arith, g .forward, j .forward);
         inside = j .inside;
-        same-numbers = put-numbers p ∙ g .same-numbers;
-        same-values = put-values p ∙ g .same-values;
+        same-numbers = behind-then (g .same-numbers) (put-stays p .0) (put-stays p .2);
+        same-values = behind-then (g .same-values) (put-stays p .1) (put-stays p .2);
       }
 
   pub group-done : Apart time (script (drop next s)) → CallIs s at ns vs time count next
@@ -232,3 +265,16 @@ module _ {s : List ℕ} {at time : ℕ} {ns₀ vs₀ ns vs : List ℕ} {count ne
         forward = g .forward;
         inside = g .inside;
       }
+
+  -- the lists before the first input was put, and after the last
+  module _ {n v : ℕ} {ns₋ vs₋ : List ℕ} {count₀ : ℕ} (p : Put 0 n v ns₋ vs₋ ns₀ vs₀ count₀) where
+    one : count₀ ≤ count
+    one = omega (arith, p .count-is, g .kept .counted)
+
+    pub group-read : Apart time (script (drop next s)) → NextRead s at ns₋ vs₋ ns vs (NV.Call time count next)
+    group-read a =
+        record {
+          is = group-done a;
+          numbers-stay = behind-then (put-stays p .0) (g .same-numbers) one;
+          values-stay = behind-then (put-stays p .1) (g .same-values) one;
+        }

@@ -36,6 +36,23 @@ NextIs trace at numbers values (NV.Call time count next) = CallIs trace at numbe
 NextIs trace at numbers values (NV.Last time nothingAfter) = script (drop at trace) ≡ lastAt time nothingAfter
 NextIs trace at numbers values NV.Broken = script (drop at trace) ≡ broken
 
+-- how many inputs of it are put into the lists
+abbrev pub keptOf : Next → ℕ
+keptOf (NV.Call time count next) = count
+keptOf (NV.Last time nothingAfter) = 0
+keptOf NV.Broken = 0
+
+-- a list after it: as long as before, and the words behind the inputs stay
+pub record Behind (before after : List ℕ) (count : ℕ) : Type 0 where
+  pub size : length after ≡ length before
+  pub behind : drop count after ≡ drop count before
+
+-- what is next, and the two lists after it
+pub record NextRead (trace : Bytes) (at : ℕ) (numbers values numbersAfter valuesAfter : List ℕ) (next : Next) : Type 0 where
+  pub is : NextIs trace at numbersAfter valuesAfter next
+  pub numbers-stay : Behind numbers numbersAfter (keptOf next)
+  pub values-stay : Behind values valuesAfter (keptOf next)
+
 -- ── the steps to it ──────────────────────────────────────────────────────────────
 -- a line that is no input, in a trace of so many bytes
 abbrev pub endedBy : ℕ → TraceLine → Next

@@ -2,7 +2,7 @@
 ghost use mathlib.Core.Path.{_≡_};
 ghost use Prim.Native.Nat.{_≤_};
 ghost use lib.ListN.{length};
-ghost use Rattle.trace.specs.Groups.{endedBy, Put, JoinsIs, NextIs};
+ghost use Rattle.trace.specs.Groups.{endedBy, Put, JoinsIs, NextRead};
 use crate::line::TraceLine;
 use crate::line::read_trace_line;
 use reader::Place;
@@ -78,10 +78,10 @@ fn joining(trace: &[u8], at: usize, time: u64) -> Joins
     Joins::No
 }
 
-// What is next from a line's beginning; the inputs of a call are put into the lists, at most 17 of them.
+// What is next from a line's beginning; the inputs of a call are put into the lists, at most 17 of them, and the words behind them stay.
 pub fn next_call(trace: &[u8], at: usize, numbers: &mut [u32], values: &mut [u32]) -> Next
     requires { ⌜ (at ≤ length (now trace)) × (17 ≤ length (now numbers)) × (17 ≤ length (now values)) ⌝ }
-    ensures { λ r. ⌜ NextIs (now (trace .entry)) at (now (numbers .exit)) (now (values .exit)) r × (length (now (numbers .exit)) ≡ length (now (numbers .entry))) × (length (now (values .exit)) ≡ length (now (values .entry))) ⌝ }
+    ensures { λ r. ⌜ NextRead (now (trace .entry)) at (now (numbers .entry)) (now (values .entry)) (now (numbers .exit)) (now (values .exit)) r ⌝ }
 {
     let line = read_trace_line(
         trace,

@@ -1,20 +1,22 @@
--- `session::run` is safe and ends. The measure is the number of turns that are left; from turn to turn the lent memories keep their lengths.
-use mathlib.Core.Path.{_≡_, refl, sym, _∙_}
+-- `session::run` meets its contract. The measure is the number of turns that are left; from turn to turn the lent memories keep their lengths.
+use mathlib.Core.Path.{_≡_, refl}
 use borrow.Author.Needs.{needs}
 use native.Mathlib.Omega.{arith}
 use lib.ListN.{length}
+use Rattle.replay.specs.Phases.{memories}
+use Rattle.session.specs.Turning.{Turns, begins, then}
 use Rattle.session.proofs.run.Statement.{statement}
 use Rattle.session.proofs.run.Tie as tie
 
 abbrev Inv-loop : tie.InvT-loop
 Inv-loop listing trace table machine numbers values outNumbers outValues out phase₀ turns₀ table′ machine′ numbers′ values′ outNumbers′ outValues′ out′ phase turns =
-    (length table′ ≡ length table) × (length machine′ ≡ length machine) × (length numbers′ ≡ length numbers) × (length values′ ≡ length values) × (length outNumbers′ ≡ length outNumbers) × (length outValues′ ≡ length outValues) × (length out′ ≡ length out)
+    Turns listing trace (memories table machine numbers values outNumbers outValues out) (memories table′ machine′ numbers′ values′ outNumbers′ outValues′ out′) phase × (length table′ ≡ length table) × (length machine′ ≡ length machine) × (length numbers′ ≡ length numbers) × (length values′ ≡ length values) × (length outNumbers′ ≡ length outNumbers) × (length outValues′ ≡ length outValues) × (length out′ ≡ length out)
 
 abbrev μ-loop : tie.MeasureT-loop
 μ-loop listing trace table machine numbers values outNumbers outValues out phase₀ turns₀ table′ machine′ numbers′ values′ outNumbers′ outValues′ out′ phase turns = turns
 
 loop-holds : tie.Need-loop-holds Inv-loop μ-loop
-loop-holds c = (refl, refl, refl, refl, refl, refl, refl)
+loop-holds c = (begins, refl, refl, refl, refl, refl, refl, refl)
 
 is-over-requires : tie.Need-is-over-requires Inv-loop μ-loop
 is-over-requires c κs = tt
@@ -29,7 +31,7 @@ loop-less : tie.Need-loop-less Inv-loop μ-loop
 loop-less c = omega arith
 
 loop-again : tie.Need-loop-again Inv-loop μ-loop
-loop-again c = (search needs, search needs, search needs, search needs, search needs, search needs, search needs)
+loop-again c = (then (c .before .before .before .before .before .before .before .before .before .before .before .before .before .before .before .before .before .before .before .before .before .before .before .before .before .loop .inv .0) (c .before .before .before .before .before .before .before .before .before .before .before .before .before .before .turn .ensures), search needs, search needs, search needs, search needs, search needs, search needs, search needs)
 
 same-length : tie.Need-same-length Inv-loop μ-loop
 same-length c = search needs
@@ -53,7 +55,7 @@ same-length-7 : tie.Need-same-length-7 Inv-loop μ-loop
 same-length-7 c = search needs
 
 returns : tie.Need-returns Inv-loop μ-loop
-returns c = tt
+returns c = record { last = c .before .before .before .loop .phase; turns = c .before .before .before .loop .inv .0 }
 
 same-length-8 : tie.Need-same-length-8 Inv-loop μ-loop
 same-length-8 c = search needs
@@ -77,7 +79,7 @@ same-length-14 : tie.Need-same-length-14 Inv-loop μ-loop
 same-length-14 c = search needs
 
 returns-2 : tie.Need-returns-2 Inv-loop μ-loop
-returns-2 c = tt
+returns-2 c = record { last = c .before .loop .phase; turns = c .before .loop .inv .0 }
 
 pub run-spec : {M : Type 1} → statement M
 run-spec =

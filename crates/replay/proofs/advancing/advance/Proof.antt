@@ -1,11 +1,10 @@
 -- `replay::advancing::advance` meets its contract.
 use mathlib.Core.Path.{refl, sym, _∙_}
-use native.Mathlib.Omega.{arith}
 use denote.Ref.{now}
 use lib.Seq.{length-take-le}
 use borrow.Author.Tests.{not-true, not-false}
 use Rattle.replay.specs.Advancing.{too-short, went}
-use Rattle.replay.proofs.Moving.{enough}
+use Rattle.replay.proofs.Moving.{enough, went-on}
 use borrow.Author.Needs.{needs}
 use Rattle.replay.proofs.advancing.advance.Statement.{statement}
 use Rattle.replay.proofs.advancing.advance.Tie as tie
@@ -43,29 +42,34 @@ step-on-requires c κs =
     (e .table-long, e .machine-long, e .numbers-long, e .values-long, length-take-le 16 (now (c .before .before .before .before .before .before .before .before .before .before .before .before .before .before .before .before .before .before .args .out-numbers)) (e .out-numbers-long), length-take-le 16 (now (c .before .before .before .before .before .before .before .before .before .before .before .before .before .before .before .before .before .before .args .out-values)) (e .out-values-long), e .out-long)
 
 same-length : tie.Need-same-length
-same-length c = search needs
+same-length c = c .before .before .before .before .before .before .before .before .before .before .before .before .before .table .given
 
 same-length-2 : tie.Need-same-length-2
-same-length-2 c = search needs
+same-length-2 c = c .before .before .before .before .before .before .before .before .before .before .before .machine .given
 
 same-length-3 : tie.Need-same-length-3
-same-length-3 c = search needs
+same-length-3 c = c .before .before .before .before .before .before .before .before .before .numbers .given
 
 same-length-4 : tie.Need-same-length-4
-same-length-4 c = search needs
+same-length-4 c = c .before .before .before .before .before .before .before .values .given
 
 same-length-5 : tie.Need-same-length-5
-same-length-5 c = search needs
+same-length-5 c = c .before .before .before .before .before .out-numbers .given .1
 
 same-length-6 : tie.Need-same-length-6
-same-length-6 c = search needs
+same-length-6 c = c .before .before .before .out-values .given .1
 
 same-length-7 : tie.Need-same-length-7
-same-length-7 c = search needs
+same-length-7 c = c .before .out .given
 
 returns-2 : tie.Need-returns-2
 returns-2 c =
-    went (sym (c .before .before .before .before .before .before .before .before .before .before .before .before .before .before .before .before .before .before .before .before .before .before .before .long-enough .ensures) ∙ not-false _ (c .before .before .before .before .before .before .before .before .before .before .before .before .before .before .before .before .before .before .before .before .before .before .if1 .left)) (c .before .before .before .before .before .before .before .before .before .before .before .before .before .before .step-on .ensures)
+    let a = c .before .before .before .before .before .before .before .before .before .before .before .before .before .before .before .before .before .before .before .before .before .before .before .before .before .before .before .before .before .before .before .before .before .args in
+    let s = c .before .before .before .before .before .before .before .before .before .before .before .before .before .before .step-on in
+    let long = sym (c .before .before .before .before .before .before .before .before .before .before .before .before .before .before .before .before .before .before .before .before .before .before .before .long-enough .ensures) ∙ not-false _ (c .before .before .before .before .before .before .before .before .before .before .before .before .before .before .before .before .before .before .before .before .before .before .if1 .left) in
+    went long (went-on (now (a .listing)) (now (a .trace)) (now (a .table)) (now (a .machine)) (now (a .numbers)) (now (a .values)) (now (a .out-numbers)) (now (a .out-values)) (now (a .out)) (a .phase)
+    (s .last .1 .1 .0) (s .last .1 .1 .1 .0) (s .last .1 .1 .1 .1 .0) (s .last .1 .1 .1 .1 .1 .0) (s .last .1 .1 .1 .1 .1 .1 .0) (s .last .1 .1 .1 .1 .1 .1 .1 .0) (s .last .1 .1 .1 .1 .1 .1 .1 .1 .0)
+    (s .result) long (c .before .before .before .before .before .out-numbers .given .0) (c .before .before .before .out-values .given .0) (s .ensures))
 
 pub advance-spec : {M : Type 1} → statement M
 advance-spec =

@@ -2,7 +2,10 @@
 use mathlib.Core.Path.{refl}
 use denote.Ref.{now}
 use Rattle.replay.specs.declared.phase.Phase.the-variants.{Opening, Starting, Over}
-use Rattle.replay.proofs.Moving.{moves-from, over-moves}
+use Rattle.replay.specs.Made.{silent}
+use Rattle.replay.specs.Phases.{memories}
+use Rattle.replay.specs.Phases as phases
+use Rattle.replay.proofs.Moving.{does-from}
 use borrow.Author.Needs.{needs}
 use Rattle.replay.proofs.advancing.step_on.Statement.{statement}
 use Rattle.replay.proofs.advancing.step_on.Tie as tie
@@ -41,117 +44,117 @@ enum-told-3 : tie.Need-enum-told-3
 enum-told-3 c = search needs
 
 same-length : tie.Need-same-length
-same-length c = search needs
+same-length c = c .before .before .before .table .given
 
 same-length-2 : tie.Need-same-length-2
-same-length-2 c = search needs
+same-length-2 c = c .before .out .given
 
 returns : tie.Need-returns
 returns c =
     let a = c .before .before .before .before .before .before .before .before .before .before .before .before .before .before .before .before .before .before .args in
-    let p = c .before .before .before .before .from-opening .ensures in
-    moves-from (now (a .listing)) (now (a .trace)) (now (a .table)) (now (a .machine)) (now (a .numbers)) (now (a .values)) (a .phase) Opening (c .before .before .before .before .from-opening .last .1 .1 .0) (now (a .machine)) (now (a .numbers)) (now (a .values)) (c .before .before .before .before .from-opening .last .1 .1 .1 .0) (c .before .before .before .before .from-opening .result)
-    (c .before .before .before .before .before .before .before .enum-told .given .1) (p .0 (now (a .machine)) (now (a .numbers)) (now (a .values))) (p .1) refl
+    let s = c .before .before .before .before .from-opening in
+    does-from (now (a .listing)) (now (a .trace)) (memories (now (a .table)) (now (a .machine)) (now (a .numbers)) (now (a .values)) (now (a .out-numbers)) (now (a .out-values)) (now (a .out)))
+    (memories (s .last .1 .1 .0) (now (a .machine)) (now (a .numbers)) (now (a .values)) (now (a .out-numbers)) (now (a .out-values)) (s .last .1 .1 .1 .0)) (s .result) (a .phase) Opening (c .before .before .before .before .before .before .before .enum-told .given .1) (phases.from-opening (s .ensures) refl refl refl refl refl)
 
 same-length-3 : tie.Need-same-length-3
-same-length-3 c = search needs
+same-length-3 c = refl
 
 same-length-4 : tie.Need-same-length-4
-same-length-4 c = search needs
+same-length-4 c = c .before .before .before .before .before .before .before .machine .given
 
 same-length-5 : tie.Need-same-length-5
-same-length-5 c = search needs
+same-length-5 c = c .before .before .before .before .before .out-numbers .given
 
 same-length-6 : tie.Need-same-length-6
-same-length-6 c = search needs
+same-length-6 c = c .before .before .before .out-values .given
 
 same-length-7 : tie.Need-same-length-7
-same-length-7 c = search needs
+same-length-7 c = c .before .out2 .given
 
 returns-2 : tie.Need-returns-2
 returns-2 c =
     let a = c .before .before .before .before .before .before .before .before .before .before .before .before .before .before .before .before .before .before .before .before .before .before .before .before .before .args in
-    let p = c .before .before .before .before .before .before .before .before .from-starting .ensures in
-    moves-from (now (a .listing)) (now (a .trace)) (now (a .table)) (now (a .machine)) (now (a .numbers)) (now (a .values)) (a .phase) Starting (now (a .table)) (c .before .before .before .before .before .before .before .before .from-starting .last .1 .0) (now (a .numbers)) (now (a .values)) (c .before .before .before .before .before .before .before .before .from-starting .last .1 .1 .1 .1 .0) (c .before .before .before .before .before .before .before .before .from-starting .result)
-    (c .before .before .before .before .before .before .before .before .before .before .before .before .before .before .enum-told2 .given .1) (p .0 (now (a .listing)) (now (a .trace)) (now (a .numbers)) (now (a .values))) refl (p .1)
+    let s = c .before .before .before .before .before .before .before .before .from-starting in
+    does-from (now (a .listing)) (now (a .trace)) (memories (now (a .table)) (now (a .machine)) (now (a .numbers)) (now (a .values)) (now (a .out-numbers)) (now (a .out-values)) (now (a .out)))
+    (memories (now (a .table)) (s .last .1 .0) (now (a .numbers)) (now (a .values)) (s .last .1 .1 .0) (s .last .1 .1 .1 .0) (s .last .1 .1 .1 .1 .0)) (s .result) (a .phase) Starting (c .before .before .before .before .before .before .before .before .before .before .before .before .before .before .enum-told2 .given .1) (phases.from-starting (s .ensures) refl refl refl)
 
 same-length-8 : tie.Need-same-length-8
-same-length-8 c = search needs
+same-length-8 c = c .before .before .before .before .before .numbers .given
 
 same-length-9 : tie.Need-same-length-9
-same-length-9 c = search needs
+same-length-9 c = c .before .before .before .values .given
 
 same-length-10 : tie.Need-same-length-10
-same-length-10 c = search needs
+same-length-10 c = c .before .out3 .given
 
 returns-3 : tie.Need-returns-3
 returns-3 c =
     let a = c .before .before .before .before .before .before .before .before .before .before .before .before .before .before .before .before .before .before .before .before .before .before .args in
-    let p = c .before .before .before .before .before .before .from-reading .ensures in
-    moves-from (now (a .listing)) (now (a .trace)) (now (a .table)) (now (a .machine)) (now (a .numbers)) (now (a .values)) (a .phase) _ (now (a .table)) (now (a .machine)) (c .before .before .before .before .before .before .from-reading .last .1 .0) (c .before .before .before .before .before .before .from-reading .last .1 .1 .0) (c .before .before .before .before .before .before .from-reading .last .1 .1 .1 .0) (c .before .before .before .before .before .before .from-reading .result)
-    (c .before .before .before .before .before .before .before .before .before .before .before .phase .given .1) (p (now (a .listing)) (now (a .table)) (now (a .machine))) refl refl
+    let s = c .before .before .before .before .before .before .from-reading in
+    does-from (now (a .listing)) (now (a .trace)) (memories (now (a .table)) (now (a .machine)) (now (a .numbers)) (now (a .values)) (now (a .out-numbers)) (now (a .out-values)) (now (a .out)))
+    (memories (now (a .table)) (now (a .machine)) (s .last .1 .0) (s .last .1 .1 .0) (now (a .out-numbers)) (now (a .out-values)) (s .last .1 .1 .1 .0)) (s .result) (a .phase) _ (c .before .before .before .before .before .before .before .before .before .before .before .phase .given .1) (phases.from-reading (s .ensures) refl refl refl refl)
 
 same-length-11 : tie.Need-same-length-11
-same-length-11 c = search needs
+same-length-11 c = refl
 
 same-length-12 : tie.Need-same-length-12
-same-length-12 c = search needs
+same-length-12 c = c .before .before .before .before .before .before .before .machine2 .given
 
 same-length-13 : tie.Need-same-length-13
-same-length-13 c = search needs
+same-length-13 c = refl
 
 same-length-14 : tie.Need-same-length-14
-same-length-14 c = search needs
+same-length-14 c = refl
 
 same-length-15 : tie.Need-same-length-15
-same-length-15 c = search needs
+same-length-15 c = c .before .before .before .before .before .out-numbers2 .given
 
 same-length-16 : tie.Need-same-length-16
-same-length-16 c = search needs
+same-length-16 c = c .before .before .before .out-values2 .given
 
 same-length-17 : tie.Need-same-length-17
-same-length-17 c = search needs
+same-length-17 c = c .before .out4 .given
 
 returns-4 : tie.Need-returns-4
 returns-4 c =
     let a = c .before .before .before .before .before .before .before .before .before .before .before .before .before .before .before .before .before .before .before .before .before .before .before .before .before .before .before .before .args in
-    let p = c .before .before .before .before .before .before .before .before .from-toward .ensures in
-    moves-from (now (a .listing)) (now (a .trace)) (now (a .table)) (now (a .machine)) (now (a .numbers)) (now (a .values)) (a .phase) _ (now (a .table)) (c .before .before .before .before .before .before .before .before .from-toward .last .1 .0) (now (a .numbers)) (now (a .values)) (c .before .before .before .before .before .before .before .before .from-toward .last .1 .1 .1 .1 .1 .1 .0) (c .before .before .before .before .before .before .before .before .from-toward .result)
-    (c .before .before .before .before .before .before .before .before .before .before .before .before .before .before .before .before .before .phase2 .given .1) (p .0 (now (a .listing)) (now (a .trace))) refl (p .1)
+    let s = c .before .before .before .before .before .before .before .before .from-toward in
+    does-from (now (a .listing)) (now (a .trace)) (memories (now (a .table)) (now (a .machine)) (now (a .numbers)) (now (a .values)) (now (a .out-numbers)) (now (a .out-values)) (now (a .out)))
+    (memories (now (a .table)) (s .last .1 .0) (now (a .numbers)) (now (a .values)) (s .last .1 .1 .1 .1 .0) (s .last .1 .1 .1 .1 .1 .0) (s .last .1 .1 .1 .1 .1 .1 .0)) (s .result) (a .phase) _ (c .before .before .before .before .before .before .before .before .before .before .before .before .before .before .before .before .before .phase2 .given .1) (phases.from-toward (s .ensures .0) (s .ensures .1) refl refl refl)
 
 same-length-18 : tie.Need-same-length-18
-same-length-18 c = search needs
+same-length-18 c = refl
 
 same-length-19 : tie.Need-same-length-19
-same-length-19 c = search needs
+same-length-19 c = c .before .before .before .before .before .before .before .machine3 .given
 
 same-length-20 : tie.Need-same-length-20
-same-length-20 c = search needs
+same-length-20 c = refl
 
 same-length-21 : tie.Need-same-length-21
-same-length-21 c = search needs
+same-length-21 c = refl
 
 same-length-22 : tie.Need-same-length-22
-same-length-22 c = search needs
+same-length-22 c = c .before .before .before .before .before .out-numbers3 .given
 
 same-length-23 : tie.Need-same-length-23
-same-length-23 c = search needs
+same-length-23 c = c .before .before .before .out-values3 .given
 
 same-length-24 : tie.Need-same-length-24
-same-length-24 c = search needs
+same-length-24 c = c .before .out5 .given
 
 returns-5 : tie.Need-returns-5
 returns-5 c =
     let a = c .before .before .before .before .before .before .before .before .before .before .before .before .before .before .before .before .before .before .before .before .before .before .before .before .before .before .before .before .args in
-    let p = c .before .before .before .before .before .before .before .before .from-until .ensures in
-    moves-from (now (a .listing)) (now (a .trace)) (now (a .table)) (now (a .machine)) (now (a .numbers)) (now (a .values)) (a .phase) _ (now (a .table)) (c .before .before .before .before .before .before .before .before .from-until .last .1 .0) (now (a .numbers)) (now (a .values)) (c .before .before .before .before .before .before .before .before .from-until .last .1 .1 .1 .1 .1 .1 .0) (c .before .before .before .before .before .before .before .before .from-until .result)
-    (c .before .before .before .before .before .before .before .before .before .before .before .before .before .before .before .before .before .phase3 .given .1) (p .0 (now (a .listing)) (now (a .trace))) refl (p .1)
+    let s = c .before .before .before .before .before .before .before .before .from-until in
+    does-from (now (a .listing)) (now (a .trace)) (memories (now (a .table)) (now (a .machine)) (now (a .numbers)) (now (a .values)) (now (a .out-numbers)) (now (a .out-values)) (now (a .out)))
+    (memories (now (a .table)) (s .last .1 .0) (now (a .numbers)) (now (a .values)) (s .last .1 .1 .1 .1 .0) (s .last .1 .1 .1 .1 .1 .0) (s .last .1 .1 .1 .1 .1 .1 .0)) (s .result) (a .phase) _ (c .before .before .before .before .before .before .before .before .before .before .before .before .before .before .before .before .before .phase3 .given .1) (phases.from-until (s .ensures .0) (s .ensures .1) refl refl refl)
 
 returns-6 : tie.Need-returns-6
 returns-6 c =
     let a = c .before .before .before .before .before .before .before .before .before .before .before .args in
-    moves-from (now (a .listing)) (now (a .trace)) (now (a .table)) (now (a .machine)) (now (a .numbers)) (now (a .values)) (a .phase) Over (now (a .table)) (now (a .machine)) (now (a .numbers)) (now (a .values)) (now (a .out)) (record { phase = Over; printed = 0 })
-    (c .enum-told3 .given .1) (over-moves (now (a .listing)) (now (a .trace)) (now (a .table)) (now (a .machine)) (now (a .numbers)) (now (a .values)) (now (a .out)) .steps) refl refl
+    does-from (now (a .listing)) (now (a .trace)) (memories (now (a .table)) (now (a .machine)) (now (a .numbers)) (now (a .values)) (now (a .out-numbers)) (now (a .out-values)) (now (a .out)))
+    (memories (now (a .table)) (now (a .machine)) (now (a .numbers)) (now (a .values)) (now (a .out-numbers)) (now (a .out-values)) (now (a .out))) (silent Over) (a .phase) Over (c .enum-told3 .given .1) (phases.when-over refl refl)
 
 pub step-on-spec : {M : Type 1} → statement M
 step-on-spec =

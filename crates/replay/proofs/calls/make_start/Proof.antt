@@ -1,6 +1,7 @@
 -- `replay::calls::make_start` meets its contract.
 use native.Mathlib.Omega.{arith}
-use Rattle.replay.proofs.Promised.{listed-few, start-made}
+use Rattle.replay.proofs.Promised.{listed-few}
+use Rattle.engine.specs.Answers.{resultOf}
 use borrow.Author.Needs.{needs}
 use Rattle.replay.proofs.calls.make_start.Statement.{statement}
 use Rattle.replay.proofs.calls.make_start.Tie as tie
@@ -14,21 +15,26 @@ print-answer-requires c κs =
     (search needs, search needs, search needs, omega arith)
 
 same-length : tie.Need-same-length
-same-length c = search needs
+same-length c = c .before .before .before .before .before .before .before .before .before .before .before .machine .given
 
 same-length-2 : tie.Need-same-length-2
-same-length-2 c = search needs
+same-length-2 c = c .before .before .before .before .before .before .before .before .before .out-numbers .given
 
 same-length-3 : tie.Need-same-length-3
-same-length-3 c = search needs
+same-length-3 c = c .before .before .before .before .before .before .before .out-values .given
 
 same-length-4 : tie.Need-same-length-4
-same-length-4 c = search needs
+same-length-4 c = c .before .out .given
 
 returns : tie.Need-returns
 returns c =
-    let p = c .before .before .print-answer .ensures in
-    start-made _ _ (c .before .before .before .before .before .before .before .before .before .before .before .before .start .last .1 .0) _ _ _ _ _ _ _ (omega arith) (omega arith) (omega arith) (omega arith) (λ k. omega (arith, c .before .before .before .before .before .before .before .before .before .before .slice-known5 .given k)) (c .before .before .before .before .before .before .before .before .before .before .before .before .start .ensures) p
+    let s = c .before .before .before .before .before .before .before .before .before .before .before .before .start in
+    record {
+      result = resultOf (s .result);
+      promise = s .ensures;
+      words = λ k. omega (arith, c .before .before .before .before .before .before .before .before .before .before .slice-known5 .given k);
+      prints = c .before .before .print-answer .ensures;
+    }
 
 pub make-start-spec : {M : Type 1} → statement M
 make-start-spec =

@@ -13,7 +13,7 @@ put-end-line-requires : tie.Need-put-end-line-requires
 put-end-line-requires c κs = search needs
 
 same-length : tie.Need-same-length
-same-length c = search needs
+same-length c = c .before .out .given
 
 returns : tie.Need-returns
 returns c =
@@ -28,7 +28,7 @@ put-write-lines-requires : tie.Need-put-write-lines-requires
 put-write-lines-requires c κs = search needs
 
 same-length-2 : tie.Need-same-length-2
-same-length-2 c = search needs
+same-length-2 c = c .before .out2 .given
 
 returns-2 : tie.Need-returns-2
 returns-2 c =

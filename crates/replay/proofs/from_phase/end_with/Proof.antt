@@ -9,7 +9,7 @@ put-end-line-requires : tie.Need-put-end-line-requires
 put-end-line-requires c κs = search needs
 
 same-length : tie.Need-same-length
-same-length c = search needs
+same-length c = c .before .out .given
 
 returns : tie.Need-returns
 returns c =

@@ -1,15 +1,16 @@
 -- `replay::from_phase::from_reading` meets its contract.
 use native.Mathlib.Omega.{arith}
 use denote.Ref.{now}
-use Rattle.replay.proofs.Stepping.{ends-steps}
-use Rattle.replay.proofs.FirstSteps.{past-end-steps, call-read-steps, last-read-steps, broken-is, read-call, read-last, read-broken}
+use mathlib.Core.Path.{refl}
+use Rattle.replay.specs.Phases as phases
+use Rattle.replay.proofs.FirstSteps.{read-call, read-last, read-broken}
 use borrow.Author.Needs.{needs}
 use Rattle.replay.proofs.from_phase.from_reading.Statement.{statement}
 use Rattle.replay.proofs.from_phase.from_reading.Tie as tie
 
 returns : tie.Need-returns
 returns c =
-    λ listing table machine. past-end-steps listing _ table machine _ _ _ _ _ (omega arith)
+    phases.FromReading.past-end (omega arith) refl refl refl refl
 
 next-call-requires : tie.Need-next-call-requires
 next-call-requires c κs = search needs
@@ -27,50 +28,46 @@ end-with-requires : tie.Need-end-with-requires
 end-with-requires c κs = search needs
 
 same-length : tie.Need-same-length
-same-length c = search needs
+same-length c = c .before .before .before .before .before .before .numbers .given
 
 same-length-2 : tie.Need-same-length-2
-same-length-2 c = search needs
+same-length-2 c = c .before .before .before .before .values .given
 
 returns-2 : tie.Need-returns-2
 returns-2 c =
     let a = c .before .before .before .before .before .before .before .before .before .before .before .before .before .before .before .args in
-    let ns = c .before .before .before .before .before .before .before .next-call .last .1 .1 .0 in
-    let vs = c .before .before .before .before .before .before .before .next-call .last .1 .1 .1 .0 in
-    λ listing table machine. call-read-steps listing (now (a .trace)) table machine (now (a .numbers)) (now (a .values)) ns vs (now (a .out)) (a .clock) (a .at) _ _ _
-    (read-call (now (a .trace)) (a .at) ns vs (c .before .before .before .before .before .before .before .next-call .result) (c .before .before .before .before .before .before .before .next-call .ensures .0) _ _ _ (c .before .next .given .1))
+    let n = c .before .before .before .before .before .before .before .next-call in
+    let known = c .before .next .given in
+    read-call (now (a .trace)) (now (a .numbers)) (now (a .values)) (now (a .out)) (a .clock) (a .at) (n .last .1 .1 .0) (n .last .1 .1 .1 .0) (n .result) (n .ensures) _ _ _ (known .1)
 
 same-length-3 : tie.Need-same-length-3
-same-length-3 c = search needs
+same-length-3 c = c .before .before .before .before .before .before .numbers .given
 
 same-length-4 : tie.Need-same-length-4
-same-length-4 c = search needs
+same-length-4 c = c .before .before .before .before .values .given
 
 returns-3 : tie.Need-returns-3
 returns-3 c =
     let a = c .before .before .before .before .before .before .before .before .before .before .before .before .before .before .before .args in
-    let ns = c .before .before .before .before .before .before .before .next-call .last .1 .1 .0 in
-    let vs = c .before .before .before .before .before .before .before .next-call .last .1 .1 .1 .0 in
-    λ listing table machine. last-read-steps listing (now (a .trace)) table machine (now (a .numbers)) (now (a .values)) ns vs (now (a .out)) (a .clock) (a .at) _ _
-    (read-last (now (a .trace)) (a .at) ns vs (c .before .before .before .before .before .before .before .next-call .result) (c .before .before .before .before .before .before .before .next-call .ensures .0) _ _ (c .before .next2 .given .1))
+    let n = c .before .before .before .before .before .before .before .next-call in
+    let known = c .before .next2 .given in
+    read-last (now (a .trace)) (now (a .numbers)) (now (a .values)) (now (a .out)) (a .clock) (a .at) (n .last .1 .1 .0) (n .last .1 .1 .1 .0) (n .result) (n .ensures) _ _ (known .1)
 
 same-length-5 : tie.Need-same-length-5
-same-length-5 c = search needs
+same-length-5 c = c .before .before .before .before .before .before .before .before .before .numbers .given
 
 same-length-6 : tie.Need-same-length-6
-same-length-6 c = search needs
+same-length-6 c = c .before .before .before .before .before .before .before .values .given
 
 same-length-7 : tie.Need-same-length-7
-same-length-7 c = search needs
+same-length-7 c = c .before .out .given
 
 returns-4 : tie.Need-returns-4
 returns-4 c =
     let a = c .before .before .before .before .before .before .before .before .before .before .before .before .before .before .before .before .before .before .args in
-    let ns = c .before .before .before .before .before .before .before .before .before .before .next-call .last .1 .1 .0 in
-    let vs = c .before .before .before .before .before .before .before .before .before .before .next-call .last .1 .1 .1 .0 in
-    λ listing table machine. ends-steps _ _ _ _ _ _ _ _ _ _ _ _ _ _ _ (c .before .before .end-with .ensures)
-    (broken-is listing (now (a .trace)) table machine (now (a .numbers)) (now (a .values)) ns vs (c .before .before .end-with .last .0) (a .clock) (a .at)
-    (read-broken (now (a .trace)) (a .at) ns vs (c .before .before .before .before .before .before .before .before .before .before .next-call .result) (c .before .before .before .before .before .before .before .before .before .before .next-call .ensures .0) (c .before .before .before .before .enum-told .given .1)))
+    let n = c .before .before .before .before .before .before .before .before .before .before .next-call in
+    let known = c .before .before .before .before .enum-told .given in
+    read-broken (now (a .trace)) (now (a .numbers)) (now (a .values)) (now (a .out)) (a .clock) (a .at) (n .last .1 .1 .0) (n .last .1 .1 .1 .0) (n .result) (n .ensures) (c .before .before .end-with .last .0) (c .before .before .end-with .result) (known .1) (c .before .before .end-with .ensures)
 
 pub from-reading-spec : {M : Type 1} → statement M
 from-reading-spec =

@@ -1,8 +1,9 @@
 -- `replay::toward::from_toward` meets its contract.
 use native.Mathlib.Omega.{arith}
-use denote.Ref.{now}
-use Rattle.walk.specs.Calls.{inputsOf}
-use Rattle.replay.proofs.Stepping.{due-toward-steps}
+use Rattle.replay.specs.Phases as phases
+use Rattle.replay.specs.declared.phase.Clock.{Clock}
+use Rattle.replay.specs.declared.phase.Phase.the-variants.{Toward}
+use Rattle.replay.proofs.Calling.{after-ended, after-went}
 use borrow.Author.Needs.{needs}
 use Rattle.replay.proofs.toward.from_toward.Statement.{statement}
 use Rattle.replay.proofs.toward.from_toward.Tie as tie
@@ -21,20 +22,20 @@ join-inputs-requires c κs =
     (search needs, search needs, search needs, search needs, search needs, search needs, search needs, rw (c .before .before .before .before .enum-told .given .1) at (c .before .before .before .before .before .before .due-before .ensures))
 
 same-length : tie.Need-same-length
-same-length c = search needs
+same-length c = c .before .before .before .before .before .before .before .machine .given
 
 same-length-2 : tie.Need-same-length-2
-same-length-2 c = search needs
+same-length-2 c = c .before .before .before .before .before .out-numbers .given
 
 same-length-3 : tie.Need-same-length-3
-same-length-3 c = search needs
+same-length-3 c = c .before .before .before .out-values .given
 
 same-length-4 : tie.Need-same-length-4
-same-length-4 c = search needs
+same-length-4 c = c .before .out .given
 
 returns : tie.Need-returns
 returns c =
-    c .before .before .before .before .before .before .before .before .join-inputs .ensures
+    (omega arith, c .before .before .before .before .before .before .before .before .join-inputs .ensures)
 
 slice-aggregate-make-instant : tie.Need-slice-aggregate-make-instant
 slice-aggregate-make-instant c = search needs
@@ -52,52 +53,46 @@ enum-known-made-2 : tie.Need-enum-known-made-2
 enum-known-made-2 c = search needs
 
 same-length-5 : tie.Need-same-length-5
-same-length-5 c = search needs
+same-length-5 c = c .before .before .before .before .before .before .before .before .before .before .machine2 .given
 
 same-length-6 : tie.Need-same-length-6
-same-length-6 c = search needs
+same-length-6 c = c .before .before .before .before .before .before .before .before .out-numbers2 .given
 
 same-length-7 : tie.Need-same-length-7
-same-length-7 c = search needs
+same-length-7 c = c .before .before .before .before .before .before .out-values2 .given
 
 same-length-8 : tie.Need-same-length-8
-same-length-8 c = search needs
+same-length-8 c = c .before .before .before .before .out2 .given
 
 returns-2 : tie.Need-returns-2
-unfolding inputsOf
 returns-2 c =
+    let m = c .before .before .before .before .before .before .before .before .before .before .before .make-instant in
     let a = c .before .before .before .before .before .before .before .before .before .before .before .before .before .before .before .before .before .before .before .before .before .before .before .before .before .before .before .before .before .args in
     let f = c .before .before .before .before .before .before .before .before .before .before .before .before .before .before .before .before .before .before .before .before .before .before .before .before .before .before .before .before .before .fits in
-    let p = c .before .before .before .before .before .before .before .before .before .before .before .make-instant .ensures in (
-      λ listing trace. rw (c .before .made .given .1) at (due-toward-steps listing trace (now (a .table)) (now (a .machine)) (now (a .numbers)) (now (a .values)) (c .before .before .before .before .before .before .before .before .before .before .before .make-instant .last .1 .0)
-          (c .before .before .before .before .before .before .before .before .before .before .before .make-instant .last .1 .1 .1 .1 .1 .1 .1 .1 .0) (a .clock) (a .time) (a .count) (a .next) (omega arith) (c .before .before .before .before .before .before .before .before .before .before .before .before .before .before .before .before .before .before .before .soon .given .0 .0) (c .before .before .before .before .before .before .before .before .before .before .before .make-instant .result)
-          (rw (c .before .before .before .before .before .before .before .before .before .before .before .before .before .before .before .before .before .before .before .soon .given .1) at (c .before .before .before .before .before .before .before .before .before .before .before .before .before .before .before .before .before .before .before .before .before .due-before .ensures)) p),
-      p .past,
-    )
+    let soon = c .before .before .before .before .before .before .before .before .before .before .before .before .before .before .before .before .before .before .before .soon .given in
+    let known = c .before .made .given in
+    (omega arith, phases.FromToward.due {made = m .result} (rw (soon .1) at (c .before .before .before .before .before .before .before .before .before .before .before .before .before .before .before .before .before .before .before .before .before .due-before .ensures)) (m .ensures) (after-ended (m .result) _ (λ (x : Clock). Toward x (a .time) (a .count) (a .next)) (known .1)))
 
 same-length-9 : tie.Need-same-length-9
-same-length-9 c = search needs
+same-length-9 c = c .before .before .before .before .before .before .before .before .before .before .machine2 .given
 
 same-length-10 : tie.Need-same-length-10
-same-length-10 c = search needs
+same-length-10 c = c .before .before .before .before .before .before .before .before .out-numbers2 .given
 
 same-length-11 : tie.Need-same-length-11
-same-length-11 c = search needs
+same-length-11 c = c .before .before .before .before .before .before .out-values2 .given
 
 same-length-12 : tie.Need-same-length-12
-same-length-12 c = search needs
+same-length-12 c = c .before .before .before .before .out2 .given
 
 returns-3 : tie.Need-returns-3
-unfolding inputsOf
 returns-3 c =
+    let m = c .before .before .before .before .before .before .before .before .before .before .before .make-instant in
     let a = c .before .before .before .before .before .before .before .before .before .before .before .before .before .before .before .before .before .before .before .before .before .before .before .before .before .before .before .before .before .args in
     let f = c .before .before .before .before .before .before .before .before .before .before .before .before .before .before .before .before .before .before .before .before .before .before .before .before .before .before .before .before .before .fits in
-    let p = c .before .before .before .before .before .before .before .before .before .before .before .make-instant .ensures in (
-      λ listing trace. rw (c .before .made2 .given .1) at (due-toward-steps listing trace (now (a .table)) (now (a .machine)) (now (a .numbers)) (now (a .values)) (c .before .before .before .before .before .before .before .before .before .before .before .make-instant .last .1 .0)
-          (c .before .before .before .before .before .before .before .before .before .before .before .make-instant .last .1 .1 .1 .1 .1 .1 .1 .1 .0) (a .clock) (a .time) (a .count) (a .next) (omega arith) (c .before .before .before .before .before .before .before .before .before .before .before .before .before .before .before .before .before .before .before .soon .given .0 .0) (c .before .before .before .before .before .before .before .before .before .before .before .make-instant .result)
-          (rw (c .before .before .before .before .before .before .before .before .before .before .before .before .before .before .before .before .before .before .before .soon .given .1) at (c .before .before .before .before .before .before .before .before .before .before .before .before .before .before .before .before .before .before .before .before .before .due-before .ensures)) p),
-      p .past,
-    )
+    let soon = c .before .before .before .before .before .before .before .before .before .before .before .before .before .before .before .before .before .before .before .soon .given in
+    let known = c .before .made2 .given in
+    (omega arith, phases.FromToward.due {made = m .result} (rw (soon .1) at (c .before .before .before .before .before .before .before .before .before .before .before .before .before .before .before .before .before .before .before .before .before .due-before .ensures)) (m .ensures) (after-went (m .result) _ _ (λ (x : Clock). Toward x (a .time) (a .count) (a .next)) (known .1)))
 
 pub from-toward-spec : {M : Type 1} → statement M
 from-toward-spec =

@@ -1,10 +1,10 @@
 -- `replay::toward::from_until` meets its contract.
 use mathlib.Core.Path.{refl}
 use native.Mathlib.Omega.{arith}
-use denote.Ref.{now}
-use Rattle.walk.specs.Calls.{inputsOf}
+use Rattle.replay.specs.Phases as phases
+use Rattle.replay.specs.declared.phase.Clock.{Clock}
 use Rattle.replay.specs.declared.phase.Phase.the-variants.{Until}
-use Rattle.replay.proofs.Stepping.{ends-steps, due-until-steps, end-until-is}
+use Rattle.replay.proofs.Calling.{after-ended, after-went}
 use borrow.Author.Needs.{needs}
 use Rattle.replay.proofs.toward.from_until.Statement.{statement}
 use Rattle.replay.proofs.toward.from_until.Tie as tie
@@ -25,17 +25,12 @@ end-with-requires : tie.Need-end-with-requires
 end-with-requires c κs = search needs
 
 same-length : tie.Need-same-length
-same-length c = search needs
+same-length c = c .before .out .given
 
 returns : tie.Need-returns
 returns c =
-    let a = c .before .before .before .before .before .before .before .before .before .before .before .before .before .before .before .args in (
-      λ listing trace. ends-steps listing trace (now (a .table)) (now (a .machine)) (now (a .numbers)) (now (a .values)) (Until (a .clock) (a .time) (a .nothing-after))
-          (now (a .table)) (now (a .machine)) (now (a .numbers)) (now (a .values)) (c .before .before .end-with .last .0) (c .before .before .before .before .end-code .result) (a .clock .now) (c .before .before .end-with .result) (c .before .before .end-with .ensures)
-          (end-until-is listing trace (now (a .table)) (now (a .machine)) (now (a .numbers)) (now (a .values)) (now (a .machine)) (c .before .before .end-with .last .0) (a .clock) (a .time) (a .nothing-after) (omega arith)
-          (c .before .before .before .before .end-code .result) (c .before .before .before .before .end-code .ensures) (rw (c .before .before .before .before .before .enum-told .given .1) at (c .before .before .before .before .before .before .before .due-until .ensures))),
-      refl,
-    )
+    let f = c .before .before .before .before .before .before .before .before .before .before .before .before .before .before .before .fits in
+    (omega arith, phases.FromUntil.ends {code = c .before .before .before .before .end-code .result} (rw (c .before .before .before .before .before .enum-told .given .1) at (c .before .before .before .before .before .before .before .due-until .ensures)) (c .before .before .before .before .end-code .ensures) refl refl refl (c .before .before .end-with .ensures))
 
 slice-aggregate-make-instant : tie.Need-slice-aggregate-make-instant
 slice-aggregate-make-instant c = search needs
@@ -53,52 +48,46 @@ enum-known-made-2 : tie.Need-enum-known-made-2
 enum-known-made-2 c = search needs
 
 same-length-2 : tie.Need-same-length-2
-same-length-2 c = search needs
+same-length-2 c = c .before .before .before .before .before .before .before .before .before .before .machine .given
 
 same-length-3 : tie.Need-same-length-3
-same-length-3 c = search needs
+same-length-3 c = c .before .before .before .before .before .before .before .before .out-numbers .given
 
 same-length-4 : tie.Need-same-length-4
-same-length-4 c = search needs
+same-length-4 c = c .before .before .before .before .before .before .out-values .given
 
 same-length-5 : tie.Need-same-length-5
-same-length-5 c = search needs
+same-length-5 c = c .before .before .before .before .out2 .given
 
 returns-2 : tie.Need-returns-2
-unfolding inputsOf
 returns-2 c =
+    let m = c .before .before .before .before .before .before .before .before .before .before .before .make-instant in
     let a = c .before .before .before .before .before .before .before .before .before .before .before .before .before .before .before .before .before .before .before .before .before .before .before .before .before .before .before .before .before .args in
     let f = c .before .before .before .before .before .before .before .before .before .before .before .before .before .before .before .before .before .before .before .before .before .before .before .before .before .before .before .before .before .fits in
-    let p = c .before .before .before .before .before .before .before .before .before .before .before .make-instant .ensures in (
-      λ listing trace. rw (c .before .made .given .1) at (due-until-steps listing trace (now (a .table)) (now (a .machine)) (now (a .numbers)) (now (a .values)) (c .before .before .before .before .before .before .before .before .before .before .before .make-instant .last .1 .0)
-          (c .before .before .before .before .before .before .before .before .before .before .before .make-instant .last .1 .1 .1 .1 .1 .1 .1 .1 .0) (a .clock) (a .time) (a .nothing-after) (omega arith) (c .before .before .before .before .before .before .before .before .before .before .before .before .before .before .before .before .before .before .before .soon .given .0 .0) (c .before .before .before .before .before .before .before .before .before .before .before .make-instant .result)
-          (rw (c .before .before .before .before .before .before .before .before .before .before .before .before .before .before .before .before .before .before .before .soon .given .1) at (c .before .before .before .before .before .before .before .before .before .before .before .before .before .before .before .before .before .before .before .before .before .due-until .ensures)) p),
-      p .past,
-    )
+    let soon = c .before .before .before .before .before .before .before .before .before .before .before .before .before .before .before .before .before .before .before .soon .given in
+    let known = c .before .made .given in
+    (omega arith, phases.FromUntil.due {made = m .result} (rw (soon .1) at (c .before .before .before .before .before .before .before .before .before .before .before .before .before .before .before .before .before .before .before .before .before .due-until .ensures)) (m .ensures) (after-ended (m .result) _ (λ (x : Clock). Until x (a .time) (a .nothing-after)) (known .1)))
 
 same-length-6 : tie.Need-same-length-6
-same-length-6 c = search needs
+same-length-6 c = c .before .before .before .before .before .before .before .before .before .before .machine .given
 
 same-length-7 : tie.Need-same-length-7
-same-length-7 c = search needs
+same-length-7 c = c .before .before .before .before .before .before .before .before .out-numbers .given
 
 same-length-8 : tie.Need-same-length-8
-same-length-8 c = search needs
+same-length-8 c = c .before .before .before .before .before .before .out-values .given
 
 same-length-9 : tie.Need-same-length-9
-same-length-9 c = search needs
+same-length-9 c = c .before .before .before .before .out2 .given
 
 returns-3 : tie.Need-returns-3
-unfolding inputsOf
 returns-3 c =
+    let m = c .before .before .before .before .before .before .before .before .before .before .before .make-instant in
     let a = c .before .before .before .before .before .before .before .before .before .before .before .before .before .before .before .before .before .before .before .before .before .before .before .before .before .before .before .before .before .args in
     let f = c .before .before .before .before .before .before .before .before .before .before .before .before .before .before .before .before .before .before .before .before .before .before .before .before .before .before .before .before .before .fits in
-    let p = c .before .before .before .before .before .before .before .before .before .before .before .make-instant .ensures in (
-      λ listing trace. rw (c .before .made2 .given .1) at (due-until-steps listing trace (now (a .table)) (now (a .machine)) (now (a .numbers)) (now (a .values)) (c .before .before .before .before .before .before .before .before .before .before .before .make-instant .last .1 .0)
-          (c .before .before .before .before .before .before .before .before .before .before .before .make-instant .last .1 .1 .1 .1 .1 .1 .1 .1 .0) (a .clock) (a .time) (a .nothing-after) (omega arith) (c .before .before .before .before .before .before .before .before .before .before .before .before .before .before .before .before .before .before .before .soon .given .0 .0) (c .before .before .before .before .before .before .before .before .before .before .before .make-instant .result)
-          (rw (c .before .before .before .before .before .before .before .before .before .before .before .before .before .before .before .before .before .before .before .soon .given .1) at (c .before .before .before .before .before .before .before .before .before .before .before .before .before .before .before .before .before .before .before .before .before .due-until .ensures)) p),
-      p .past,
-    )
+    let soon = c .before .before .before .before .before .before .before .before .before .before .before .before .before .before .before .before .before .before .before .soon .given in
+    let known = c .before .made2 .given in
+    (omega arith, phases.FromUntil.due {made = m .result} (rw (soon .1) at (c .before .before .before .before .before .before .before .before .before .before .before .before .before .before .before .before .before .before .before .before .before .due-until .ensures)) (m .ensures) (after-went (m .result) _ _ (λ (x : Clock). Until x (a .time) (a .nothing-after)) (known .1)))
 
 pub from-until-spec : {M : Type 1} → statement M
 from-until-spec =

@@ -7,6 +7,7 @@ use lib.ListN.{length}
 use borrow.Author.Needs.{needs}
 use Rattle.trace.specs.Groups.{NextIs, JoinsIs}
 use Rattle.trace.specs.declared.group.Next.{Next}
+use Rattle.trace.specs.declared.group.Next.the-variants.{Broken}
 use Rattle.trace.specs.declared.group.Joins.{Joins}
 use Rattle.trace.proofs.Groups as groups
 use Rattle.trace.proofs.Scripts as scripts
@@ -33,13 +34,14 @@ returns : tie.Need-returns Inv-loop μ-loop
 returns c =
     let a = c .before .before .before .before .before .before .args in
     let s = now (a .trace) in
-    (subst (λ (r : Next). NextIs s (a .at) (now (a .numbers)) (now (a .values)) r) (sym (c .ended .ensures)) (groups.no-input-next s (a .at) _ _ _ (c .before .before .read-trace-line .ensures) (c .before .match .keys2)), refl, refl)
+    groups.nothing-read s (a .at) (now (a .numbers)) (now (a .values)) (c .ended .result)
+    (subst (λ (r : Next). NextIs s (a .at) (now (a .numbers)) (now (a .values)) r) (sym (c .ended .ensures)) (groups.no-input-next s (a .at) _ _ _ (c .before .before .read-trace-line .ensures) (c .before .match .keys2)))
 
 returns-2 : tie.Need-returns-2 Inv-loop μ-loop
 returns-2 c =
     let a = c .before .before .before .before .before .before .before .before .args in
     let s = now (a .trace) in
-    (scripts.input-open s (a .at) _ _ _ _ _ (sym (c .before .before .line .given .1) ∙ c .before .before .before .before .read-trace-line .ensures) (c .if1 .taken), refl, refl)
+    groups.nothing-read s (a .at) (now (a .numbers)) (now (a .values)) Broken (scripts.input-open s (a .at) _ _ _ _ _ (sym (c .before .before .line .given .1) ∙ c .before .before .before .before .read-trace-line .ensures) (c .if1 .taken))
 
 put-input-requires : tie.Need-put-input-requires Inv-loop μ-loop
 put-input-requires c κs = search needs
@@ -63,11 +65,11 @@ enum-told c = search needs
 
 same-length : tie.Need-same-length Inv-loop μ-loop
 same-length c =
-    c .before .before .before .loop .inv .same-numbers ∙ groups.put-numbers (c .before .before .before .before .before .before .before .before .put-input .ensures)
+    c .before .before .before .loop .inv .same-numbers .size ∙ groups.put-numbers (c .before .before .before .before .before .before .before .before .put-input .ensures)
 
 same-length-2 : tie.Need-same-length-2 Inv-loop μ-loop
 same-length-2 c =
-    c .before .before .before .loop .inv .same-values ∙ groups.put-values (c .before .before .before .before .before .before .before .before .put-input .ensures)
+    c .before .before .before .loop .inv .same-values .size ∙ groups.put-values (c .before .before .before .before .before .before .before .before .put-input .ensures)
 
 returns-3 : tie.Need-returns-3 Inv-loop μ-loop
 returns-3 c =
@@ -77,7 +79,7 @@ returns-3 c =
     let time = c .before .before .before .before .before .before .before .before .before .before .before .before .before .line .given .0 .0 in
     let apart = subst (λ (r : Joins). JoinsIs s (v .next) time r) (c .enum-told .given .1) (c .before .before .joining .ensures) in
     let put = c .before .before .before .before .before .before .before .before .put-input .ensures in
-    (groups.group-done (v .inv) apart, v .inv .same-numbers ∙ groups.put-numbers put, v .inv .same-values ∙ groups.put-values put)
+    groups.group-read (v .inv) put apart
 
 put-input-requires-2 : tie.Need-put-input-requires-2 Inv-loop μ-loop
 put-input-requires-2 c κs =

@@ -50,7 +50,7 @@ of-same {r = r} e k = subst (λ (x : Result). ReportOf x r) e k
 pub other-part : (f : Report → ℕ) (a b : Report) → (f a ≡ f b → ⊥) → Tells false (a ≡ b)
 other-part f a b differs = tells-no (λ e. differs (ap f e))
 
-same-parts : (a b : Report) → a .number ≡ b .number → a .steps ≡ b .steps → a .listed ≡ b .listed → a .due ≡ b .due → a ≡ b
+pub same-parts : (a b : Report) → a .number ≡ b .number → a .steps ≡ b .steps → a .listed ≡ b .listed → a .due ≡ b .due → a ≡ b
 unfolding report
 same-parts a b n s l d =
     let first : a ≡ report (b .number) (a .steps) (a .listed) (a .due) = ap (λ (x : ℕ). report x (a .steps) (a .listed) (a .due)) n in

@@ -1,7 +1,11 @@
 // One call, as the file has it: the memories are lent as it says.
 // An item of the file is a word, its kind. A call (kind 0 or 1) goes on with: spoil, t (a moment), allowance, number of inputs, a number and a
 // value for each; then its answer: number, steps, outputs listed, 1 if a moment is due or else 0, that moment, a number and a value for each output.
+ghost use mathlib.Core.Path.{_≡_};
+ghost use Prim.Native.Nat.{_-_};
+ghost use lib.ListN.{length};
 ghost use Rattle.io.specs.Counts.{Counts};
+ghost use Rattle.call_tests.specs.Calls.{CallAt, AnswerAt, answerPlace, lentPlaces, startOutcome, instantOutcome, madeOutcome, Made};
 use crate::reports::Report;
 use crate::reports::instant_report;
 use crate::reports::start_report;
@@ -19,7 +23,9 @@ pub struct Call {
     pub at: usize,
 }
 
-pub fn call_at(s: &[u8], at: usize) -> Call {
+pub fn call_at(s: &[u8], at: usize) -> Call
+    ensures { λ r. ⌜ CallAt (now (s .entry)) at r ⌝ }
+{
     let kind = word_at(s, at);
     let spoil = word_at(s, past(s, at, 4));
     let t = moment_at(s, past(s, at, 8));
@@ -37,13 +43,17 @@ pub fn call_at(s: &[u8], at: usize) -> Call {
 }
 
 // Where the answer of a call stands: after the pairs of its inputs.
-pub fn answer_place(s: &[u8], call: Call) -> usize {
+pub fn answer_place(s: &[u8], call: Call) -> usize
+    ensures { λ r. ⌜ r ≡ answerPlace (now (s .entry)) call ⌝ }
+{
     let pairs = call.inputs as usize;
     past(s, call.at, pairs * 8)
 }
 
 // The answer stored at a place: number, steps, outputs listed, whether a moment is due, and that moment or 0.
-pub fn answer_at(s: &[u8], at: usize) -> Report {
+pub fn answer_at(s: &[u8], at: usize) -> Report
+    ensures { λ r. ⌜ AnswerAt (now (s .entry)) at r ⌝ }
+{
     let number = word_at(s, at);
     let steps = word_at(s, past(s, at, 4));
     let listed = word_at(s, past(s, at, 8));
@@ -58,7 +68,7 @@ pub fn answer_at(s: &[u8], at: usize) -> Report {
 
 // How much of a memory is lent: all, or only so many places if this is what is spoilt.
 fn lent(m: &[u32], spoil: u32, which: u32, places: usize) -> usize
-    ensures { λ r. ⌜ Counts r (now (m .entry)) ⌝ }
+    ensures { λ r. ⌜ Counts r (now (m .entry)) × (r ≡ lentPlaces spoil which places (now (m .entry))) ⌝ }
 {
     if spoil != which {
         return m.len();
@@ -70,7 +80,9 @@ fn lent(m: &[u32], spoil: u32, which: u32, places: usize) -> usize
 }
 
 // All but the last place.
-fn all_but_one(count: usize) -> usize {
+fn all_but_one(count: usize) -> usize
+    ensures { λ r. ⌜ r ≡ count - 1 ⌝ }
+{
     if count == 0 {
         return 0;
     }
@@ -84,7 +96,11 @@ fn start_lent(
     machine: &mut [u32],
     numbers: &mut [u32],
     values: &mut [u32],
-) -> Report {
+) -> Report
+    ensures { λ r. ⌜ Made call (now (table .entry)) (now (machine .entry)) (now (numbers .entry)) (now (values .entry))
+        (now (machine .exit)) (now (numbers .exit)) (now (values .exit))
+        (startOutcome call (now (table .entry)) (now (machine .entry)) (now (numbers .entry)) (now (values .entry))) r ⌝ }
+{
     let spoil = call.spoil;
     let table_lent = lent(table, spoil, 1, 12287);
     let machine_lent = lent(machine, spoil, 2, 12287);
@@ -108,7 +124,11 @@ fn instant_lent(
     news: &[u32],
     numbers: &mut [u32],
     values: &mut [u32],
-) -> Report {
+) -> Report
+    ensures { λ r. ⌜ Made call (now (table .entry)) (now (machine .entry)) (now (numbers .entry)) (now (values .entry))
+        (now (machine .exit)) (now (numbers .exit)) (now (values .exit))
+        (instantOutcome call (now (table .entry)) (now (machine .entry)) (now (ins .entry)) (now (news .entry)) (now (numbers .entry)) (now (values .entry))) r ⌝ }
+{
     let spoil = call.spoil;
     let table_lent = lent(table, spoil, 1, 12287);
     let machine_lent = lent(machine, spoil, 2, 12287);
@@ -138,7 +158,11 @@ pub fn make_call(
     news: &[u32],
     numbers: &mut [u32],
     values: &mut [u32],
-) -> Report {
+) -> Report
+    ensures { λ r. ⌜ Made call (now (table .entry)) (now (machine .entry)) (now (numbers .entry)) (now (values .entry))
+        (now (machine .exit)) (now (numbers .exit)) (now (values .exit))
+        (madeOutcome call (now (table .entry)) (now (machine .entry)) (now (ins .entry)) (now (news .entry)) (now (numbers .entry)) (now (values .entry))) r ⌝ }
+{
     if call.kind == 0 {
         return start_lent(call, table, machine, numbers, values);
     }

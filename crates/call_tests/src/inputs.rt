@@ -1,9 +1,13 @@
 // Pairs of a number and a value, as the file has them: a call's inputs, and the outputs that an answer lists.
+ghost use Rattle.call_tests.specs.Pairs.{fitting, PairsPut};
 use cases::frame::past;
 use cases::frame::word_at;
 
 // So many pairs put into two lists, or as many as both have room for.
-pub fn read_pairs(s: &[u8], from: usize, count: usize, numbers: &mut [u32], values: &mut [u32]) {
+pub fn read_pairs(s: &[u8], from: usize, count: usize, numbers: &mut [u32], values: &mut [u32])
+    ensures { λ _. ⌜ PairsPut (now (s .entry)) from (fitting count (now (numbers .entry)) (now (values .entry))) (now (numbers .entry)) (now (values .entry))
+        (now (numbers .exit)) (now (values .exit)) ⌝ }
+{
     let mut at = from;
     let mut k: usize = 0;
     while k < count {
@@ -18,27 +22,4 @@ pub fn read_pairs(s: &[u8], from: usize, count: usize, numbers: &mut [u32], valu
         at = past(s, at, 8);
         k += 1;
     }
-}
-
-// Do the two lists begin with these pairs?
-pub fn same_pairs(s: &[u8], from: usize, count: usize, numbers: &[u32], values: &[u32]) -> bool {
-    let mut at = from;
-    let mut k: usize = 0;
-    while k < count {
-        if k >= numbers.len() {
-            return false;
-        }
-        if k >= values.len() {
-            return false;
-        }
-        if numbers[k] != word_at(s, at) {
-            return false;
-        }
-        if values[k] != word_at(s, past(s, at, 4)) {
-            return false;
-        }
-        at = past(s, at, 8);
-        k += 1;
-    }
-    true
 }

@@ -1,20 +1,24 @@
 // The items of a case: a call (kind 0 the start, 1 an instant), a copy of the machine kept (2), or a comparison of the machine with that
 // copy (3), with the number and the word (1 alike, else 0) that it must answer.
-ghost use Prim.Native.Nat.{_≤_};
+ghost use mathlib.Core.Path.{_≡_};
+ghost use Prim.Native.Nat.{min};
 ghost use lib.ListN.{length};
 ghost use Rattle.io.specs.Counts.{Counts};
+ghost use Rattle.walk.specs.Comparison.{comparedNumber, comparedAlike};
+ghost use Rattle.comparison.specs.Compared.{comparedOf};
+ghost use Rattle.cases.specs.Words.{Tells};
+ghost use Rattle.call_tests.specs.Pairs.{fitting, PairsPut};
+ghost use Rattle.call_tests.specs.Cases.{afterCall, afterItem};
+ghost use Rattle.call_tests.specs.Items.{unlisted, AnswerRight, RanCall, RanSpoilt, bit, ComparedRight, RanItem};
 use crate::calls::Call;
 use crate::calls::answer_at;
 use crate::calls::answer_place;
 use crate::calls::call_at;
 use crate::calls::make_call;
 use crate::inputs::read_pairs;
-use crate::inputs::same_pairs;
 use crate::memory::PATTERN;
 use crate::memory::machine_right;
-use crate::memory::rest_right;
 use crate::memory::swap_first;
-use crate::memory::turn_first;
 use crate::reports::Report;
 use crate::reports::same_reports;
 use crate::reports::say_report;
@@ -22,14 +26,15 @@ use cases::frame::past;
 use cases::frame::word_at;
 use cases::report::say;
 use cases::words::copy;
-use engine::Comparison;
+use cases::words::same;
+use comparison::Comparison;
 
 // The words of an answer before its outputs.
 const ANSWER: usize = 24;
 
 // The place after the call at a place.
 fn after_call(s: &[u8], at: usize) -> usize
-    ensures { λ r. ⌜ r ≤ length (now (s .entry)) ⌝ }
+    ensures { λ r. ⌜ r ≡ afterCall (now (s .entry)) at ⌝ }
 {
     let call = call_at(s, at);
     let answer = answer_place(s, call);
@@ -39,7 +44,7 @@ fn after_call(s: &[u8], at: usize) -> usize
 
 // The place after the item at a place.
 pub fn after_item(s: &[u8], at: usize) -> usize
-    ensures { λ r. ⌜ r ≤ length (now (s .entry)) ⌝ }
+    ensures { λ r. ⌜ r ≡ afterItem (now (s .entry)) at ⌝ }
 {
     let kind = word_at(s, at);
     if kind < 2 {
@@ -51,29 +56,40 @@ pub fn after_item(s: &[u8], at: usize) -> usize
     past(s, at, 12)
 }
 
-// Is the answer of a call the one stored, with the outputs listed, and are all other places as they were?
-fn answer_right(s: &[u8], at: usize, found: Report, numbers: &[u32], values: &[u32]) -> bool {
+// Do two lists that held nothing but the pattern now begin with so many pairs of the file, and hold the pattern after them?
+fn outputs_right(s: &[u8], at: usize, listed: u32, numbers: &[u32], values: &[u32]) -> bool
+    ensures { λ r. ⌜ Tells r (PairsPut (now (s .entry)) at (fitting listed unlisted unlisted) unlisted unlisted (now (numbers .entry)) (now (values .entry))) ⌝ }
+{
+    let mut stored_numbers = [PATTERN; 20];
+    let mut stored_values = [PATTERN; 20];
+    let count = listed as usize;
+    read_pairs(s, at, count, &mut stored_numbers, &mut stored_values);
+    if !same(numbers, &stored_numbers) {
+        return false;
+    }
+    same(values, &stored_values)
+}
+
+// Is the answer of a call the one stored, with the outputs listed, and are all other places as they were? If not it says so.
+fn answer_right(s: &[u8], at: usize, found: Report, numbers: &[u32], values: &[u32]) -> bool
+    ensures { λ r. ⌜ Tells r (AnswerRight (now (s .entry)) at found (now (numbers .entry)) (now (values .entry))) ⌝ }
+{
     let expected = answer_at(s, at);
     if !same_reports(expected, found) {
         say_report(b"expected", expected);
         say_report(b"found   ", found);
         return false;
     }
-    let listed = found.listed as usize;
-    if !same_pairs(s, past(s, at, ANSWER), listed, numbers, values) {
-        say(b"other outputs are listed\n");
-        return false;
+    let right = outputs_right(s, past(s, at, ANSWER), found.listed, numbers, values);
+    if !right {
+        say(b"the output lists are not as they must be\n");
     }
-    if !rest_right(numbers, values, listed) {
-        say(b"a place after those listed was touched\n");
-        return false;
-    }
-    true
+    right
 }
 
 // So many places of a list, or all if it has fewer.
 fn least(count: usize, list: &[u32]) -> usize
-    ensures { λ r. ⌜ Counts r (now (list .entry)) ⌝ }
+    ensures { λ r. ⌜ Counts r (now (list .entry)) × (r ≡ min count (length (now (list .entry)))) ⌝ }
 {
     if list.len() < count {
         return list.len();
@@ -81,8 +97,10 @@ fn least(count: usize, list: &[u32]) -> usize
     count
 }
 
-// A call on these memories; `before` is scratch.
-fn run_call(s: &[u8], call: Call, table: &[u32], machine: &mut [u32], before: &mut [u32]) -> bool {
+// A call on these memories; `before` is left with the machine as it was.
+fn run_call(s: &[u8], call: Call, table: &[u32], machine: &mut [u32], before: &mut [u32]) -> bool
+    ensures { λ r. ⌜ RanCall (now (s .entry)) call (now (table .entry)) (now (machine .entry)) (now (before .entry)) (now (machine .exit)) (now (before .exit)) r ⌝ }
+{
     let mut ins = [0u32; 16];
     let mut news = [0u32; 16];
     let mut numbers = [PATTERN; 20];
@@ -104,11 +122,11 @@ fn run_call(s: &[u8], call: Call, table: &[u32], machine: &mut [u32], before: &m
     if !answer_right(s, answer_place(s, call), found, &numbers, &values) {
         return false;
     }
-    if !machine_right(machine, before, found.number) {
+    let right = machine_right(machine, before, found.number);
+    if !right {
         say(b"the machine is not as it must be\n");
-        return false;
     }
-    true
+    right
 }
 
 // A call with what the file spoils: the table's first word (6), the machine's first word (7), or a length.
@@ -118,12 +136,15 @@ fn run_spoilt(
     table: &mut [u32],
     machine: &mut [u32],
     before: &mut [u32],
-) -> bool {
+) -> bool
+    ensures { λ r. ⌜ RanSpoilt (now (s .entry)) at (now (table .entry)) (now (machine .entry)) (now (before .entry))
+        (now (table .exit)) (now (machine .exit)) (now (before .exit)) r ⌝ }
+{
     let call = call_at(s, at);
     if call.spoil == 6 {
-        turn_first(table);
+        let was = swap_first(table, 2147483648);
         let right = run_call(s, call, table, machine, before);
-        turn_first(table);
+        swap_first(table, was);
         return right;
     }
     if call.spoil == 7 {
@@ -135,27 +156,41 @@ fn run_spoilt(
     run_call(s, call, table, machine, before)
 }
 
-// Is the comparison's answer the number and the word (1 alike, else 0) stored at a place?
-fn compared_right(s: &[u8], at: usize, answer: Comparison) -> bool {
-    let number = word_at(s, at);
-    let alike = word_at(s, past(s, at, 4));
+// A comparison's number, and 1 if the machines are alike, else 0.
+pub struct Compared {
+    pub number: u32,
+    pub alike: u32,
+}
+
+fn compared_figures(answer: Comparison) -> Compared
+    ensures { λ r. ⌜ (r .number ≡ comparedNumber (comparedOf answer)) × (r .alike ≡ bit (comparedAlike (comparedOf answer))) ⌝ }
+{
     match answer {
-        Comparison::Refused(k) => {
-            if k != number {
-                return false;
-            }
-            alike == 0
-        }
+        Comparison::Refused(number) => Compared { number, alike: 0 },
         Comparison::Alike(same) => {
-            if number != 0 {
-                return false;
-            }
             if same {
-                return alike == 1;
+                return Compared {
+                    number: 0,
+                    alike: 1,
+                };
             }
-            alike == 0
+            Compared {
+                number: 0,
+                alike: 0,
+            }
         }
     }
+}
+
+// Is the comparison's answer the number and the word stored at a place?
+fn compared_right(s: &[u8], at: usize, answer: Comparison) -> bool
+    ensures { λ r. ⌜ Tells r (ComparedRight (now (s .entry)) at (comparedOf answer)) ⌝ }
+{
+    let found = compared_figures(answer);
+    if word_at(s, at) != found.number {
+        return false;
+    }
+    word_at(s, past(s, at, 4)) == found.alike
 }
 
 // Runs the item at a place, and answers whether all was as stored.
@@ -166,7 +201,10 @@ pub fn run_item(
     machine: &mut [u32],
     before: &mut [u32],
     kept: &mut [u32],
-) -> bool {
+) -> bool
+    ensures { λ r. ⌜ RanItem (now (s .entry)) at (now (table .entry)) (now (machine .entry)) (now (before .entry)) (now (kept .entry))
+        (now (table .exit)) (now (machine .exit)) (now (before .exit)) (now (kept .exit)) r ⌝ }
+{
     let kind = word_at(s, at);
     if kind < 2 {
         return run_spoilt(s, at, table, machine, before);
@@ -175,6 +213,6 @@ pub fn run_item(
         copy(machine, kept);
         return true;
     }
-    let answer = engine::alike(table, machine, kept);
+    let answer = comparison::alike(table, machine, kept);
     compared_right(s, past(s, at, 4), answer)
 }

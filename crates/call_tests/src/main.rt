@@ -7,7 +7,7 @@ pub mod items;
 pub mod memory;
 pub mod reports;
 
-ghost use Prim.Native.Nat.{_≤_, _<_};
+ghost use Rattle.call_tests.specs.Cases.{LoadsInto, RanItems, RanCase, RanFile};
 use crate::items::after_item;
 use crate::items::run_item;
 use crate::memory::PATTERN;
@@ -22,19 +22,14 @@ use cases::words::fill;
 use load::load;
 use loader::Loaded;
 
-fn loads(listing: &[u8], table: &mut [u32]) -> bool {
+// Whether a listing loads.
+fn loads(listing: &[u8], table: &mut [u32]) -> bool
+    ensures { λ r. ⌜ LoadsInto (now (listing .entry)) (now (table .entry)) (now (table .exit)) r ⌝ }
+{
     match load(listing, table) {
         Loaded::Done => true,
         Loaded::Refused(_, _) => false,
     }
-}
-
-fn say_item(name: u32, item: u64) {
-    say(b"case ");
-    say_number(name as u64);
-    say(b", item ");
-    say_number(item);
-    say(b" fails\n");
 }
 
 // How far a list of items has been run: the place after it, and how many items failed.
@@ -54,7 +49,8 @@ fn run_items(
     before: &mut [u32],
     kept: &mut [u32],
 ) -> Run
-    ensures { λ r. ⌜ r .failed ≤ count ⌝ }
+    ensures { λ r. ⌜ RanItems (now (s .entry)) from (now (table .entry)) (now (machine .entry)) (now (before .entry)) (now (kept .entry))
+        (now (table .exit)) (now (machine .exit)) (now (before .exit)) (now (kept .exit)) count r ⌝ }
 {
     let items = count as u64;
     let mut at = from;
@@ -62,7 +58,11 @@ fn run_items(
     let mut failed: u64 = 0;
     while done < items {
         if !run_item(s, at, table, machine, before, kept) {
-            say_item(name, done);
+            say(b"case ");
+            say_number(name as u64);
+            say(b", item ");
+            say_number(done);
+            say(b" fails\n");
             failed += 1;
         }
         at = after_item(s, at);
@@ -79,7 +79,10 @@ fn run_case(
     machine: &mut [u32],
     before: &mut [u32],
     kept: &mut [u32],
-) -> Run {
+) -> Run
+    ensures { λ r. ⌜ RanCase (now (s .entry)) at (now (table .entry)) (now (machine .entry)) (now (before .entry)) (now (kept .entry))
+        (now (table .exit)) (now (machine .exit)) (now (before .exit)) (now (kept .exit)) r ⌝ }
+{
     let name = word_at(s, at);
     let part = part_at(s, past(s, at, 4));
     let from = part.from;
@@ -108,7 +111,8 @@ fn run_file(
     before: &mut [u32],
     kept: &mut [u32],
 ) -> Tally
-    ensures { λ r. ⌜ (r .cases < 4294967296) × (r .failed ≤ r .cases) ⌝ }
+    ensures { λ r. ⌜ RanFile (now (s .entry)) (now (table .entry)) (now (machine .entry)) (now (before .entry)) (now (kept .entry))
+        (now (table .exit)) (now (machine .exit)) (now (before .exit)) (now (kept .exit)) r ⌝ }
 {
     let count = word_at(s, 0) as u64;
     let mut at = past(s, 0, 4);

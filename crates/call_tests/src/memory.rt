@@ -1,4 +1,8 @@
 // What a call must leave of the memories lent to it.
+ghost use mathlib.Core.Path.{_≡_};
+ghost use lib.ListN.{getD, set};
+ghost use Rattle.cases.specs.Words.{Tells};
+ghost use Rattle.call_tests.specs.Memories.{StoppedForm, MachineRight};
 use cases::words::all_are;
 use cases::words::all_from;
 use cases::words::same;
@@ -9,7 +13,9 @@ pub const PATTERN: u32 = 2779096485;
 pub const MEMORY: usize = 12288;
 
 // "The machine's first word holds the number (0 while running), its other 12,287 words are 0"
-fn stopped_form(machine: &[u32], number: u32) -> bool {
+fn stopped_form(machine: &[u32], number: u32) -> bool
+    ensures { λ r. ⌜ Tells r (StoppedForm (now (machine .entry)) number) ⌝ }
+{
     if machine.len() < MEMORY {
         return false;
     }
@@ -20,7 +26,9 @@ fn stopped_form(machine: &[u32], number: u32) -> bool {
 }
 
 // "Up to 12 a refusal leaves all lent memory untouched"; a stop leaves the stopped form; "Words past 12,288 are never touched."
-pub fn machine_right(machine: &[u32], before: &[u32], number: u32) -> bool {
+pub fn machine_right(machine: &[u32], before: &[u32], number: u32) -> bool
+    ensures { λ r. ⌜ Tells r (MachineRight (now (machine .entry)) (now (before .entry)) number) ⌝ }
+{
     if !all_from(machine, MEMORY, PATTERN) {
         return false;
     }
@@ -33,23 +41,10 @@ pub fn machine_right(machine: &[u32], before: &[u32], number: u32) -> bool {
     stopped_form(machine, number)
 }
 
-// "places after them stay": the places of both lists after those listed.
-pub fn rest_right(numbers: &[u32], values: &[u32], listed: usize) -> bool {
-    if !all_from(numbers, listed, PATTERN) {
-        return false;
-    }
-    all_from(values, listed, PATTERN)
-}
-
-// The highest bit of the first word turned.
-pub fn turn_first(words: &mut [u32]) {
-    if 0 < words.len() {
-        words[0] = std::num::wrapping_add_u32(words[0], 2147483648);
-    }
-}
-
 // The first word made w; answers what it was.
-pub fn swap_first(words: &mut [u32], w: u32) -> u32 {
+pub fn swap_first(words: &mut [u32], w: u32) -> u32
+    ensures { λ r. ⌜ (r ≡ getD (now (words .entry)) 0 0) × (now (words .exit) ≡ set (now (words .entry)) 0 w) ⌝ }
+{
     if words.len() == 0 {
         return 0;
     }

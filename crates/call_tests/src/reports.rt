@@ -1,11 +1,10 @@
 // The answer of a start or an instant call as document 01's figures. The place is always 0.
 ghost use mathlib.Core.Path.{_≡_};
-ghost use Rattle.walk.specs.Promises as walk;
 ghost use Rattle.walk.specs.Calls.{startCall, instantCall};
 ghost use Rattle.layout.specs.Layout.{layout};
 ghost use Rattle.engine.specs.Answers.{dueOf, resultOf};
 ghost use Rattle.cases.specs.Words.{Tells};
-ghost use Rattle.call_tests.specs.Reports.{dueFigure, ReportOf};
+ghost use Rattle.call_tests.specs.Reports.{dueFigure, ReportOf, Reported};
 use cases::report::say;
 use cases::report::say_number;
 use engine::Answer;
@@ -64,7 +63,9 @@ pub fn start_report(
     values: &mut [u32],
     allowance: u32,
 ) -> Report
-    ensures { λ r. ⌜ ReportOf (walk.resultOf (startCall layout (now (table .entry)) (now (machine .entry)) (now (numbers .entry)) (now (values .entry)) allowance)) r ⌝ }
+    ensures { λ r. ⌜ Reported (now (table .entry)) (now (machine .entry)) (now (numbers .entry)) (now (values .entry))
+        (now (machine .exit)) (now (numbers .exit)) (now (values .exit))
+        (startCall layout (now (table .entry)) (now (machine .entry)) (now (numbers .entry)) (now (values .entry)) allowance) r ⌝ }
 {
     let answer = engine::start(table, machine, numbers, values, allowance);
     report_of(answer)
@@ -81,8 +82,9 @@ pub fn instant_report(
     values: &mut [u32],
     allowance: u32,
 ) -> Report
-    ensures { λ r. ⌜ ReportOf (walk.resultOf (instantCall layout (now (table .entry)) (now (machine .entry)) t (now (ins .entry)) (now (news .entry))
-        (now (numbers .entry)) (now (values .entry)) allowance)) r ⌝ }
+    ensures { λ r. ⌜ Reported (now (table .entry)) (now (machine .entry)) (now (numbers .entry)) (now (values .entry))
+        (now (machine .exit)) (now (numbers .exit)) (now (values .exit))
+        (instantCall layout (now (table .entry)) (now (machine .entry)) t (now (ins .entry)) (now (news .entry)) (now (numbers .entry)) (now (values .entry)) allowance) r ⌝ }
 {
     let answer = engine::instant(table, machine, t, ins, news, numbers, values, allowance);
     report_of(answer)

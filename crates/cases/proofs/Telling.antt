@@ -17,6 +17,14 @@ tells-no differs = record { means = λ e. absurd (never e); whenever = λ a. abs
 pub tells-yes : {A : Type 0} → A → Tells true A
 tells-yes a = record { means = λ e. a; whenever = λ b. refl }
 
+-- the same answer to another question, where the two hold together
+pub tells-same : {A B : Type 0} {r : Bool} → (A → B) → (B → A) → Tells r A → Tells r B
+tells-same f g t = record { means = λ e. f (t .means e); whenever = λ b. t .whenever (g b) }
+
+-- no, where one question was answered no and the other is a part of it
+pub tells-else : {A B : Type 0} {r : Bool} → Tells r A → r ≡ false → (B → A) → Tells false B
+tells-else t e f = tells-no (λ b. never (sym e ∙ t .whenever (f b)))
+
 pub other-length : (a b : List ℕ) → (length a ≡ length b → ⊥) → Tells false (a ≡ b)
 other-length a b differs = tells-no (λ e. differs (ap length e))
 

@@ -1,9 +1,9 @@
 // The frame of a file of cases: words of 4 bytes, the lowest first, and parts, each a word, its length, and then so many bytes.
 // Past the end of the file every byte reads as 0, and every place is the end.
 ghost use mathlib.Core.Path.{_≡_};
-ghost use Prim.Native.Nat.{_+_, _*_, _<_, min};
-ghost use lib.ListN.{length, getD, drop};
-ghost use Rattle.cases.specs.Frame.{wordOf, PartAt};
+ghost use Prim.Native.Nat.{_<_};
+ghost use lib.ListN.{getD};
+ghost use Rattle.cases.specs.Frame.{wordOf, wordAt, onward, momentAt, PartAt};
 
 fn byte_at(s: &[u8], at: usize) -> u32
     ensures { λ r. ⌜ (r ≡ getD (now (s .entry)) at 0) × (r < 256) ⌝ }
@@ -27,7 +27,7 @@ fn first_word(s: &[u8]) -> u32
 
 // The word that stands at a place.
 pub fn word_at(s: &[u8], at: usize) -> u32
-    ensures { λ r. ⌜ r ≡ wordOf (drop at (now (s .entry))) ⌝ }
+    ensures { λ r. ⌜ r ≡ wordAt (now (s .entry)) at ⌝ }
 {
     if at > s.len() {
         return 0;
@@ -37,7 +37,7 @@ pub fn word_at(s: &[u8], at: usize) -> u32
 
 // The place so many bytes on, or the end.
 pub fn past(s: &[u8], at: usize, count: usize) -> usize
-    ensures { λ r. ⌜ r ≡ min (at + count) (length (now (s .entry))) ⌝ }
+    ensures { λ r. ⌜ r ≡ onward (now (s .entry)) at count ⌝ }
 {
     if at >= s.len() {
         return s.len();
@@ -66,7 +66,7 @@ pub fn part_at(s: &[u8], at: usize) -> Part
 
 // A moment: two words, the low one first.
 pub fn moment_at(s: &[u8], at: usize) -> u64
-    ensures { λ r. ⌜ r ≡ wordOf (drop at (now (s .entry))) + 4294967296 * wordOf (drop (min (at + 4) (length (now (s .entry)))) (now (s .entry))) ⌝ }
+    ensures { λ r. ⌜ r ≡ momentAt (now (s .entry)) at ⌝ }
 {
     let low = word_at(s, at);
     let high = word_at(s, past(s, at, 4));

@@ -1,4 +1,6 @@
 // Lines of a test program's report, to standard output.
+ghost use mathlib.Core.Path.{_≡_};
+ghost use lib.ListN.{length};
 ghost use Rattle.io.specs.Counts.{Counts};
 use libc::STDOUT_FILENO;
 
@@ -26,7 +28,7 @@ pub fn sum_up(title: &[u8], cases: u64, failed: u64) {
 
 // The bytes of a file, as many as the buffer holds; none if it cannot be opened, which is then said.
 pub fn read_file(path: &[u8], buffer: &mut [u8]) -> usize
-    ensures { λ r. ⌜ Counts r (now (buffer .exit)) ⌝ }
+    ensures { λ r. ⌜ Counts r (now (buffer .exit)) × (length (now (buffer .exit)) ≡ length (now (buffer .entry))) ⌝ }
 {
     let file = os::open_read(path);
     if file < 0 {

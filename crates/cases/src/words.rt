@@ -1,9 +1,8 @@
 // Words of lent memory: filled, copied and compared.
-ghost use mathlib.Core.Bool.{true};
 ghost use mathlib.Core.Path.{_≡_};
 ghost use Prim.Native.Nat.{min};
-ghost use lib.ListN.{length, replicate, take, drop};
-ghost use Rattle.cases.specs.Words.{Tells, copied};
+ghost use lib.ListN.{length, replicate, drop};
+ghost use Rattle.cases.specs.Words.{Tells, copied, Begin};
 
 // Every word made w.
 pub fn fill(m: &mut [u32], w: u32)
@@ -77,7 +76,7 @@ pub fn all_from(m: &[u32], from: usize, w: u32) -> bool
 
 // Have both memories so many words, and the same ones?
 pub fn same_to(a: &[u32], b: &[u32], count: usize) -> bool
-    ensures { λ r. ⌜ (r ≡ true → take count (now (a .entry)) ≡ take count (now (b .entry))) ⌝ }
+    ensures { λ r. ⌜ Tells r (Begin (now (a .entry)) (now (b .entry)) count) ⌝ }
 {
     if a.len() < count {
         return false;

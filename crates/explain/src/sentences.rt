@@ -1,10 +1,9 @@
 // What a listing has to meet, a rule for each question that the loader puts, and how to mend a listing that does not.
-// docs/LISTING.md quotes these sentences word for word ("The numbers"); whoever changes one changes it there too.
+// Each is the one of specs/Sentences, as the contract says.
 ghost use mathlib.Core.Path.{_≡_};
 ghost use Prim.Native.Nat.{_≤_, min};
-ghost use lib.ListN.{length};
-ghost use lib.Seq.{paste};
-ghost use Rattle.explain.specs.Written.{Front};
+ghost use Rattle.explain.specs.Sentences.{sentenceOf};
+ghost use Rattle.explain.specs.Written.{Written};
 
 fn least(a: usize, b: usize) -> usize
     ensures { λ r. ⌜ (r ≡ min a b) × (r ≤ a) × (r ≤ b) ⌝ }
@@ -14,9 +13,7 @@ fn least(a: usize, b: usize) -> usize
 
 // A text at the beginning of the lent bytes, as much of it as they hold; how many bytes.
 fn put(text: &[u8], out: &mut [u8]) -> usize
-    ensures { λ r. ⌜ r ≡ min (length (now (text .entry))) (length (now (out .entry))) ⌝ }
-    ensures { λ r. ⌜ now (out .exit) ≡ paste (now (out .entry)) 0 (now (text .entry)) r ⌝ }
-    ensures { λ r. ⌜ Front (now (out .entry)) (now (out .exit)) r ⌝ }
+    ensures { λ r. ⌜ Written (now (text .entry)) (now (out .entry)) (now (out .exit)) r ⌝ }
 {
     let n = least(text.len(), out.len());
     let mut i = 0;
@@ -29,7 +26,7 @@ fn put(text: &[u8], out: &mut [u8]) -> usize
 
 // The sentences for a question, put at the beginning of the lent bytes, as much as they hold; how many bytes. None for other numbers.
 pub fn sentence(number: u32, out: &mut [u8]) -> usize
-    ensures { λ r. ⌜ Front (now (out .entry)) (now (out .exit)) r ⌝ }
+    ensures { λ r. ⌜ Written (sentenceOf number) (now (out .entry)) (now (out .exit)) r ⌝ }
 {
     match number {
         1 => put(
@@ -52,6 +49,6 @@ pub fn sentence(number: u32, out: &mut [u8]) -> usize
             b"Every routine has an instruction, and its last is E or G. Add the missing E or G after the line.",
             out,
         ),
-        _ => 0,
+        _ => put(b"", out),
     }
 }

@@ -2,10 +2,11 @@
 ghost use mathlib.Core.List.{List};
 ghost use mathlib.Core.Path.{_≡_};
 ghost use Prim.Native.Nat.{ℕ};
-ghost use lib.ListN.{length};
 ghost use Rattle.cases.specs.Words.{Tells};
+ghost use Rattle.layout.specs.Layout.{layout};
 ghost use Rattle.listing.specs.Load.{loading, isLongEnough};
 ghost use Rattle.loader.specs.Outcome.{outcomeOf};
+ghost use Rattle.walk.specs.Promises.{TableAfter};
 ghost use Rattle.load_tests.specs.Cases.{FiguresOf};
 use load::load;
 use loader::Loaded;
@@ -29,7 +30,8 @@ fn figures_of(answer: Loaded) -> Figures
 
 // The figures of loading a listing into a table.
 pub fn load_figures(listing: &[u8], table: &mut [u32]) -> Figures
-    ensures { λ r. ⌜ FiguresOf (loading (isLongEnough (now (table .entry))) (now (listing .entry))) r × (length (now (table .exit)) ≡ length (now (table .entry))) ⌝ }
+    ensures { λ r. ⌜ FiguresOf (loading (isLongEnough (now (table .entry))) (now (listing .entry))) r
+        × TableAfter layout (now (table .entry)) (now (table .exit)) (loading (isLongEnough (now (table .entry))) (now (listing .entry))) ⌝ }
 {
     let answer = load(listing, table);
     figures_of(answer)

@@ -3,9 +3,9 @@
 pub mod figures;
 
 ghost use mathlib.Core.Path.{_≡_};
-ghost use Prim.Native.Nat.{_≤_, _<_};
 ghost use Rattle.cases.specs.Words.{Tells};
-ghost use Rattle.load_tests.specs.Cases.{Inside, PassesAs};
+ghost use Rattle.load_tests.specs.Cases.{CaseAt, Untouched, Written, TablesRight, Ran};
+ghost use Rattle.load_tests.specs.Files.{RanFile, RanSome, RanShort};
 use crate::figures::Figures;
 use crate::figures::load_figures;
 use crate::figures::same_figures;
@@ -16,6 +16,7 @@ use cases::report::read_file;
 use cases::report::say;
 use cases::report::say_number;
 use cases::report::sum_up;
+use cases::words::all_are;
 use cases::words::all_from;
 use cases::words::fill;
 use cases::words::same_to;
@@ -40,7 +41,7 @@ pub struct Case {
 }
 
 fn case_at(s: &[u8], at: usize) -> Case
-    ensures { λ r. ⌜ Inside (now (s .entry)) r ⌝ }
+    ensures { λ r. ⌜ CaseAt (now (s .entry)) at r ⌝ }
 {
     let name = word_at(s, at);
     let part = part_at(s, past(s, at, 4));
@@ -60,65 +61,74 @@ fn case_at(s: &[u8], at: usize) -> Case
     }
 }
 
-fn say_figures(name: u32, expected: Figures, found: Figures) {
-    say(b"case ");
-    say_number(name as u64);
-    say(b": expected ");
-    say_number(expected.number as u64);
-    say(b" at ");
-    say_number(expected.place as u64);
-    say(b", found ");
-    say_number(found.number as u64);
-    say(b" at ");
-    say_number(found.place as u64);
-    say(b"\n");
-}
-
 // Are the figures those expected? If not it says so.
 fn agree(name: u32, expected: Figures, found: Figures) -> bool
     ensures { λ r. ⌜ Tells r (expected ≡ found) ⌝ }
 {
     let same = same_figures(expected, found);
     if !same {
-        say_figures(name, expected, found);
+        say(b"case ");
+        say_number(name as u64);
+        say(b": expected ");
+        say_number(expected.number as u64);
+        say(b" at ");
+        say_number(expected.place as u64);
+        say(b", found ");
+        say_number(found.number as u64);
+        say(b" at ");
+        say_number(found.place as u64);
+        say(b"\n");
     }
     same
 }
 
-// "The loader clears the table's unused words among the 12,288": after loading, those that no listing uses.
-fn unused_clear(table: &[u32], number: u32) -> bool {
-    if number != 0 {
-        return true;
+// After a call on two tables, one of PATTERN alone and one of 0 alone: are they still so?
+fn untouched(table: &[u32], other: &[u32]) -> bool
+    ensures { λ r. ⌜ Tells r (Untouched (now (table .entry)) (now (other .entry))) ⌝ }
+{
+    if !all_are(table, PATTERN) {
+        return false;
     }
-    if table.len() < MEMORY {
+    all_are(other, 0)
+}
+
+// Are they as loading must leave them?
+fn written(table: &[u32], other: &[u32]) -> bool
+    ensures { λ r. ⌜ Tells r (Written (now (table .entry)) (now (other .entry))) ⌝ }
+{
+    if !all_from(table, MEMORY, PATTERN) {
+        return false;
+    }
+    if !all_from(other, MEMORY, 0) {
+        return false;
+    }
+    if !same_to(table, other, MEMORY) {
         return false;
     }
     all_from(&table[..12288], UNUSED, 0)
 }
 
-// After a call with this number on two tables, one of PATTERN alone and one of 0 alone: "a refusal leaves all lent memory untouched",
-// "Words past 12,288 are never touched", and all others are the same, whatever the tables held before.
-fn tables_right(table: &[u32], other: &[u32], number: u32) -> bool {
-    let mut from: usize = 0;
+// Are they as a call with this number must leave them?
+fn as_left(table: &[u32], other: &[u32], number: u32) -> bool
+    ensures { λ r. ⌜ Tells r (TablesRight number (now (table .entry)) (now (other .entry))) ⌝ }
+{
     if number == 0 {
-        from = MEMORY;
+        return written(table, other);
     }
-    if !all_from(table, from, PATTERN) {
-        return false;
-    }
-    if !all_from(other, from, 0) {
-        return false;
-    }
-    if !unused_clear(table, number) {
-        return false;
-    }
-    same_to(table, other, from)
+    untouched(table, other)
 }
 
-fn say_tables(name: u32) {
-    say(b"case ");
-    say_number(name as u64);
-    say(b": a table is not as it must be\n");
+// The same; if they are not, it says so.
+fn tables_right(name: u32, table: &[u32], other: &[u32], number: u32) -> bool
+    ensures { λ r. ⌜ Tells r (TablesRight number (now (table .entry)) (now (other .entry))) ⌝ }
+{
+    let right = as_left(table, other, number);
+    if !right {
+        say(b"case ");
+        say_number(name as u64);
+        say(b": a table is not as it must be\n");
+    }
+    right
 }
 
 // Loads a listing into two tables. Are the figures those expected, and the tables as they must be?
@@ -129,7 +139,7 @@ fn run_case(
     name: u32,
     expected: Figures,
 ) -> bool
-    ensures { λ r. ⌜ PassesAs (now (listing .entry)) (now (table .entry)) expected r ⌝ }
+    ensures { λ r. ⌜ Ran (now (listing .entry)) (now (table .entry)) (now (other .entry)) (now (table .exit)) (now (other .exit)) expected r ⌝ }
 {
     fill(table, PATTERN);
     fill(other, 0);
@@ -141,11 +151,7 @@ fn run_case(
     if !agree(name, expected, again) {
         return false;
     }
-    if !tables_right(table, other, found.number) {
-        say_tables(name);
-        return false;
-    }
-    true
+    tables_right(name, table, other, found.number)
 }
 
 // How many cases there were, and how many of them failed.
@@ -156,7 +162,7 @@ pub struct Tally {
 
 // All cases of a file: their number, then each of them.
 fn run_file(s: &[u8], table: &mut [u32], other: &mut [u32]) -> Tally
-    ensures { λ r. ⌜ (r .cases < 4294967296) × (r .failed ≤ r .cases) ⌝ }
+    ensures { λ r. ⌜ RanFile (now (s .entry)) (now (table .entry)) (now (other .entry)) (now (table .exit)) (now (other .exit)) r ⌝ }
 {
     let count = word_at(s, 0) as u64;
     let mut at = past(s, 0, 4);
@@ -183,7 +189,7 @@ fn run_file(s: &[u8], table: &mut [u32], other: &mut [u32]) -> Tally
 }
 
 fn run_path(path: &[u8], table: &mut [u32], other: &mut [u32]) -> Tally
-    ensures { λ r. ⌜ (r .cases < 4294967296) × (r .failed ≤ r .cases) ⌝ }
+    ensures { λ r. ⌜ RanSome (now (table .entry)) (now (other .entry)) (now (table .exit)) (now (other .exit)) r ⌝ }
 {
     let mut file = io::large_buffer();
     let length = read_file(path, &mut file);
@@ -192,7 +198,7 @@ fn run_path(path: &[u8], table: &mut [u32], other: &mut [u32]) -> Tally
 
 // Question 1: "Table 12,288 words of 32 bits", one word too few. 1 if the case fails.
 fn short_tables(table: &mut [u32], other: &mut [u32]) -> u64
-    ensures { λ r. ⌜ r ≤ 1 ⌝ }
+    ensures { λ r. ⌜ RanShort (now (table .entry)) (now (other .entry)) (now (table .exit)) (now (other .exit)) r ⌝ }
 {
     if table.len() < 12287 {
         return 1;

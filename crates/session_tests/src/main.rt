@@ -2,8 +2,10 @@
 // Prints the name of each session that fails, and then how many agree.
 pub mod playing;
 
-ghost use Prim.Native.Nat.{_≤_, _<_};
-ghost use Rattle.session_tests.specs.Cases.{Inside};
+ghost use mathlib.Core.Bool.{true};
+ghost use mathlib.Core.Path.{_≡_};
+ghost use Rattle.session_tests.specs.Cases.{CaseAt, Inside, Agrees, Ran};
+ghost use Rattle.session_tests.specs.Playing.{AsLong};
 use crate::playing::plays;
 use cases::frame::part_at;
 use cases::frame::past;
@@ -25,7 +27,7 @@ pub struct Case {
 }
 
 fn case_at(s: &[u8], at: usize) -> Case
-    ensures { λ r. ⌜ Inside (now (s .entry)) r ⌝ }
+    ensures { λ r. ⌜ CaseAt (now (s .entry)) at r × Inside (now (s .entry)) r ⌝ }
 {
     let name = word_at(s, at);
     let listing = part_at(s, past(s, at, 4));
@@ -55,6 +57,9 @@ fn run_case(
     out: &mut [u8],
 ) -> bool
     requires { ⌜ Inside (now s) case ⌝ }
+    ensures { λ r. ⌜ (r ≡ true → Agrees (now (s .entry)) case)
+        × AsLong (now (table .entry)) (now (machine .entry)) (now (ins .entry)) (now (news .entry)) (now (numbers .entry)) (now (values .entry)) (now (out .entry))
+        (now (table .exit)) (now (machine .exit)) (now (ins .exit)) (now (news .exit)) (now (numbers .exit)) (now (values .exit)) (now (out .exit)) ⌝ }
 {
     let listing = case.listing;
     let listing_to = case.listing_to;
@@ -99,7 +104,9 @@ fn run_file(
     values: &mut [u32],
     out: &mut [u8],
 ) -> Tally
-    ensures { λ r. ⌜ (r .cases < 4294967296) × (r .failed ≤ r .cases) ⌝ }
+    ensures { λ r. ⌜ Ran (now (s .entry)) r
+        × AsLong (now (table .entry)) (now (machine .entry)) (now (ins .entry)) (now (news .entry)) (now (numbers .entry)) (now (values .entry)) (now (out .entry))
+        (now (table .exit)) (now (machine .exit)) (now (ins .exit)) (now (news .exit)) (now (numbers .exit)) (now (values .exit)) (now (out .exit)) ⌝ }
 {
     let count = word_at(s, 0) as u64;
     let mut at = past(s, 0, 4);

@@ -1,4 +1,8 @@
 // One session, step by step, each piece held against the stored print.
+ghost use mathlib.Core.Path.{_≡_};
+ghost use Rattle.replay.specs.declared.phase.Phase.the-variants.{Over};
+ghost use Rattle.cases.specs.Words.{Tells};
+ghost use Rattle.session_tests.specs.Playing.{Follows, Takes, AsLong, Plays};
 use replay::Advanced;
 use replay::Phase;
 use replay::advance;
@@ -10,7 +14,9 @@ pub enum Followed {
 }
 
 // Do the first n bytes of `out` stand in the print at a place?
-fn follows(print: &[u8], at: usize, out: &[u8], n: usize) -> Followed {
+fn follows(print: &[u8], at: usize, out: &[u8], n: usize) -> Followed
+    ensures { λ r. ⌜ Follows (now (print .entry)) at (now (out .entry)) n r ⌝ }
+{
     if out.len() < n {
         return Followed::Differs;
     }
@@ -46,7 +52,12 @@ fn take_step(
     out: &mut [u8],
     phase: Phase,
     at: usize,
-) -> Taken {
+) -> Taken
+    ensures { λ r. ⌜ Takes (now (listing .entry)) (now (trace .entry)) (now (print .entry)) (now (table .entry)) (now (machine .entry)) (now (ins .entry)) (now (news .entry)) phase at
+        (now (table .exit)) (now (machine .exit)) (now (ins .exit)) (now (news .exit)) (now (out .exit)) r
+        × AsLong (now (table .entry)) (now (machine .entry)) (now (ins .entry)) (now (news .entry)) (now (numbers .entry)) (now (values .entry)) (now (out .entry))
+        (now (table .exit)) (now (machine .exit)) (now (ins .exit)) (now (news .exit)) (now (numbers .exit)) (now (values .exit)) (now (out .exit)) ⌝ }
+{
     match advance(
         listing,
         trace,
@@ -67,7 +78,9 @@ fn take_step(
     }
 }
 
-fn is_over(phase: Phase) -> bool {
+fn is_over(phase: Phase) -> bool
+    ensures { λ r. ⌜ Tells r (phase ≡ Over) ⌝ }
+{
     if let Phase::Over = phase { true } else { false }
 }
 
@@ -83,7 +96,11 @@ pub fn plays(
     numbers: &mut [u32],
     values: &mut [u32],
     out: &mut [u8],
-) -> bool {
+) -> bool
+    ensures { λ r. ⌜ Plays (now (listing .entry)) (now (trace .entry)) (now (print .entry)) r
+        × AsLong (now (table .entry)) (now (machine .entry)) (now (ins .entry)) (now (news .entry)) (now (numbers .entry)) (now (values .entry)) (now (out .entry))
+        (now (table .exit)) (now (machine .exit)) (now (ins .exit)) (now (news .exit)) (now (numbers .exit)) (now (values .exit)) (now (out .exit)) ⌝ }
+{
     let mut phase = Phase::Opening;
     let mut at: usize = 0;
     let mut turns: u32 = 100000;

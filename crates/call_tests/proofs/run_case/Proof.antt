@@ -1,4 +1,7 @@
-use mathlib.Core.Path.{refl, _∙_}
+use mathlib.Core.Path.{ap, _∙_}
+use denote.Ref.{now}
+use lib.ListN.{length}
+use Rattle.call_tests.proofs.Casing.{case-ran}
 use borrow.Author.Needs.{needs}
 use Rattle.call_tests.proofs.run_case.Statement.{statement}
 use Rattle.call_tests.proofs.run_case.Tie as tie
@@ -46,19 +49,34 @@ run-items-requires : tie.Need-run-items-requires
 run-items-requires c κs = tt
 
 same-length : tie.Need-same-length
-same-length c = c .before .before .before .before .before .before .before .before .run-items .kept .1 .1 .1 .1 .0 ∙ (c .before .before .before .before .before .before .before .before .before .before .before .before .before .before .before .before .before .before .loads .kept .1 .0 ∙ c .before .before .before .before .before .before .before .before .before .before .before .before .before .before .before .before .before .before .before .before .before .before .before .before .before .before .before .fill .kept .0)
+same-length c =
+    ap length (c .before .before .before .before .before .before .before .before .run-items .ensures .memories .tableIs) ∙ (c .before .before .before .before .before .before .before .before .before .before .before .before .before .before .before .before .before .before .loads .kept .1 .0 ∙ c .before .before .before .before .before .before .before .before .before .before .before .before .before .before .before .before .before .before .before .before .before .before .before .before .before .before .before .fill .kept .0)
 
 same-length-2 : tie.Need-same-length-2
-same-length-2 c = c .before .before .before .before .before .before .before .before .run-items .kept .1 .1 .1 .1 .1 .0 ∙ c .before .before .before .before .before .before .before .before .before .before .before .before .before .before .before .before .before .before .before .before .before .before .before .fill2 .kept .0
+same-length-2 c =
+    c .before .before .before .before .before .before .before .before .run-items .ensures .memories .as-long ∙ c .before .before .before .before .before .before .before .before .before .before .before .before .before .before .before .before .before .before .before .before .before .before .before .fill2 .kept .0
 
 same-length-3 : tie.Need-same-length-3
-same-length-3 c = c .before .before .before .before .before .before .before .before .run-items .kept .1 .1 .1 .1 .1 .1 .0
+same-length-3 c =
+    c .before .before .before .before .before .before .before .before .run-items .ensures .memories .before-as-long
 
 same-length-4 : tie.Need-same-length-4
-same-length-4 c = c .before .before .before .before .before .before .before .before .run-items .kept .1 .1 .1 .1 .1 .1 .1 .0
+same-length-4 c =
+    c .before .before .before .before .before .before .before .before .run-items .ensures .memories .kept-as-long
 
 returns : tie.Need-returns
-returns c = tt
+returns c =
+    let a = c .before .before .before .before .before .before .before .before .before .before .before .before .before .before .before .before .before .before .before .before .before .before .before .before .before .before .before .before .before .before .before .before .before .before .before .before .before .args in
+    let part = c .before .before .before .before .before .before .before .before .before .before .before .before .before .before .before .before .before .before .before .before .before .before .before .before .before .before .before .before .before .part-at in
+    let r = c .before .before .before .before .before .before .before .before .run-items in
+    let l = c .before .before .before .before .before .before .before .before .before .before .before .before .before .before .before .before .before .before .loads in
+    let f = c .before .before .before .before .before .before .before .before .before .before .before .before .before .before .before .before .before .before .before .before .before .before .before .before .before .before .before .fill in
+    let m = c .before .before .before .before .before .before .before .before .before .before .before .before .before .before .before .before .before .before .before .before .before .before .before .fill2 in
+    case-ran (now (a .s)) (a .at) (c .before .before .before .before .before .before .before .before .before .before .before .before .before .before .before .before .before .before .before .before .before .before .before .before .before .before .before .before .before .before .past .result) (part .result .from) (part .result .to) (c .before .before .before .before .before .before .before .before .before .before .before .before .before .past2 .result) (c .before .before .before .before .before .before .before .before .before .before .before .before .before .before .word-at2 .result)
+    (now (a .table)) (now (a .machine)) (now (a .before)) (now (a .kept)) (f .last .0) (m .last .0) (l .last .1 .0) (r .last .1 .1 .1 .1 .0) (r .last .1 .1 .1 .1 .1 .0)
+    (r .last .1 .1 .1 .1 .1 .1 .0) (r .last .1 .1 .1 .1 .1 .1 .1 .0) (r .result)
+    (c .before .before .before .before .before .before .before .before .before .before .before .before .before .before .before .before .before .before .before .before .before .before .before .before .before .before .before .before .before .before .past .ensures) (part .ensures .begins) (part .ensures .ends) (c .before .before .before .before .before .before .before .before .before .before .before .before .before .past2 .ensures) (c .before .before .before .before .before .before .before .before .before .before .before .before .before .before .word-at2 .ensures)
+    (f .ensures) (m .kept .0) (l .ensures) (l .kept .1 .0 ∙ f .kept .0) (r .ensures)
 
 pub run-case-spec : {M : Type 1} → statement M
 run-case-spec =

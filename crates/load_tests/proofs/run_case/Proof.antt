@@ -1,96 +1,62 @@
-use borrow.Author.Tests.{not-false}
-use denote.Ref.{now}
-use Rattle.load_tests.proofs.Passing.{no-claim, passed}
+use borrow.Author.Tests.{not-true, not-false}
+use Rattle.load_tests.proofs.Passing.{first-differs, second-differs, by-tables}
 use borrow.Author.Needs.{needs}
 use Rattle.load_tests.proofs.run_case.Statement.{statement}
 use Rattle.load_tests.proofs.run_case.Tie as tie
-use Rattle.load_tests.proofs.run_case.Reads as reads
-use Rattle.load_tests.proofs.run_case.Lts as lts
-use Rattle.cases.proofs.words.fill.Reads as fill-reads
-use Rattle.load_tests.proofs.agree.Reads as agree-reads
-use Rattle.load_tests.proofs.figures.load_figures.Reads as load-figures-reads
-use Rattle.load_tests.proofs.say_tables.Reads as say-tables-reads
-use Rattle.load_tests.proofs.tables_right.Reads as tables-right-reads
 
--- src/main.rt:109:5
 fill-requires : tie.Need-fill-requires
-fill-requires c κs = search needs
+fill-requires c κs = tt
 
--- src/main.rt:110:5
 fill-requires-2 : tie.Need-fill-requires-2
-fill-requires-2 c κs = search needs
+fill-requires-2 c κs = tt
 
--- src/main.rt:111:9
 load-figures-requires : tie.Need-load-figures-requires
-load-figures-requires c κs = search needs
+load-figures-requires c κs = tt
 
--- src/main.rt:112:9
 load-figures-requires-2 : tie.Need-load-figures-requires-2
-load-figures-requires-2 c κs = search needs
+load-figures-requires-2 c κs = tt
 
--- src/main.rt:113:9
 agree-requires : tie.Need-agree-requires
-agree-requires c κs = search needs
+agree-requires c κs = tt
 
--- src/main.rt:114:9
 same-length : tie.Need-same-length
 same-length c = search needs
 
--- src/main.rt:114:9
 same-length-2 : tie.Need-same-length-2
 same-length-2 c = search needs
 
--- src/main.rt:114:9
 returns : tie.Need-returns
-returns c = no-claim _ _ _
+returns c =
+    first-differs (c .before .before .before .before .before .before .before .before .before .before .before .before .before .before .before .before .fill .ensures) (c .before .before .before .before .before .before .before .before .before .before .before .before .fill2 .ensures) (c .before .before .before .before .before .before .before .before .load-figures .ensures) (c .before .before .before .before .load-figures2 .ensures)
+    (c .before .agree .ensures) (not-true _ (c .if1 .taken))
 
--- src/main.rt:116:9
 agree-requires-2 : tie.Need-agree-requires-2
-agree-requires-2 c κs = search needs
+agree-requires-2 c κs = tt
 
--- src/main.rt:117:9
 same-length-3 : tie.Need-same-length-3
 same-length-3 c = search needs
 
--- src/main.rt:117:9
 same-length-4 : tie.Need-same-length-4
 same-length-4 c = search needs
 
--- src/main.rt:117:9
 returns-2 : tie.Need-returns-2
-returns-2 c = no-claim _ _ _
+returns-2 c =
+    second-differs (c .before .before .before .before .before .before .before .before .before .before .before .before .before .before .before .before .before .before .fill .ensures) (c .before .before .before .before .before .before .before .before .before .before .before .before .before .before .fill2 .ensures) (c .before .before .before .before .before .before .before .before .before .before .load-figures .ensures) (c .before .before .before .before .before .before .load-figures2 .ensures)
+    (c .before .agree2 .ensures) (not-true _ (c .if2 .taken))
 
--- src/main.rt:119:9
 tables-right-requires : tie.Need-tables-right-requires
-tables-right-requires c κs = search needs
+tables-right-requires c κs = tt
 
--- src/main.rt:120:9
-say-tables-requires : tie.Need-say-tables-requires
-say-tables-requires c κs = search needs
-
--- src/main.rt:121:9
 same-length-5 : tie.Need-same-length-5
 same-length-5 c = search needs
 
--- src/main.rt:121:9
 same-length-6 : tie.Need-same-length-6
 same-length-6 c = search needs
 
--- src/main.rt:121:9
 returns-3 : tie.Need-returns-3
-returns-3 c = no-claim _ _ _
-
--- src/main.rt:106:1
-same-length-7 : tie.Need-same-length-7
-same-length-7 c = search needs
-
--- src/main.rt:106:1
-same-length-8 : tie.Need-same-length-8
-same-length-8 c = search needs
-
--- src/main.rt:106:1
-returns-4 : tie.Need-returns-4
-returns-4 c = passed _ _ _ _ _ _ _ _ (c .before .before .before .before .before .before .before .before .before .before .before .before .before .before .before .before .before .before .before .before .before .before .fill .ensures) (c .before .before .before .before .before .before .before .before .before .before .before .before .before .before .load-figures .ensures .0) (c .before .before .before .before .before .before .before .agree .ensures) (not-false _ (c .before .before .before .before .before .before .if1 .left))
+returns-3 c =
+    by-tables (c .before .before .before .before .before .before .before .before .before .before .before .before .before .before .before .before .before .before .before .before .before .fill .ensures) (c .before .before .before .before .before .before .before .before .before .before .before .before .before .before .before .before .before .fill2 .ensures) (c .before .before .before .before .before .before .before .before .before .before .before .before .before .load-figures .ensures) (c .before .before .before .before .before .before .before .before .before .load-figures2 .ensures)
+    (c .before .before .before .before .before .before .agree .ensures) (not-false _ (c .before .before .before .before .before .if1 .left)) (c .before .before .before .before .agree2 .ensures) (not-false _ (c .before .before .before .if2 .left)) (c .tables-right .ensures)
 
 pub run-case-spec : {M : Type 1} → statement M
 run-case-spec =
@@ -109,10 +75,6 @@ run-case-spec =
     same-length-4
     returns-2
     tables-right-requires
-    say-tables-requires
     same-length-5
     same-length-6
-    returns-3
-    same-length-7
-    same-length-8
-    returns-4)
+    returns-3)

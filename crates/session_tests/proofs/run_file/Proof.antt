@@ -2,94 +2,102 @@ use mathlib.Core.Path.{_≡_, refl, _∙_}
 use mathlib.Core.Logic.{⊎-elim}
 use native.Mathlib.Omega.{arith}
 use Prim.Native.Nat.{_-_, _≤_, _<_}
-use lib.ListN.{length}
+use borrow.Author.Tests.{not-false}
+use Rattle.cases.specs.Frame.{wordAt, onward}
+use Rattle.session_tests.specs.Playing.{AsLong}
+use Rattle.session_tests.proofs.Turning.{Rest, begun, one-agrees, one-fails, ended}
 use borrow.Author.Needs.{needs}
 use Rattle.session_tests.proofs.run_file.Statement.{statement}
 use Rattle.session_tests.proofs.run_file.Tie as tie
-use Rattle.session_tests.proofs.run_file.Reads as reads
-use Rattle.session_tests.proofs.run_file.Lts as lts
-use Rattle.cases.proofs.frame.past.Reads as past-reads
-use Rattle.cases.proofs.frame.word_at.Reads as word-at-reads
-use Rattle.session_tests.proofs.case_at.Reads as case-at-reads
-use Rattle.session_tests.proofs.run_case.Reads as run-case-reads
 
 abbrev Inv-loop : tie.InvT-loop
-Inv-loop s table₀ machine₀ ins₀ news₀ numbers₀ values₀ out₀ count at₀ done₀ failed₀ table machine ins news numbers values out at done failed = (count < 4294967296) × (done ≤ count) × (failed ≤ done) × (length table ≡ length table₀) × (length machine ≡ length machine₀) × (length ins ≡ length ins₀) × (length news ≡ length news₀) × (length numbers ≡ length numbers₀) × (length values ≡ length values₀) × (length out ≡ length out₀)
+Inv-loop s table₀ machine₀ ins₀ news₀ numbers₀ values₀ out₀ count at₀ done₀ failed₀ table machine ins news numbers values out at done failed =
+    (count ≡ wordAt s 0) × (count < 4294967296) × (done ≤ count) × (failed ≤ done) × AsLong table₀ machine₀ ins₀ news₀ numbers₀ values₀ out₀ table machine ins news numbers values out × Rest s (onward s 0 4) count at done failed
 
 abbrev μ-loop : tie.MeasureT-loop
 μ-loop s table₀ machine₀ ins₀ news₀ numbers₀ values₀ out₀ count at₀ done₀ failed₀ table machine ins news numbers values out at done failed = count - done
 
--- src/main.rt:93:17
 word-at-requires : tie.Need-word-at-requires Inv-loop μ-loop
-word-at-requires c κs = search needs
+word-at-requires c κs =
+    tt
 
--- src/main.rt:93:17
 cast-count : tie.Need-cast-count Inv-loop μ-loop
 cast-count c = search needs
 
--- src/main.rt:94:9
 past-requires : tie.Need-past-requires Inv-loop μ-loop
-past-requires c κs = search needs
+past-requires c κs =
+    tt
 
--- src/main.rt:97:5
 loop-holds : tie.Need-loop-holds Inv-loop μ-loop
-loop-holds c = search needs
+loop-holds c =
+    (c .before .word-at .ensures, omega arith, omega arith, omega arith, record { tableIs = refl; machineIs = refl; insAre = refl; newsAre = refl; numbersAre = refl; valuesAre = refl; outIs = refl }, begun (c .past .ensures))
 
--- src/main.rt:98:13
 case-at-requires : tie.Need-case-at-requires Inv-loop μ-loop
-case-at-requires c κs = search needs
+case-at-requires c κs =
+    tt
 
--- src/main.rt:99:13
 run-case-requires : tie.Need-run-case-requires Inv-loop μ-loop
-run-case-requires c κs = search needs
+run-case-requires c κs =
+    c .before .before .before .before .before .before .before .case-at .ensures .1
 
--- src/main.rt:100:13
 add-failed : tie.Need-add-failed Inv-loop μ-loop
 add-failed c = omega arith
 
--- src/main.rt:103:9
 add-done : tie.Need-add-done Inv-loop μ-loop
 add-done c = omega arith
 
--- src/main.rt:97:5
 loop-less : tie.Need-loop-less Inv-loop μ-loop
 loop-less c = omega arith
 
--- src/main.rt:97:5
 loop-again : tie.Need-loop-again Inv-loop μ-loop
-loop-again c = (omega arith, omega arith, ⊎-elim (λ w. omega arith) (λ w. omega arith) (c .if1 .came), c .before .before .before .before .before .before .before .before .before .before .before .before .before .before .before .run-case .kept .1 .1 .0 ∙ c .before .before .before .before .before .before .before .before .before .before .before .before .before .before .before .before .before .before .before .before .before .before .before .before .before .loop .inv .3, c .before .before .before .before .before .before .before .before .before .before .before .before .before .before .before .run-case .kept .1 .1 .1 .0 ∙ c .before .before .before .before .before .before .before .before .before .before .before .before .before .before .before .before .before .before .before .before .before .before .before .before .before .loop .inv .4, c .before .before .before .before .before .before .before .before .before .before .before .before .before .before .before .run-case .kept .1 .1 .1 .1 .0 ∙ c .before .before .before .before .before .before .before .before .before .before .before .before .before .before .before .before .before .before .before .before .before .before .before .before .before .loop .inv .5, c .before .before .before .before .before .before .before .before .before .before .before .before .before .before .before .run-case .kept .1 .1 .1 .1 .1 .0 ∙ c .before .before .before .before .before .before .before .before .before .before .before .before .before .before .before .before .before .before .before .before .before .before .before .before .before .loop .inv .6, c .before .before .before .before .before .before .before .before .before .before .before .before .before .before .before .run-case .kept .1 .1 .1 .1 .1 .1 .0 ∙ c .before .before .before .before .before .before .before .before .before .before .before .before .before .before .before .before .before .before .before .before .before .before .before .before .before .loop .inv .7, c .before .before .before .before .before .before .before .before .before .before .before .before .before .before .before .run-case .kept .1 .1 .1 .1 .1 .1 .1 .0 ∙ c .before .before .before .before .before .before .before .before .before .before .before .before .before .before .before .before .before .before .before .before .before .before .before .before .before .loop .inv .8, c .before .before .before .before .before .before .before .before .before .before .before .before .before .before .before .run-case .kept .1 .1 .1 .1 .1 .1 .1 .1 .0 ∙ c .before .before .before .before .before .before .before .before .before .before .before .before .before .before .before .before .before .before .before .before .before .before .before .before .before .loop .inv .9)
+loop-again c =
+    let i = c .before .before .before .before .before .before .before .before .before .before .before .before .before .before .before .before .before .before .before .before .before .before .before .before .before .loop .inv in
+    let r = c .before .before .before .before .before .before .before .before .before .before .before .before .before .before .before .run-case .ensures in
+    let case = c .before .before .before .before .before .before .before .before .before .before .before .before .before .before .before .before .before .before .before .before .before .before .before .case-at in (
+      i .0,
+      i .1,
+      omega arith,
+      ⊎-elim (λ w. omega arith) (λ w. omega arith) (c .if1 .came),
+      record { tableIs = r .1 .tableIs ∙ i .4 .tableIs; machineIs = r .1 .machineIs ∙ i .4 .machineIs; insAre = r .1 .insAre ∙ i .4 .insAre; newsAre = r .1 .newsAre ∙ i .4 .newsAre; numbersAre = r .1 .numbersAre ∙ i .4 .numbersAre; valuesAre = r .1 .valuesAre ∙ i .4 .valuesAre; outIs = r .1 .outIs ∙ i .4 .outIs },
+      ⊎-elim
+          (λ w. one-fails (c .before .before .before .before .before .before .before .before .before .before .before .before .before .before .before .before .before .before .before .before .before .before .before .before .before .loop .failed) (w .1))
+          (λ w. one-agrees (case .result) (case .ensures .0) (r .0 (not-false _ (w .0 .left))) (c .before .before .before .before .before .before .before .before .before .before .before .before .before .before .before .before .before .before .before .before .before .before .before .before .loop-test .taken) (w .1) (i .5))
+          (c .if1 .came),
+    )
 
--- src/main.rt:81:1
 same-length : tie.Need-same-length Inv-loop μ-loop
-same-length c = c .before .loop .inv .3
+same-length c =
+    c .before .loop .inv .4 .tableIs
 
--- src/main.rt:81:1
 same-length-2 : tie.Need-same-length-2 Inv-loop μ-loop
-same-length-2 c = c .before .loop .inv .4
+same-length-2 c =
+    c .before .loop .inv .4 .machineIs
 
--- src/main.rt:81:1
 same-length-3 : tie.Need-same-length-3 Inv-loop μ-loop
-same-length-3 c = c .before .loop .inv .5
+same-length-3 c =
+    c .before .loop .inv .4 .insAre
 
--- src/main.rt:81:1
 same-length-4 : tie.Need-same-length-4 Inv-loop μ-loop
-same-length-4 c = c .before .loop .inv .6
+same-length-4 c =
+    c .before .loop .inv .4 .newsAre
 
--- src/main.rt:81:1
 same-length-5 : tie.Need-same-length-5 Inv-loop μ-loop
-same-length-5 c = c .before .loop .inv .7
+same-length-5 c =
+    c .before .loop .inv .4 .numbersAre
 
--- src/main.rt:81:1
 same-length-6 : tie.Need-same-length-6 Inv-loop μ-loop
-same-length-6 c = c .before .loop .inv .8
+same-length-6 c =
+    c .before .loop .inv .4 .valuesAre
 
--- src/main.rt:81:1
 same-length-7 : tie.Need-same-length-7 Inv-loop μ-loop
-same-length-7 c = c .before .loop .inv .9
+same-length-7 c =
+    c .before .loop .inv .4 .outIs
 
--- src/main.rt:81:1
 returns : tie.Need-returns Inv-loop μ-loop
-returns c = (omega arith, omega arith)
+returns c =
+    let i = c .before .loop .inv in
+    let e : c .before .loop .done ≡ c .before .before .before .word-at .result = omega arith in
+    (record { count = e ∙ i .0; few = omega arith; failed = i .3; agree = λ z. rw e (ended (c .loop-test .left) (i .5) z) }, i .4)
 
 pub run-file-spec : {M : Type 1} → statement M
 run-file-spec =

@@ -1,4 +1,11 @@
-use borrow.Author.Needs.{needs}
+use mathlib.Core.Path.{refl}
+use Prim.Native.Nat.{ℕ}
+use denote.Ref.{now}
+use lib.ListN.{take}
+use lib.Seq.{length-front}
+use Rattle.walk.specs.Calls.{startCall}
+use Rattle.layout.specs.Layout.{layout}
+use Rattle.call_tests.proofs.Making.{made}
 use Rattle.call_tests.proofs.calls.start_lent.Statement.{statement}
 use Rattle.call_tests.proofs.calls.start_lent.Tie as tie
 
@@ -15,40 +22,64 @@ lent-requires-4 : tie.Need-lent-requires-4
 lent-requires-4 c κs = tt
 
 slice-aggregate-start-report : tie.Need-slice-aggregate-start-report
-slice-aggregate-start-report c = search needs
+slice-aggregate-start-report c =
+    c .before .before .before .before .before .before .before .lent .ensures .0 .1
 
 slice-relend-prefix-start-report : tie.Need-slice-relend-prefix-start-report
-slice-relend-prefix-start-report c = search needs
+slice-relend-prefix-start-report c =
+    c .before .before .before .before .before .lent2 .ensures .0 .0
 
 slice-aggregate-start-report-2 : tie.Need-slice-aggregate-start-report-2
-slice-aggregate-start-report-2 c = search needs
+slice-aggregate-start-report-2 c =
+    c .before .before .before .before .before .before .lent2 .ensures .0 .1
 
 slice-relend-prefix-start-report-2 : tie.Need-slice-relend-prefix-start-report-2
-slice-relend-prefix-start-report-2 c = search needs
+slice-relend-prefix-start-report-2 c =
+    c .before .before .before .before .lent3 .ensures .0 .0
 
 slice-aggregate-start-report-3 : tie.Need-slice-aggregate-start-report-3
-slice-aggregate-start-report-3 c = search needs
+slice-aggregate-start-report-3 c =
+    c .before .before .before .before .before .lent3 .ensures .0 .1
 
 slice-relend-prefix-start-report-3 : tie.Need-slice-relend-prefix-start-report-3
-slice-relend-prefix-start-report-3 c = search needs
+slice-relend-prefix-start-report-3 c =
+    c .before .before .before .lent4 .ensures .0 .0
 
 slice-aggregate-start-report-4 : tie.Need-slice-aggregate-start-report-4
-slice-aggregate-start-report-4 c = search needs
+slice-aggregate-start-report-4 c =
+    c .before .before .before .before .lent4 .ensures .0 .1
 
 start-report-requires : tie.Need-start-report-requires
 start-report-requires c κs = tt
 
 same-length : tie.Need-same-length
-same-length c = search needs
+same-length c =
+    let s = c .before .before .before .before .before .before .start-report in
+    length-front (now (c .before .before .before .before .before .before .before .before .before .before .before .before .before .before .before .before .before .before .before .before .before .before .args .machine)) (s .last .1 .0) (c .before .before .before .before .before .before .before .before .before .before .before .before .before .before .before .lent2 .result) (s .kept .1 .0)
 
 same-length-2 : tie.Need-same-length-2
-same-length-2 c = search needs
+same-length-2 c =
+    let s = c .before .before .before .before .before .before .start-report in
+    length-front (now (c .before .before .before .before .before .before .before .before .before .before .before .before .before .before .before .before .before .before .before .before .before .before .args .numbers)) (s .last .1 .1 .0) (c .before .before .before .before .before .before .before .before .before .before .before .before .before .lent3 .result) (s .kept .1 .1 .0)
 
 same-length-3 : tie.Need-same-length-3
-same-length-3 c = search needs
+same-length-3 c =
+    let s = c .before .before .before .before .before .before .start-report in
+    length-front (now (c .before .before .before .before .before .before .before .before .before .before .before .before .before .before .before .before .before .before .before .before .before .before .args .values)) (s .last .1 .1 .1 .0) (c .before .before .before .before .before .before .before .before .before .before .before .lent4 .result) (s .kept .1 .1 .1 .0)
 
 returns : tie.Need-returns
-returns c = tt
+returns c =
+    let a = c .before .before .before .before .before .before .before .before .before .before .before .before .before .before .before .before .before .before .before .before .before .before .args in
+    let t = now (a .table) in
+    let m = now (a .machine) in
+    let n = now (a .numbers) in
+    let v = now (a .values) in
+    let s = c .before .before .before .before .before .before .start-report in
+    made (a .call) t m n v (s .last .1 .0) (s .last .1 .1 .0) (s .last .1 .1 .1 .0)
+    (λ (i j k l w : ℕ). startCall layout (take i t) (take j m) (take k n) (take l v) (a .call .allowance))
+    (s .result) (c .before .before .before .before .before .before .before .before .before .before .before .before .before .before .before .before .before .lent .result) (c .before .before .before .before .before .before .before .before .before .before .before .before .before .before .before .lent2 .result) (c .before .before .before .before .before .before .before .before .before .before .before .before .before .lent3 .result) (c .before .before .before .before .before .before .before .before .before .before .before .lent4 .result) 0 0
+    (c .before .before .before .before .before .before .before .before .before .before .before .before .before .before .before .before .before .lent .ensures .1) (c .before .before .before .before .before .before .before .before .before .before .before .before .before .before .before .lent2 .ensures .1) (c .before .before .before .before .before .before .before .before .before .before .before .before .before .lent3 .ensures .1) (c .before .before .before .before .before .before .before .before .before .before .before .lent4 .ensures .1) refl
+    (s .kept .1 .0) (s .kept .1 .1 .0) (s .kept .1 .1 .1 .0) (s .ensures)
 
 pub start-lent-spec : {M : Type 1} → statement M
 start-lent-spec =

@@ -1,104 +1,108 @@
-use mathlib.Core.Path.{_≡_}
+use mathlib.Core.Path.{ap, _∙_}
+use Prim.Native.Nat.{_-_, _≤_}
 use native.Mathlib.Omega.{arith}
-use Prim.Native.Nat.{_-_}
-use lib.ListN.{length, length-set}
+use denote.Ref.{now}
+use lib.ListN.{length}
+use Rattle.cases.specs.Frame.{wordAt}
+use Rattle.call_tests.specs.Pairs.{fitting}
+use Rattle.call_tests.proofs.Pairing.{Reading, begun, turn, ended}
 use borrow.Author.Needs.{needs}
 use Rattle.call_tests.proofs.inputs.read_pairs.Statement.{statement}
 use Rattle.call_tests.proofs.inputs.read_pairs.Tie as tie
-use Rattle.call_tests.proofs.inputs.read_pairs.Reads as reads
-use Rattle.call_tests.proofs.inputs.read_pairs.Lts as lts
-use Rattle.cases.proofs.frame.past.Reads as past-reads
-use Rattle.cases.proofs.frame.word_at.Reads as word-at-reads
 
 abbrev Inv-loop : tie.InvT-loop
-Inv-loop s from count numbers₀ values₀ at₀ k₀ numbers values at k = (length numbers ≡ length numbers₀) × (length values ≡ length values₀)
+Inv-loop s from count numbers₀ values₀ at₀ k₀ numbers values at k =
+    (k ≤ count) × (k ≤ length numbers₀) × (k ≤ length values₀) × Reading s from at k numbers₀ values₀ numbers values
 
 abbrev μ-loop : tie.MeasureT-loop
-μ-loop s from count numbers₀ values₀ at₀ k₀ numbers values at k = count - k
+μ-loop s from count numbers₀ values₀ at₀ k₀ numbers values at k =
+    count - k
 
--- src/inputs.rt:9:5
 loop-holds : tie.Need-loop-holds Inv-loop μ-loop
-loop-holds c = search needs
+loop-holds c =
+    let a = c .before .before .before .args in
+    (omega arith, omega arith, omega arith, begun (now (a .s)) (a .from) (now (a .numbers)) (now (a .values)))
 
--- src/inputs.rt:11:13
 same-length : tie.Need-same-length Inv-loop μ-loop
 same-length c = search needs
 
--- src/inputs.rt:11:13
 same-length-2 : tie.Need-same-length-2 Inv-loop μ-loop
 same-length-2 c = search needs
 
--- src/inputs.rt:11:13
 returns : tie.Need-returns Inv-loop μ-loop
-returns c = search needs
+returns c =
+    let a = c .before .before .before .before .before .before .args in
+    let v = c .before .before .loop in
+    let l = v .inv .3 .as-long in
+    ended (now (a .s)) (a .from) (v .at) (v .k) (fitting (a .count) (now (a .numbers)) (now (a .values))) (now (a .numbers)) (now (a .values)) (v .numbers) (v .values) (v .inv .3) (omega arith)
 
--- src/inputs.rt:14:13
 same-length-3 : tie.Need-same-length-3 Inv-loop μ-loop
 same-length-3 c = search needs
 
--- src/inputs.rt:14:13
 same-length-4 : tie.Need-same-length-4 Inv-loop μ-loop
 same-length-4 c = search needs
 
--- src/inputs.rt:14:13
 returns-2 : tie.Need-returns-2 Inv-loop μ-loop
-returns-2 c = search needs
+returns-2 c =
+    let a = c .before .before .before .before .before .before .before .args in
+    let v = c .before .before .before .loop in
+    let l = v .inv .3 .values-as-long in
+    ended (now (a .s)) (a .from) (v .at) (v .k) (fitting (a .count) (now (a .numbers)) (now (a .values))) (now (a .numbers)) (now (a .values)) (v .numbers) (v .values) (v .inv .3) (omega arith)
 
--- src/inputs.rt:16:22
 word-at-requires : tie.Need-word-at-requires Inv-loop μ-loop
-word-at-requires c κs = search needs
+word-at-requires c κs = tt
 
--- src/inputs.rt:16:9
 mul-numbers : tie.Need-mul-numbers Inv-loop μ-loop
 mul-numbers c = search needs
 
--- src/inputs.rt:16:9
 slice-write-numbers : tie.Need-slice-write-numbers Inv-loop μ-loop
 slice-write-numbers c = search needs
 
--- src/inputs.rt:17:32
 past-requires : tie.Need-past-requires Inv-loop μ-loop
-past-requires c κs = search needs
+past-requires c κs = tt
 
--- src/inputs.rt:17:21
 word-at-requires-2 : tie.Need-word-at-requires-2 Inv-loop μ-loop
-word-at-requires-2 c κs = search needs
+word-at-requires-2 c κs = tt
 
--- src/inputs.rt:17:9
 mul-values : tie.Need-mul-values Inv-loop μ-loop
 mul-values c = search needs
 
--- src/inputs.rt:17:9
 slice-write-values : tie.Need-slice-write-values Inv-loop μ-loop
 slice-write-values c = search needs
 
--- src/inputs.rt:18:9
 past-requires-2 : tie.Need-past-requires-2 Inv-loop μ-loop
-past-requires-2 c κs = search needs
+past-requires-2 c κs = tt
 
--- src/inputs.rt:19:9
 add-k : tie.Need-add-k Inv-loop μ-loop
 add-k c = search needs
 
--- src/inputs.rt:9:5
 loop-less : tie.Need-loop-less Inv-loop μ-loop
 loop-less c = search needs
 
--- src/inputs.rt:9:5
 loop-again : tie.Need-loop-again Inv-loop μ-loop
-loop-again c = (simp length-set (omega arith), simp length-set (omega arith))
+loop-again c =
+    let a = c .before .before .before .before .before .before .before .before .before .before .before .args in
+    let v = c .before .before .before .before .before .before .before .loop in
+    let l = v .inv .3 .as-long in
+    let m = v .inv .3 .values-as-long in (
+      omega arith,
+      omega arith,
+      omega arith,
+      turn (now (a .s)) (a .from) (v .at) (c .past2 .result) (v .k) (c .before .before .before .word-at .result) (c .before .word-at2 .result) (now (a .numbers)) (now (a .values)) (v .numbers) (v .values) (v .inv .3)
+          (c .before .before .before .word-at .ensures) (c .before .word-at2 .ensures ∙ ap (wordAt (now (a .s))) (c .before .before .past .ensures)) (c .past2 .ensures) (omega arith) (omega arith),
+    )
 
--- src/inputs.rt:6:1
 same-length-5 : tie.Need-same-length-5 Inv-loop μ-loop
 same-length-5 c = search needs
 
--- src/inputs.rt:6:1
 same-length-6 : tie.Need-same-length-6 Inv-loop μ-loop
 same-length-6 c = search needs
 
--- src/inputs.rt:6:1
 returns-3 : tie.Need-returns-3 Inv-loop μ-loop
-returns-3 c = search needs
+returns-3 c =
+    let a = c .before .before .before .before .before .args in
+    let v = c .before .loop in
+    ended (now (a .s)) (a .from) (v .at) (v .k) (fitting (a .count) (now (a .numbers)) (now (a .values))) (now (a .numbers)) (now (a .values)) (v .numbers) (v .values) (v .inv .3) (omega arith)
 
 pub read-pairs-spec : {M : Type 1} → statement M
 read-pairs-spec =

@@ -6,10 +6,14 @@ use Rattle.call_tests.proofs.items.least.Statement.{statement}
 use Rattle.call_tests.proofs.items.least.Tie as tie
 
 returns : tie.Need-returns
-returns c = counts (length (now (c .before .args .list))) (now (c .before .args .list)) (omega arith)
+returns c =
+    let a = c .before .args in
+    (counts (length (now (a .list))) (now (a .list)) (omega arith), omega arith)
 
 returns-2 : tie.Need-returns-2
-returns-2 c = counts (c .before .args .count) (now (c .before .args .list)) (omega arith)
+returns-2 c =
+    let a = c .before .args in
+    (counts (a .count) (now (a .list)) (omega arith), omega arith)
 
 pub least-spec : {M : Type 1} → statement M
 least-spec = tie.close (tie.spec returns returns-2)

@@ -1,5 +1,4 @@
 use Rattle.call_tests.proofs.Reporting.{of-same}
-use borrow.Author.Needs.{needs}
 use Rattle.call_tests.proofs.reports.instant_report.Statement.{statement}
 use Rattle.call_tests.proofs.reports.instant_report.Tie as tie
 
@@ -19,7 +18,9 @@ same-length-3 : tie.Need-same-length-3
 same-length-3 c = c .before .before .before .before .before .before .before .instant .kept .1 .1 .1 .1 .1 .1 .0
 
 returns : tie.Need-returns
-returns c = of-same (c .before .before .before .before .before .before .before .instant .ensures .result) (c .report-of .ensures)
+returns c =
+    let k = c .before .before .before .before .before .before .before .instant .ensures in
+    record { report = of-same (k .result) (c .report-of .ensures); machineIs = k .machineIs; numbersAre = k .numbersAre; valuesAre = k .valuesAre }
 
 pub instant-report-spec : {M : Type 1} → statement M
 instant-report-spec =

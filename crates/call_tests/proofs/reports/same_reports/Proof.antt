@@ -1,6 +1,5 @@
 use Rattle.call_tests.proofs.Reporting.{other-part, by-due}
 use Rattle.call_tests.specs.declared.reports.Report.{Report}
-use borrow.Author.Needs.{needs}
 use Rattle.call_tests.proofs.reports.same_reports.Statement.{statement}
 use Rattle.call_tests.proofs.reports.same_reports.Tie as tie
 

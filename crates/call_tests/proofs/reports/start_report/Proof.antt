@@ -1,5 +1,4 @@
 use Rattle.call_tests.proofs.Reporting.{of-same}
-use borrow.Author.Needs.{needs}
 use Rattle.call_tests.proofs.reports.start_report.Statement.{statement}
 use Rattle.call_tests.proofs.reports.start_report.Tie as tie
 
@@ -19,7 +18,9 @@ same-length-3 : tie.Need-same-length-3
 same-length-3 c = c .before .before .before .before .before .before .before .start .kept .1 .1 .1 .0
 
 returns : tie.Need-returns
-returns c = of-same (c .before .before .before .before .before .before .before .start .ensures .result) (c .report-of .ensures)
+returns c =
+    let k = c .before .before .before .before .before .before .before .start .ensures in
+    record { report = of-same (k .result) (c .report-of .ensures); machineIs = k .machineIs; numbersAre = k .numbersAre; valuesAre = k .valuesAre }
 
 pub start-report-spec : {M : Type 1} → statement M
 start-report-spec =

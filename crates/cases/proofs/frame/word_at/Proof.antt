@@ -2,40 +2,33 @@ use mathlib.Core.Path.{ap, _∙_}
 use Prim.Native.Nat.{_-_}
 use lib.ListN.{drop, length-drop}
 use lib.Seq.{take-all}
-use Rattle.cases.specs.Frame.{wordOf}
+use Rattle.cases.specs.Frame.{wordOf, wordAt}
 use native.Mathlib.Omega.{arith}
-use mathlib.Core.Path.{_≡_, refl, sym}
-use lib.ListN.{length, getD, drop-of-length-le}
+use mathlib.Core.Path.{refl}
+use lib.ListN.{length, drop-of-length-le}
 use denote.Ref.{now}
 use borrow.Author.Needs.{needs}
 use Rattle.cases.proofs.frame.word_at.Statement.{statement}
 use Rattle.cases.proofs.frame.word_at.Tie as tie
-use Rattle.cases.proofs.frame.word_at.Reads as reads
-use Rattle.cases.proofs.frame.word_at.Lts as lts
-use Rattle.cases.proofs.frame.first_word.Reads as first-word-reads
 
--- src/frame.rt:33:9
 returns : tie.Need-returns
+unfolding wordAt
 returns c = rw (drop-of-length-le (now (c .before .before .args .s)) {i = c .before .before .args .at} (omega arith)) refl
 
--- src/frame.rt:35:16
 sub-first-word : tie.Need-sub-first-word
 sub-first-word c = search needs
 
--- src/frame.rt:35:16
 part-first-word-start : tie.Need-part-first-word-start
 part-first-word-start c = search needs
 
--- src/frame.rt:35:16
 part-first-word-end : tie.Need-part-first-word-end
 part-first-word-end c = search needs
 
--- src/frame.rt:35:5
 first-word-requires : tie.Need-first-word-requires
 first-word-requires c κs = search needs
 
--- src/frame.rt:29:1
 returns-2 : tie.Need-returns-2
+unfolding wordAt
 returns-2 c =
     let a = c .before .before .before .before .args in
     c .first-word .ensures ∙ ap wordOf (take-all (length (now (a .s)) - a .at) (drop (a .at) (now (a .s))) (omega (arith, length-drop (a .at) (now (a .s)))))

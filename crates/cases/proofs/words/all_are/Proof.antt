@@ -1,16 +1,11 @@
-use mathlib.Core.Path.{_≡_, ap, sym, _∙_}
-use Prim.Native.Nat.{ℕ, _+_, _-_, _≤_, _<_, min}
-use mathlib.Core.List.{List, _++_}
-use native.Mathlib.Omega.{arith}
-use lib.ListN.{length, getD, set, replicate, drop, length-set}
-use denote.Ref.{now}
+use mathlib.Core.Path.{_≡_}
+use Prim.Native.Nat.{ℕ, _-_, _≤_, _<_}
+use lib.ListN.{length, getD}
 use borrow.Author.Count.{below-more}
 use Rattle.cases.proofs.Telling.{one-other, all-one}
 use borrow.Author.Needs.{needs}
 use Rattle.cases.proofs.words.all_are.Statement.{statement}
 use Rattle.cases.proofs.words.all_are.Tie as tie
-use Rattle.cases.proofs.words.all_are.Reads as reads
-use Rattle.cases.proofs.words.all_are.Lts as lts
 
 abbrev Inv-loop : tie.InvT-loop
 Inv-loop m w k₀ k = (k ≤ length m) × ((j : ℕ) → j < k → getD m j 0 ≡ w)
@@ -18,35 +13,27 @@ Inv-loop m w k₀ k = (k ≤ length m) × ((j : ℕ) → j < k → getD m j 0 �
 abbrev μ-loop : tie.MeasureT-loop
 μ-loop m w k₀ k = length m - k
 
--- src/words.rt:59:5
 loop-holds : tie.Need-loop-holds Inv-loop μ-loop
 loop-holds c = search needs
 
--- src/words.rt:60:12
 mul-if1 : tie.Need-mul-if1 Inv-loop μ-loop
 mul-if1 c = search needs
 
--- src/words.rt:60:12
 shared-slice-read-if1 : tie.Need-shared-slice-read-if1 Inv-loop μ-loop
 shared-slice-read-if1 c = search needs
 
--- src/words.rt:61:13
 returns : tie.Need-returns Inv-loop μ-loop
 returns c = one-other _ _ _ (search needs) (c .if1 .taken)
 
--- src/words.rt:63:9
 add-k : tie.Need-add-k Inv-loop μ-loop
 add-k c = search needs
 
--- src/words.rt:59:5
 loop-less : tie.Need-loop-less Inv-loop μ-loop
 loop-less c = search needs
 
--- src/words.rt:59:5
 loop-again : tie.Need-loop-again Inv-loop μ-loop
 loop-again c = (search needs, below-more _ _ (c .before .before .before .loop .inv .1) (c .if1 .left))
 
--- src/words.rt:55:1
 returns-2 : tie.Need-returns-2 Inv-loop μ-loop
 returns-2 c = all-one _ _ _ (search needs) (c .before .loop .inv .1)
 

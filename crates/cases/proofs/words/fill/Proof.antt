@@ -1,18 +1,15 @@
 use mathlib.Core.List.{append-nil}
 use lib.Seq.{drop-length}
-use mathlib.Core.Path.{_≡_, ap, sym, _∙_}
-use Prim.Native.Nat.{ℕ, _+_, _-_, _≤_, _<_, min}
+use mathlib.Core.Path.{_≡_, ap, _∙_}
+use Prim.Native.Nat.{ℕ, _+_, _-_, _≤_}
 use mathlib.Core.List.{List, _++_}
 use native.Mathlib.Omega.{arith}
-use lib.ListN.{length, getD, set, replicate, drop, length-set}
+use lib.ListN.{length, set, replicate, drop, length-set}
 use denote.Ref.{now}
-use borrow.Author.Count.{below-more}
 use Rattle.cases.proofs.Storing.{filled-next}
 use borrow.Author.Needs.{needs}
 use Rattle.cases.proofs.words.fill.Statement.{statement}
 use Rattle.cases.proofs.words.fill.Tie as tie
-use Rattle.cases.proofs.words.fill.Reads as reads
-use Rattle.cases.proofs.words.fill.Lts as lts
 
 abbrev Inv-loop : tie.InvT-loop
 Inv-loop m₀ w k₀ m k = (k ≤ length m₀) × (length m ≡ length m₀) × (m ≡ replicate k w ++ drop k m₀)
@@ -20,37 +17,29 @@ Inv-loop m₀ w k₀ m k = (k ≤ length m₀) × (length m ≡ length m₀) × 
 abbrev μ-loop : tie.MeasureT-loop
 μ-loop m₀ w k₀ m k = length m₀ - k
 
--- src/words.rt:13:5
 loop-holds : tie.Need-loop-holds Inv-loop μ-loop
 loop-holds c = search needs
 
--- src/words.rt:14:9
 mul-m : tie.Need-mul-m Inv-loop μ-loop
 mul-m c = search needs
 
--- src/words.rt:14:9
 slice-write-m : tie.Need-slice-write-m Inv-loop μ-loop
 slice-write-m c = search needs
 
--- src/words.rt:15:9
 add-k : tie.Need-add-k Inv-loop μ-loop
 add-k c = search needs
 
--- src/words.rt:13:5
 loop-less : tie.Need-loop-less Inv-loop μ-loop
 loop-less c = search needs
 
--- src/words.rt:13:5
 loop-again : tie.Need-loop-again Inv-loop μ-loop
 loop-again c =
     let v = c .before .loop in
     (search needs, simp length-set (omega arith), ap (λ (l : List ℕ). set l (v .k) (c .before .before .args .w)) (v .inv .2) ∙ filled-next (now (c .before .before .args .m)) (v .k) (c .before .before .args .w) (omega arith))
 
--- src/words.rt:9:1
 same-length : tie.Need-same-length Inv-loop μ-loop
 same-length c = search needs
 
--- src/words.rt:9:1
 returns : tie.Need-returns Inv-loop μ-loop
 returns c =
     let v = c .before .loop in

@@ -17,7 +17,7 @@ abbrev μ-loop : tie.MeasureT-loop
 μ-loop text out₀ n i₀ out i = n - i
 
 least-requires : tie.Need-least-requires Inv-loop μ-loop
-least-requires c κs = search needs
+least-requires c κs = tt
 
 loop-holds : tie.Need-loop-holds Inv-loop μ-loop
 loop-holds c = (c .least .ensures .1, c .least .ensures .2, omega arith, refl, refl)
@@ -49,7 +49,7 @@ returns c =
     let n = c .before .before .least in
     let full : v .i ≡ n .result = omega (arith, c .loop-test .left, v .inv .2) in
     let is = v .inv .4 ∙ ap (λ i. paste (now (c .before .before .before .before .before .args .out)) 0 (now (c .before .before .before .before .before .args .text)) i) full in
-    (n .ensures .0, (is, pasted _ (v .out) _ (n .result) (v .inv .0) (v .inv .1) is))
+    pasted _ (v .out) _ (n .result) (n .ensures .0) is
 
 pub put-spec : {M : Type 1} → statement M
 put-spec =

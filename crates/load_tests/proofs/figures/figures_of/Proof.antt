@@ -4,22 +4,16 @@ use Rattle.load_tests.proofs.Passing.{of-done, of-refused, of-same}
 use borrow.Author.Needs.{needs}
 use Rattle.load_tests.proofs.figures.figures_of.Statement.{statement}
 use Rattle.load_tests.proofs.figures.figures_of.Tie as tie
-use Rattle.load_tests.proofs.figures.figures_of.Reads as reads
-use Rattle.load_tests.proofs.figures.figures_of.Lts as lts
 
--- src/figures.rt:22:25
 enum-told : tie.Need-enum-told
 enum-told c = search needs
 
--- src/figures.rt:26:25
 enum-known-answer : tie.Need-enum-known-answer
 enum-known-answer c = search needs
 
--- src/figures.rt:18:1
 returns : tie.Need-returns
 returns c = λ text. of-same (ap (outcomeOf text) (sym (c .enum-told .given .1))) (of-done text _ refl refl)
 
--- src/figures.rt:18:1
 returns-2 : tie.Need-returns-2
 returns-2 c = λ text. of-same (ap (outcomeOf text) (sym (c .before .answer .given .1))) (of-refused _ _ _ refl refl)
 

@@ -1,15 +1,10 @@
 use Rattle.load_tests.proofs.Passing.{other-number, by-place}
-use borrow.Author.Needs.{needs}
 use Rattle.load_tests.proofs.figures.same_figures.Statement.{statement}
 use Rattle.load_tests.proofs.figures.same_figures.Tie as tie
-use Rattle.load_tests.proofs.figures.same_figures.Reads as reads
-use Rattle.load_tests.proofs.figures.same_figures.Lts as lts
 
--- src/figures.rt:45:9
 returns : tie.Need-returns
 returns c = other-number _ _ (c .if1 .taken)
 
--- src/figures.rt:41:1
 returns-2 : tie.Need-returns-2
 returns-2 c = by-place _ _ (c .before .before .if1 .left)
 

@@ -1,61 +1,56 @@
-use mathlib.Core.Path.{sym}
+use mathlib.Core.Path.{refl, sym, _∙_}
 use native.Mathlib.Omega.{arith}
 use denote.Ref.{now}
 use lib.Seq.{length-take-le}
+use Rattle.cases.proofs.Telling.{never}
+use Rattle.session_tests.specs.Playing.{follows, differs}
+use Rattle.session_tests.proofs.Steps.{part-is}
 use borrow.Author.Needs.{needs}
 use Rattle.session_tests.proofs.playing.follows.Statement.{statement}
 use Rattle.session_tests.proofs.playing.follows.Tie as tie
-use Rattle.session_tests.proofs.playing.follows.Reads as reads
-use Rattle.session_tests.proofs.playing.follows.Lts as lts
-use Rattle.check.proofs.same.Reads as same-reads
 
--- src/playing.rt:15:9
 returns : tie.Need-returns
-returns c = search needs
+returns c =
+    differs (λ p. let h = p .printed in omega arith)
 
--- src/playing.rt:18:9
 returns-2 : tie.Need-returns-2
-returns-2 c = search needs
+returns-2 c =
+    differs (λ p. let h = p .stored in omega arith)
 
--- src/playing.rt:20:8
 sub-if3 : tie.Need-sub-if3
 sub-if3 c = search needs
 
--- src/playing.rt:21:9
 returns-3 : tie.Need-returns-3
-returns-3 c = search needs
+returns-3 c =
+    differs (λ p. let h = p .stored in omega arith)
 
--- src/playing.rt:23:14
 add-to : tie.Need-add-to
 add-to c = search needs
 
--- src/playing.rt:24:20
 sub-same : tie.Need-sub-same
 sub-same c = search needs
 
--- src/playing.rt:24:20
 part-same-start : tie.Need-part-same-start
 part-same-start c = search needs
 
--- src/playing.rt:24:20
 part-same-end : tie.Need-part-same-end
 part-same-end c = search needs
 
--- src/playing.rt:24:36
 slice-aggregate-same : tie.Need-slice-aggregate-same
 slice-aggregate-same c = sym (length-take-le (c .before .before .before .before .before .before .before .args .n) (now (c .before .before .before .before .before .before .before .args .out)) (omega arith))
 
--- src/playing.rt:24:8
 same-requires : tie.Need-same-requires
 same-requires c κs = search needs
 
--- src/playing.rt:25:9
 returns-4 : tie.Need-returns-4
-returns-4 c = search needs
+returns-4 c =
+    let a = c .before .before .before .before .before .before .before .before .before .args in
+    follows refl (record { printed = omega arith; stored = omega arith; same = sym (part-is (now (a .print)) (a .at) (a .n)) ∙ c .before .same .ensures .0 (c .if4 .taken) })
 
--- src/playing.rt:13:1
 returns-5 : tie.Need-returns-5
-returns-5 c = search needs
+returns-5 c =
+    let a = c .before .before .before .before .before .before .before .before .before .args in
+    differs (λ p. never (sym (c .if4 .left) ∙ c .before .same .ensures .1 (part-is (now (a .print)) (a .at) (a .n) ∙ p .same)))
 
 pub follows-spec : {M : Type 1} → statement M
 follows-spec =

@@ -1,3 +1,5 @@
+use Rattle.session_tests.specs.Playing.{on, failed}
+use Rattle.session_tests.proofs.Steps.{step-taken, followed}
 use borrow.Author.Needs.{needs}
 use Rattle.session_tests.proofs.playing.take_step.Statement.{statement}
 use Rattle.session_tests.proofs.playing.take_step.Tie as tie
@@ -42,7 +44,8 @@ same-length-7 : tie.Need-same-length-7
 same-length-7 c = c .before .before .before .before .before .before .before .before .before .before .before .before .before .before .before .before .advance .kept .1 .1 .1 .1 .1 .1 .1 .1 .0
 
 returns : tie.Need-returns
-returns c = tt
+returns c =
+    (failed, record { tableIs = same-length c; machineIs = same-length-2 c; insAre = same-length-3 c; newsAre = same-length-4 c; numbersAre = same-length-5 c; valuesAre = same-length-6 c; outIs = same-length-7 c })
 
 same-length-8 : tie.Need-same-length-8
 same-length-8 c = c .before .before .before .before .before .before .before .before .before .before .before .before .before .before .before .before .before .before .before .before .before .advance .kept .1 .1 .0
@@ -66,7 +69,8 @@ same-length-14 : tie.Need-same-length-14
 same-length-14 c = c .before .before .before .before .before .before .before .before .before .before .before .before .before .before .before .before .before .before .before .before .before .advance .kept .1 .1 .1 .1 .1 .1 .1 .1 .0
 
 returns-2 : tie.Need-returns-2
-returns-2 c = tt
+returns-2 c =
+    (failed, record { tableIs = same-length-8 c; machineIs = same-length-9 c; insAre = same-length-10 c; newsAre = same-length-11 c; numbersAre = same-length-12 c; valuesAre = same-length-13 c; outIs = same-length-14 c })
 
 same-length-15 : tie.Need-same-length-15
 same-length-15 c = c .before .before .before .before .before .before .before .before .before .before .before .before .before .before .before .before .before .before .before .before .before .before .advance .kept .1 .1 .0
@@ -90,7 +94,9 @@ same-length-21 : tie.Need-same-length-21
 same-length-21 c = c .before .before .before .before .before .before .before .before .before .before .before .before .before .before .before .before .before .before .before .before .before .before .advance .kept .1 .1 .1 .1 .1 .1 .1 .1 .0
 
 returns-3 : tie.Need-returns-3
-returns-3 c = tt
+returns-3 c =
+    let f = followed (c .before .before .before .follows .ensures) (c .before .to .given .1) in
+    (on (step-taken (c .before .before .before .before .before .before .before .before .before .before .before .before .before .before .before .before .before .before .before .before .before .before .advance .ensures) (c .before .before .before .before .before .before .next .given .1)) (f .0) (f .1), record { tableIs = same-length-15 c; machineIs = same-length-16 c; insAre = same-length-17 c; newsAre = same-length-18 c; numbersAre = same-length-19 c; valuesAre = same-length-20 c; outIs = same-length-21 c })
 
 pub take-step-spec : {M : Type 1} → statement M
 take-step-spec =

@@ -5,6 +5,8 @@ use crate::layout::WORDS;
 use crate::listing::{self, Program};
 use crate::plain::Plain;
 use crate::stack;
+use std::cmp::Reverse;
+use std::collections::BinaryHeap;
 use std::hint::black_box;
 
 const ROUNDS: usize = 31;
@@ -206,6 +208,64 @@ fn refused_calls(text: &str) -> (f64, f64) {
     (library, scans)
 }
 
+/// 56 sleepers, of which input 0 wakes 8, input 1 16 and input 2 32.
+fn grouped() -> String {
+    let middles: String = [0, 1, 1, 2, 2, 2, 2].map(|input| format!("\t1 {input} 3")).concat();
+    let leaves = "\t2 0 1".repeat(8);
+    format!("P\t3\t1\nR\trrrr\t0\nF{middles}\nE\nR\trr\t0\nF{leaves}\nE\nR\trr\t0\nW\t0\nS\t1\t1 #1 +\nG\t0\n")
+}
+
+/// The time of an instant that wakes so many of the 56 sleepers.
+fn waking_instants() -> [(u32, f64); 5] {
+    let text = grouped();
+    let calls: [&[u32]; 5] = [&[], &[0], &[1], &[2], &[0, 1, 2]];
+    let mut steps = [0; 5];
+    let mut works = calls.map(|inputs| {
+        let mut lent = started(text.as_bytes());
+        let mut t = 0;
+        move || {
+            t += 1;
+            instant(&mut lent, t, (inputs, inputs), 10_000).steps
+        }
+    });
+    let [a, b, c, d, e] = &mut works;
+    let [s, t, u, v, w] = &mut steps;
+    let times = beside([&mut || *s = a(), &mut || *t = b(), &mut || *u = c(), &mut || *v = d(), &mut || *w = e()]);
+    std::array::from_fn(|k| (steps[k] / 3, times[k]))
+}
+
+/// 784 waiting writes: each of 56 routines has one on each of its 14 locals, at 14 moments.
+fn waiting() -> String {
+    let writes: String = (2..16).map(|name| format!("A\t{name}\t#{}\t#1\n", 2_000 - 97 * name)).collect();
+    sleepers(&format!("R\trr\t14\n{writes}W\t0\nG\t14\n"))
+}
+
+/// The moments of the waiting writes in a machine's words, block by block (docs/LAYOUT.md).
+fn moments_due(machine: &[u32]) -> impl Iterator<Item = u64> + '_ {
+    let blocks = machine[328..].chunks_exact(184).filter(|block| block[0] != 0);
+    let variables = blocks.flat_map(|block| block[8..].chunks_exact(6).take(block[4] as usize));
+    variables.map(|v| u64::from(v[2]) + (u64::from(v[3]) << 32)).filter(|&due| due != 0)
+}
+
+/// The soonest moment due, by a pass that keeps the least; and by one that puts every waiting write
+/// into a queue by moment, of which the first is taken.
+fn due_times() -> (f64, f64) {
+    let machine = started(waiting().as_bytes()).machine;
+    let mut room = Vec::with_capacity(1_024);
+    let mut least = || {
+        black_box(moments_due(black_box(&machine)).min());
+    };
+    let mut queued = || {
+        room.clear();
+        room.extend(moments_due(black_box(&machine)).map(Reverse));
+        let queue = BinaryHeap::from(std::mem::take(&mut room));
+        black_box(queue.peek());
+        room = queue.into_vec();
+    };
+    let [pass, queue] = beside([&mut least, &mut queued]);
+    (pass, queue)
+}
+
 fn load_times(text: &str) -> (f64, f64) {
     let mut table = vec![0; WORDS];
     let [library, peer] = beside([&mut || assert_eq!(board::load(text.as_bytes(), &mut table).number, 0), &mut || {
@@ -277,6 +337,21 @@ fn fixed(full: &str) {
     }
 }
 
+fn woken() {
+    println!("\n| routines woken, of 56 asleep | an instant | over one that wakes nobody, for each |\n|---|---|---|");
+    let times = waking_instants();
+    for (woken, time) in times {
+        let each = if woken == 0 { "".to_string() } else { format!("{:.1}", (time - times[0].1) / f64::from(woken)) };
+        println!("| {woken} | {time:.1} | {each} |");
+    }
+}
+
+fn due_found() {
+    println!("\n| finding what is due, of 784 waiting writes | a pass | a queue made by that pass | ratio |\n|---|---|---|---|");
+    let (pass, queue) = due_times();
+    println!("| the soonest moment | {pass:.1} | {queue:.1} | {:.2} |", pass / queue);
+}
+
 fn stack_used() {
     println!("\n| stack used by | bytes | aim |\n|---|---|---|");
     for (call, bytes) in stacks() {
@@ -296,6 +371,8 @@ pub fn run(date: &str) -> bool {
     let full = full();
     steps_and_calls(&full);
     fixed(&full);
+    woken();
+    due_found();
     stack_used();
     true
 }

@@ -2,7 +2,7 @@
 
 use crate::listing::Program;
 use crate::random::Random;
-use crate::walk::{Answer, Machine};
+use crate::walk::{allowance_in_range, Answer, Machine};
 
 /// One start (`t` none) or instant, with its two lists of inputs.
 #[derive(Clone, Debug)]
@@ -17,18 +17,29 @@ pub struct Call {
 pub fn answer(call: &Call, program: Option<&Program>, machine: &mut Option<Machine>) -> Answer {
     let Some(program) = program else { return Answer::refused(6) };
     let Some(t) = call.t else {
-        return match Machine::start(program, call.allowance) {
-            Ok((started, answer)) => {
-                *machine = Some(started);
-                answer
-            }
-            Err(number) => Answer::refused(number),
-        };
+        return start(program, call.allowance, machine);
     };
     let inputs: Vec<(u32, i32)> = call.numbers.iter().zip(&call.values).map(|(&n, &v)| (n, v as i32)).collect();
     match machine {
         Some(machine) => machine.instant(program, t, &inputs, call.allowance),
         None => Answer::refused(7),
+    }
+}
+
+/// A start: refused (12), stopped, or done.
+fn start(program: &Program, allowance: u32, machine: &mut Option<Machine>) -> Answer {
+    if !allowance_in_range(allowance) {
+        return Answer::refused(12);
+    }
+    match Machine::start(program, allowance) {
+        Ok((started, answer)) => {
+            *machine = Some(started);
+            answer
+        }
+        Err(number) => {
+            *machine = Some(Machine::stopped(number));
+            Answer::refused(number)
+        }
     }
 }
 

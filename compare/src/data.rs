@@ -1,5 +1,5 @@
-//! Writes the data files of the gate's test program from a folder of stored answers, with a few
-//! call lists made here. The format stands in the README.md written beside them.
+//! Writes the data files of the gate's test programs from a folder of stored answers, with a few
+//! call lists made here. The format stands in crates/cases/src/frame.rt and crates/call_tests/src.
 
 use crate::calls::{answer, Call};
 use crate::listing;

@@ -1,16 +1,20 @@
-//! The listing of document 01: its text, and the loader's questions 2 to 5, each put to the whole
-//! listing before the next. Written from document 01 and, where that leaves a point open, from
-//! docs/DECISIONS.md; not from the definitions.
+//! The listing: its form, its limits and what its lines point to (questions 2 to 5).
 
-/// The longest listing and the longest trace, in bytes.
+/// "listing 49,152 bytes"
 pub const LONGEST_FILE: usize = 49_152;
+/// "64 routines"
 const MOST_ROUTINES: usize = 64;
+/// "512 instructions in all"
 const MOST_INSTRUCTIONS: usize = 512;
+/// "16 names a routine"
 const MOST_NAMES: usize = 16;
+/// "4,096 pieces after the letters of instruction lines"
 const MOST_PIECES: usize = 4_096;
+/// "It leaves one value and never holds more than 8"
 const MOST_HELD: usize = 8;
 
-/// One piece of a postfix expression.
+/// A piece of an expression: "`#v` (a signed 32-bit literal), `n` (a name's value),
+/// `@n` (1 if it was written in this instant, else 0), `+ - * <`".
 #[derive(Clone, Copy, Debug, PartialEq)]
 pub enum Piece {
     Literal(i32),
@@ -22,26 +26,32 @@ pub enum Piece {
     Less,
 }
 
-/// One child field of a fork: a routine and the caller's names.
+/// "each field is a routine number and then its arguments, as names of the caller"
 #[derive(Clone, Debug, PartialEq)]
 pub struct Child {
     pub routine: usize,
     pub names: Vec<usize>,
 }
 
-/// One instruction line.
 #[derive(Clone, Debug, PartialEq)]
 pub enum Instruction {
+    /// "`S|n|e` writes expression e to name n."
     Set { name: usize, value: Vec<Piece> },
+    /// "`A|n|d|e` puts a waiting write of e on n, d milliseconds from now"
     After { name: usize, delay: Vec<Piece>, value: Vec<Piece> },
+    /// "`U|e|k` goes to instruction k if e is 0."
     Unless { test: Vec<Piece>, target: usize },
+    /// "`G|k` goes to k."
     Go { target: usize },
+    /// "`W|n n ..` waits on 1 to 4 names."
     Wait { names: Vec<usize> },
+    /// "`F|c|c..` forks 1 to 8 children"
     Fork { children: Vec<Child> },
+    /// "`E` ends the routine."
     End,
 }
 
-/// A routine: `true` in `by_reference` is an `r`.
+/// "`R|kinds|locals` opens one: kinds has a letter per argument"
 #[derive(Clone, Debug, PartialEq)]
 pub struct Routine {
     pub by_reference: Vec<bool>,
@@ -50,12 +60,13 @@ pub struct Routine {
 }
 
 impl Routine {
+    /// "Names in a routine are its arguments, then its locals, numbered from 0."
     pub fn names(&self) -> usize {
         self.by_reference.len().saturating_add(self.locals)
     }
 }
 
-/// What a listing says.
+/// A listing: "`P|i|o` gives i inputs and o outputs. Then come the routines".
 #[derive(Clone, Debug, PartialEq)]
 pub struct Program {
     pub inputs: usize,
@@ -63,157 +74,180 @@ pub struct Program {
     pub routines: Vec<Routine>,
 }
 
-/// A refusal of the loader.
+/// The number of the question that is answered no, and the line.
 #[derive(Clone, Copy, Debug, PartialEq)]
 pub struct Refusal {
     pub number: u32,
     pub place: u32,
 }
 
-/// A line that has its form. Figures without a width are held at the largest word when longer.
-enum Line {
-    Ports { inputs: usize, outputs: usize },
-    Opening { by_reference: Vec<bool>, locals: usize },
-    Step(Instruction),
+fn no<T>(number: u32, place: usize) -> Result<T, Refusal> {
+    let place = place as u32;
+    Err(Refusal { number, place })
 }
 
-/// Questions 2 to 5, in order.
+/// "The loader puts each question to the whole listing before the next".
 pub fn load(text: &[u8]) -> Result<Program, Refusal> {
-    let lines = form(text)?;
-    limits(text, &lines)?;
-    let routines = gathered(&lines);
-    pointing(&lines, &routines)?;
-    endings(&lines)?;
-    let Line::Ports { inputs, outputs } = lines[0] else { unreachable!() };
-    Ok(Program { inputs, outputs, routines })
+    let lines = question_2(text)?;
+    question_3(text, &lines)?;
+    let (program, places) = gather(lines);
+    question_4(&program, &places)?;
+    question_5(&program, &places)?;
+    Ok(program)
 }
 
-fn no(number: u32, line: usize) -> Refusal {
-    Refusal { number, place: line as u32 + 1 }
-}
+// ---- figures and literals
 
-/// Question 2: each line's form, the first being `P`, the second `R`.
-fn form(text: &[u8]) -> Result<Vec<Line>, Refusal> {
-    let mut lines = Vec::new();
-    if text.is_empty() {
-        return Err(no(2, 0));
+/// "Figures are decimal without leading zeros."
+fn is_figure(text: &[u8]) -> bool {
+    match text {
+        [] => false,
+        [b'0', _, ..] => false,
+        _ => text.iter().all(u8::is_ascii_digit),
     }
-    let mut rest = text;
-    while !rest.is_empty() {
-        let at = lines.len();
-        let Some(end) = rest.iter().position(|&b| b == b'\n') else { return Err(no(2, at)) };
-        let line = line_form(&rest[..end]).ok_or(no(2, at))?;
-        let in_its_place = match line {
-            Line::Ports { .. } => at == 0,
-            Line::Opening { .. } => at >= 1,
-            Line::Step(_) => at >= 2,
-        };
-        if !in_its_place {
-            return Err(no(2, at));
+}
+
+/// A figure of any length. One too large for a usize stands for the largest usize, which
+/// no limit lets through and nothing in a listing is numbered with.
+fn figure(text: &[u8]) -> Option<usize> {
+    let add = |sum: usize, digit: &u8| {
+        let tens = sum.saturating_mul(10);
+        tens.saturating_add(usize::from(digit - b'0'))
+    };
+    is_figure(text).then(|| text.iter().fold(0, add))
+}
+
+/// A figure below 2 to the `bits` (at most 64).
+pub fn figure_below(text: &[u8], bits: u32) -> Option<u64> {
+    if !is_figure(text) || text.len() > 20 {
+        return None;
+    }
+    let add = |sum: u128, digit: &u8| sum * 10 + u128::from(digit - b'0');
+    let sum = text.iter().fold(0, add);
+    (sum < 1 << bits).then_some(sum as u64)
+}
+
+/// "A minus stands only before a literal, never `-0`." The literal has signed 32 bits.
+pub fn literal(text: &[u8]) -> Option<i32> {
+    let digits = text.strip_prefix(b"-");
+    let size = figure_below(digits.unwrap_or(text), 32)? as i64;
+    match digits {
+        Some(_) if size == 0 => None,
+        Some(_) => i32::try_from(-size).ok(),
+        None => i32::try_from(size).ok(),
+    }
+}
+
+// ---- question 2: the form
+
+enum Line {
+    Opening { inputs: usize, outputs: usize },
+    Routine(Routine),
+    Code(Instruction),
+}
+
+/// "Has every line its form, and does the last end in a line feed? An empty listing: place 1."
+fn question_2(text: &[u8]) -> Result<Vec<Line>, Refusal> {
+    let mut lines = Vec::new();
+    for closed in text.split_inclusive(|&byte| byte == b'\n') {
+        let place = lines.len() + 1;
+        let line = closed.strip_suffix(b"\n").and_then(form);
+        match line.filter(|line| stands(line, place)) {
+            Some(line) => lines.push(line),
+            None => return no(2, place),
         }
-        lines.push(line);
-        rest = &rest[end + 1..];
+    }
+    if lines.is_empty() {
+        return no(2, 1);
     }
     Ok(lines)
 }
 
-fn line_form(line: &[u8]) -> Option<Line> {
-    let fields: Vec<&[u8]> = line.split(|&b| b == b'\t').collect();
-    let after = &fields[1..];
-    let step = match fields[0] {
-        b"P" if after.len() == 2 => return Some(Line::Ports { inputs: figure(after[0])?, outputs: figure(after[1])? }),
-        b"R" if after.len() == 2 => {
-            return Some(Line::Opening { by_reference: kinds(after[0])?, locals: figure(after[1])? })
+/// "By form `P` stands on line 1 only, and line 2, if any, is an `R`." ("The file begins
+/// with the bytes `P`, tab")
+fn stands(line: &Line, place: usize) -> bool {
+    match line {
+        Line::Opening { .. } => place == 1,
+        Line::Routine(_) => place >= 2,
+        Line::Code(_) => place >= 3,
+    }
+}
+
+/// "one record a line, fields parted by one tab"
+fn form(line: &[u8]) -> Option<Line> {
+    let fields: Vec<&[u8]> = line.split(|&byte| byte == b'\t').collect();
+    match fields.as_slice() {
+        [b"P", inputs, outputs] => Some(Line::Opening { inputs: figure(inputs)?, outputs: figure(outputs)? }),
+        [b"R", letters, locals] => {
+            Some(Line::Routine(Routine { by_reference: kinds(letters)?, locals: figure(locals)?, code: Vec::new() }))
         }
-        b"S" if after.len() == 2 => Instruction::Set { name: figure(after[0])?, value: expression(after[1])? },
-        b"A" if after.len() == 3 => {
-            Instruction::After { name: figure(after[0])?, delay: expression(after[1])?, value: expression(after[2])? }
+        _ => instruction(&fields).map(Line::Code),
+    }
+}
+
+/// "`r` by reference or `v` by value, or is `-` for none"
+fn kinds(letters: &[u8]) -> Option<Vec<bool>> {
+    let kind = |letter: &u8| match letter {
+        b'r' => Some(true),
+        b'v' => Some(false),
+        _ => None,
+    };
+    match letters {
+        [] => None,
+        b"-" => Some(Vec::new()),
+        _ => letters.iter().map(kind).collect(),
+    }
+}
+
+/// "Each later line is one instruction"
+fn instruction(fields: &[&[u8]]) -> Option<Instruction> {
+    let found = match fields {
+        [b"S", name, value] => Instruction::Set { name: figure(name)?, value: expression(value)? },
+        [b"A", name, delay, value] => {
+            Instruction::After { name: figure(name)?, delay: expression(delay)?, value: expression(value)? }
         }
-        b"U" if after.len() == 2 => Instruction::Unless { test: expression(after[0])?, target: figure(after[1])? },
-        b"G" if after.len() == 1 => Instruction::Go { target: figure(after[0])? },
-        b"W" if after.len() == 1 => Instruction::Wait { names: waited(after[0])? },
-        b"F" if (1..=8).contains(&after.len()) => {
-            Instruction::Fork { children: after.iter().map(|f| child(f)).collect::<Option<_>>()? }
+        [b"U", test, target] => Instruction::Unless { test: expression(test)?, target: figure(target)? },
+        [b"G", target] => Instruction::Go { target: figure(target)? },
+        [b"W", names] => Instruction::Wait { names: figures(names).filter(|names| names.len() <= 4)? },
+        [b"F", children @ ..] if (1..=8).contains(&children.len()) => {
+            Instruction::Fork { children: children.iter().map(|field| child(field)).collect::<Option<_>>()? }
         }
-        b"E" if after.is_empty() => Instruction::End,
+        [b"E"] => Instruction::End,
         _ => return None,
     };
-    Some(Line::Step(step))
+    Some(found)
 }
 
-/// A decimal figure without leading zeros, of any length.
-fn figure(text: &[u8]) -> Option<usize> {
-    let well = !text.is_empty() && text.iter().all(u8::is_ascii_digit) && (text.len() == 1 || text[0] != b'0');
-    well.then(|| text.iter().fold(0usize, |n, d| n.saturating_mul(10).saturating_add((d - b'0') as usize)))
+/// "pieces inside a field by one space"
+fn pieces(field: &[u8]) -> impl Iterator<Item = &[u8]> {
+    field.split(|&byte| byte == b' ')
 }
 
-/// A figure of a signed 32-bit value, perhaps with a minus; never `-0`.
-pub fn literal(text: &[u8]) -> Option<i32> {
-    let (negative, digits) = match text.strip_prefix(b"-") {
-        Some(digits) => (true, digits),
-        None => (false, text),
-    };
-    let size = i64::try_from(figure(digits)?).ok()?;
-    if negative && size == 0 {
-        return None;
-    }
-    i32::try_from(if negative { -size } else { size }).ok()
-}
-
-/// A figure that must fit into so many bits, as the trace's do.
-pub fn figure_below(text: &[u8], bits: u32) -> Option<u64> {
-    let mut value: u128 = 0;
-    figure(text)?;
-    for digit in text {
-        value = (value * 10 + (digit - b'0') as u128).min(1 << 70);
-    }
-    (value < 1 << bits).then_some(value as u64)
-}
-
-fn kinds(text: &[u8]) -> Option<Vec<bool>> {
-    if text == b"-" {
-        return Some(Vec::new());
-    }
-    let well = !text.is_empty() && text.iter().all(|b| b"rv".contains(b));
-    well.then(|| text.iter().map(|&b| b == b'r').collect())
-}
-
-fn names(pieces: &[&[u8]]) -> Option<Vec<usize>> {
-    pieces.iter().map(|p| figure(p)).collect()
-}
-
-fn pieces_of(field: &[u8]) -> Vec<&[u8]> {
-    field.split(|&b| b == b' ').collect()
-}
-
-fn waited(field: &[u8]) -> Option<Vec<usize>> {
-    let pieces = pieces_of(field);
-    if pieces.len() > 4 {
-        return None;
-    }
-    names(&pieces)
+fn figures(field: &[u8]) -> Option<Vec<usize>> {
+    pieces(field).map(figure).collect()
 }
 
 fn child(field: &[u8]) -> Option<Child> {
-    let pieces = pieces_of(field);
-    Some(Child { routine: figure(pieces[0])?, names: names(&pieces[1..])? })
+    let mut names = figures(field)?;
+    let routine = names.remove(0);
+    Some(Child { routine, names })
 }
 
-/// A postfix expression that leaves one value and never holds more than 8.
+/// "It leaves one value and never holds more than 8; both belong to its form."
 fn expression(field: &[u8]) -> Option<Vec<Piece>> {
-    let pieces: Vec<Piece> = pieces_of(field).into_iter().map(piece).collect::<Option<_>>()?;
-    let mut held = 0;
-    for piece in &pieces {
-        match piece {
-            Piece::Literal(_) | Piece::Value(_) | Piece::Written(_) => held += 1,
-            _ if held >= 2 => held -= 1,
+    let found: Vec<Piece> = pieces(field).map(piece).collect::<Option<_>>()?;
+    let mut held: usize = 0;
+    for piece in &found {
+        held = match piece {
+            Piece::Literal(_) | Piece::Value(_) | Piece::Written(_) => held + 1,
+            _ if held >= 2 => held - 1,
             _ => return None,
-        }
+        };
         if held > MOST_HELD {
             return None;
         }
     }
-    (held == 1).then_some(pieces)
+    (held == 1).then_some(found)
 }
 
 fn piece(text: &[u8]) -> Option<Piece> {
@@ -222,159 +256,189 @@ fn piece(text: &[u8]) -> Option<Piece> {
         b"-" => Some(Piece::Minus),
         b"*" => Some(Piece::Times),
         b"<" => Some(Piece::Less),
-        [b'#', rest @ ..] => literal(rest).map(Piece::Literal),
-        [b'@', rest @ ..] => figure(rest).map(Piece::Written),
-        _ => figure(text).map(Piece::Value),
+        [b'#', value @ ..] => literal(value).map(Piece::Literal),
+        [b'@', name @ ..] => figure(name).map(Piece::Written),
+        name => figure(name).map(Piece::Value),
     }
 }
 
-/// Question 3: the first line that passes a limit.
-fn limits(text: &[u8], lines: &[Line]) -> Result<(), Refusal> {
+// ---- question 3: the limits
+
+/// "Limits (the place is the line that passes one)"
+fn question_3(text: &[u8], lines: &[Line]) -> Result<(), Refusal> {
     let (mut bytes, mut routines, mut instructions, mut pieces) = (0, 0, 0, 0);
-    for ((at, line), raw) in lines.iter().enumerate().zip(text.split(|&b| b == b'\n')) {
-        bytes += raw.len() + 1;
-        let mut most_names = 0;
+    let closed = text.split_inclusive(|&byte| byte == b'\n');
+    for (index, (line, closed)) in lines.iter().zip(closed).enumerate() {
+        let mut names = 0;
+        bytes += closed.len();
         match line {
-            Line::Ports { .. } => {}
-            Line::Opening { by_reference, locals } => {
+            Line::Opening { .. } => {}
+            Line::Routine(routine) => {
                 routines += 1;
-                most_names = by_reference.len().saturating_add(*locals);
+                names = routine.names();
             }
-            Line::Step(_) => {
+            Line::Code(instruction) => {
                 instructions += 1;
-                // Each piece after the letter has one tab or one space before it.
-                pieces += raw.iter().filter(|&&b| b == b'\t' || b == b' ').count();
+                pieces += pieces_after_letter(instruction);
             }
         }
-        if bytes > LONGEST_FILE
-            || routines > MOST_ROUTINES
-            || instructions > MOST_INSTRUCTIONS
-            || most_names > MOST_NAMES
-            || pieces > MOST_PIECES
-        {
-            return Err(no(3, at));
+        let met = bytes <= LONGEST_FILE
+            && routines <= MOST_ROUTINES
+            && instructions <= MOST_INSTRUCTIONS
+            && names <= MOST_NAMES
+            && pieces <= MOST_PIECES;
+        if !met {
+            return no(3, index + 1);
         }
     }
     Ok(())
 }
 
-fn gathered(lines: &[Line]) -> Vec<Routine> {
-    let mut routines: Vec<Routine> = Vec::new();
-    for line in lines {
-        match line {
-            Line::Ports { .. } => {}
-            Line::Opening { by_reference, locals } => {
-                routines.push(Routine { by_reference: by_reference.clone(), locals: *locals, code: Vec::new() })
-            }
-            Line::Step(step) => routines.last_mut().expect("line 2 is an R").code.push(step.clone()),
-        }
+/// "pieces after the letters of instruction lines": all pieces of all later fields.
+fn pieces_after_letter(instruction: &Instruction) -> usize {
+    match instruction {
+        Instruction::Set { value, .. } => 1 + value.len(),
+        Instruction::After { delay, value, .. } => 1 + delay.len() + value.len(),
+        Instruction::Unless { test, .. } => test.len() + 1,
+        Instruction::Go { .. } => 1,
+        Instruction::Wait { names } => names.len(),
+        Instruction::Fork { children } => children.iter().map(|c| 1 + c.names.len()).sum(),
+        Instruction::End => 0,
     }
-    routines
 }
 
-/// Question 4: what every line points to is there; main is as stated.
-fn pointing(lines: &[Line], routines: &[Routine]) -> Result<(), Refusal> {
-    let Line::Ports { inputs, outputs } = lines[0] else { unreachable!() };
-    let Some(main) = routines.first() else { return Err(no(4, 0)) };
-    let stated = main.by_reference.len() == inputs.saturating_add(outputs) && main.by_reference.iter().all(|&r| r);
-    if !stated {
-        return Err(no(4, 1));
-    }
-    let mut opened = 0;
-    for (at, line) in lines.iter().enumerate() {
+/// "Then come the routines, numbered from 0": the program and the line of each `R`.
+fn gather(lines: Vec<Line>) -> (Program, Vec<usize>) {
+    let mut places = Vec::new();
+    let mut program = Program { inputs: 0, outputs: 0, routines: Vec::new() };
+    for (index, line) in lines.into_iter().enumerate() {
         match line {
-            Line::Ports { .. } => {}
-            Line::Opening { .. } => opened += 1,
-            Line::Step(step) => {
-                if !points(step, &routines[opened - 1], routines) {
-                    return Err(no(4, at));
-                }
+            Line::Opening { inputs, outputs } => {
+                program.inputs = inputs;
+                program.outputs = outputs;
+            }
+            Line::Routine(routine) => {
+                program.routines.push(routine);
+                places.push(index + 1);
+            }
+            Line::Code(instruction) => {
+                let routine = program.routines.last_mut();
+                routine.expect("line 2 is an R").code.push(instruction);
+            }
+        }
+    }
+    (program, places)
+}
+
+// ---- questions 4 and 5
+
+/// "Does every name, routine, jump and argument count point to something there? Is main as
+/// stated (place: its `R`, or 1 without one)?"
+fn question_4(program: &Program, places: &[usize]) -> Result<(), Refusal> {
+    match program.routines.first() {
+        None => return no(4, 1),
+        Some(main) if !main_as_stated(program, main) => return no(4, places[0]),
+        Some(_) => {}
+    }
+    for (routine, place) in program.routines.iter().zip(places) {
+        for (index, instruction) in routine.code.iter().enumerate() {
+            if !points(program, routine, instruction) {
+                return no(4, place + 1 + index);
             }
         }
     }
     Ok(())
 }
 
-fn points(step: &Instruction, own: &Routine, routines: &[Routine]) -> bool {
-    let there = |name: &usize| *name < own.names();
-    let expression_there = |pieces: &[Piece]| {
-        pieces.iter().all(|p| match p {
-            Piece::Value(name) | Piece::Written(name) => there(name),
+/// "Main has i + o arguments, all `r`"
+fn main_as_stated(program: &Program, main: &Routine) -> bool {
+    let arguments = program.inputs.saturating_add(program.outputs);
+    main.by_reference.len() == arguments && main.by_reference.iter().all(|&kind| kind)
+}
+
+fn points(program: &Program, routine: &Routine, instruction: &Instruction) -> bool {
+    let name = |name: &usize| *name < routine.names();
+    let all = |pieces: &[Piece]| {
+        pieces.iter().all(|piece| match piece {
+            Piece::Value(n) | Piece::Written(n) => name(n),
             _ => true,
         })
     };
-    match step {
-        Instruction::Set { name, value } => there(name) && expression_there(value),
-        Instruction::After { name, delay, value } => there(name) && expression_there(delay) && expression_there(value),
-        Instruction::Unless { test, target } => expression_there(test) && *target < own.code.len(),
-        Instruction::Go { target } => *target < own.code.len(),
-        Instruction::Wait { names } => names.iter().all(there),
-        Instruction::Fork { children } => children.iter().all(|c| {
-            c.names.iter().all(there)
-                && routines.get(c.routine).is_some_and(|callee| callee.by_reference.len() == c.names.len())
+    let jump = |target: &usize| *target < routine.code.len();
+    match instruction {
+        Instruction::Set { name: n, value } => name(n) && all(value),
+        Instruction::After { name: n, delay, value } => name(n) && all(delay) && all(value),
+        Instruction::Unless { test, target } => all(test) && jump(target),
+        Instruction::Go { target } => jump(target),
+        Instruction::Wait { names } => names.iter().all(name),
+        Instruction::Fork { children } => children.iter().all(|child| {
+            let forked = program.routines.get(child.routine);
+            let counted = forked.is_some_and(|r| r.by_reference.len() == child.names.len());
+            counted && child.names.iter().all(name)
         }),
         Instruction::End => true,
     }
 }
 
-/// Question 5: every routine has a line, the last being `E` or `G`.
-fn endings(lines: &[Line]) -> Result<(), Refusal> {
-    for at in 1..lines.len() {
-        let last = lines.get(at + 1).is_none_or(|next| matches!(next, Line::Opening { .. }));
-        let ends = matches!(lines[at], Line::Step(Instruction::End | Instruction::Go { .. }));
-        if last && !ends {
-            return Err(no(5, at));
+/// "Has every routine a line (place: its `R`), the last being `E` or `G`?"
+fn question_5(program: &Program, places: &[usize]) -> Result<(), Refusal> {
+    for (routine, place) in program.routines.iter().zip(places) {
+        match routine.code.last() {
+            Some(Instruction::End | Instruction::Go { .. }) => {}
+            _ => return no(5, place + routine.code.len()),
         }
     }
     Ok(())
 }
 
-/// The text of a program, the one that loads to it.
+// ---- the text of a listing
+
+/// The listing of a program; no other text stands for the same program.
 pub fn text(program: &Program) -> Vec<u8> {
-    let mut out = format!("P\t{}\t{}\n", program.inputs, program.outputs);
+    let mut text = format!("P\t{}\t{}\n", program.inputs, program.outputs);
     for routine in &program.routines {
-        let letters: String = routine.by_reference.iter().map(|&r| if r { 'r' } else { 'v' }).collect();
-        let letters = if letters.is_empty() { "-".to_string() } else { letters };
-        out += &format!("R\t{}\t{}\n", letters, routine.locals);
-        for step in &routine.code {
-            out += &step_text(step);
-            out.push('\n');
+        let letter = |&kind: &bool| if kind { 'r' } else { 'v' };
+        let letters: String = routine.by_reference.iter().map(letter).collect();
+        let letters = if letters.is_empty() { "-" } else { &letters };
+        text += &format!("R\t{}\t{}\n", letters, routine.locals);
+        for instruction in &routine.code {
+            text += &line_text(instruction);
+            text.push('\n');
         }
     }
-    out.into_bytes()
+    text.into_bytes()
 }
 
-fn step_text(step: &Instruction) -> String {
-    match step {
-        Instruction::Set { name, value } => format!("S\t{name}\t{}", pieces_text(value)),
+fn line_text(instruction: &Instruction) -> String {
+    match instruction {
+        Instruction::Set { name, value } => format!("S\t{name}\t{}", expression_text(value)),
         Instruction::After { name, delay, value } => {
-            format!("A\t{name}\t{}\t{}", pieces_text(delay), pieces_text(value))
+            let (delay, value) = (expression_text(delay), expression_text(value));
+            format!("A\t{name}\t{delay}\t{value}")
         }
-        Instruction::Unless { test, target } => format!("U\t{}\t{target}", pieces_text(test)),
+        Instruction::Unless { test, target } => format!("U\t{}\t{target}", expression_text(test)),
         Instruction::Go { target } => format!("G\t{target}"),
-        Instruction::Wait { names } => format!("W\t{}", names_text(names)),
-        Instruction::Fork { children } => children.iter().fold("F".to_string(), |line, c| {
-            let mut figures = vec![c.routine];
-            figures.extend(&c.names);
-            line + "\t" + &names_text(&figures)
-        }),
+        Instruction::Wait { names } => format!("W\t{}", spaced(names.iter())),
+        Instruction::Fork { children } => children
+            .iter()
+            .fold("F".to_string(), |line, c| line + "\t" + &spaced(std::iter::once(&c.routine).chain(&c.names))),
         Instruction::End => "E".to_string(),
     }
 }
 
-fn names_text(names: &[usize]) -> String {
-    names.iter().map(usize::to_string).collect::<Vec<_>>().join(" ")
-}
-
-fn pieces_text(pieces: &[Piece]) -> String {
-    let one = |p: &Piece| match p {
-        Piece::Literal(v) => format!("#{v}"),
-        Piece::Value(n) => format!("{n}"),
-        Piece::Written(n) => format!("@{n}"),
+fn expression_text(pieces: &[Piece]) -> String {
+    spaced(pieces.iter().map(|piece| match piece {
+        Piece::Literal(value) => format!("#{value}"),
+        Piece::Value(name) => format!("{name}"),
+        Piece::Written(name) => format!("@{name}"),
         Piece::Plus => "+".to_string(),
         Piece::Minus => "-".to_string(),
         Piece::Times => "*".to_string(),
         Piece::Less => "<".to_string(),
-    };
-    pieces.iter().map(one).collect::<Vec<_>>().join(" ")
+    }))
+}
+
+fn spaced<T: ToString>(pieces: impl Iterator<Item = T>) -> String {
+    let pieces: Vec<String> = pieces.map(|piece| piece.to_string()).collect();
+    pieces.join(" ")
 }

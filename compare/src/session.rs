@@ -1,138 +1,142 @@
-//! The session of document 01: what it prints for a listing and a trace.
+//! The session: a listing file and a trace file, and what is printed for them.
 
-use crate::listing::{self, Program, LONGEST_FILE};
-use crate::walk::{Answer, Machine, Number};
+use crate::listing::{figure_below, literal, load, Program, LONGEST_FILE};
+use crate::walk::{Answer, Machine};
 
+/// "allowance 10,000"
 const ALLOWANCE: u32 = 10_000;
 
-/// A line of the trace.
-enum Line {
-    Input { time: u64, number: u32, value: i32 },
-    Last { time: u64 },
+/// Why a session goes no further.
+enum Ending {
+    Code(u32),
+    TooManyInstants,
 }
 
-struct Session<'a> {
-    program: &'a Program,
-    machine: Machine,
-    printed: Vec<u8>,
-    /// Moment of the last finished instant.
-    moment: u64,
-    instants_left: usize,
+/// A line of the trace: "`I|time|input|value` (64, 32 and signed 32 bits)" or "`Q|time`".
+#[derive(Clone, Copy)]
+enum Entry {
+    Input(u64, (u32, i32)),
+    Last(u64),
 }
 
-/// Why a session ended before its trace did.
-enum Ended {
-    By(Number),
-    TooLong,
-}
-
-/// What the session prints; nothing if it would make more than `most_instants` instants.
+/// The printed bytes; none if there are more instants after the start than `most_instants`.
 pub fn session(text: &[u8], trace: &[u8], most_instants: usize) -> Option<Vec<u8>> {
+    let (program, machine, answer) = match begin(text, trace) {
+        Ok(begun) => begun,
+        Err(code) => return Some(format!("X\t{code}\t0\n").into_bytes()),
+    };
+    let printed = String::new();
+    let mut run = Run { program, machine, printed, moment: 0, left: most_instants };
+    run.finish(0, &answer);
+    let code = match run.follow(trace) {
+        Ok(()) => 0,
+        Err(Ending::Code(code)) => code,
+        Err(Ending::TooManyInstants) => return None,
+    };
+    // "then `X|code|present moment`"
+    run.printed += &format!("X\t{code}\t{}\n", run.moment);
+    Some(run.printed.into_bytes())
+}
+
+/// "Before loading, a listing over 49,152 bytes has code 3, else a trace over 49,152 code 2."
+/// Then the listing is loaded and the machine started.
+fn begin(text: &[u8], trace: &[u8]) -> Result<(Program, Machine, Answer), u32> {
     if text.len() > LONGEST_FILE {
-        return Some(last_line(Vec::new(), 3, 0));
+        return Err(3);
     }
     if trace.len() > LONGEST_FILE {
-        return Some(last_line(Vec::new(), 2, 0));
+        return Err(2);
     }
-    let program = match listing::load(text) {
-        Ok(program) => program,
-        Err(refusal) => return Some(last_line(Vec::new(), refusal.number, 0)),
-    };
-    let (machine, answer) = Machine::start(&program, ALLOWANCE).expect("the allowance is within bounds");
-    if answer.number != 0 {
-        return Some(last_line(Vec::new(), answer.number, 0));
-    }
-    let mut session =
-        Session { program: &program, machine, printed: Vec::new(), moment: 0, instants_left: most_instants };
-    session.print(&answer, 0);
-    let code = match session.follow(trace) {
-        Ok(()) => 0,
-        Err(Ended::By(number)) => number,
-        Err(Ended::TooLong) => return None,
-    };
-    Some(last_line(session.printed, code, session.moment))
+    let program = load(text).map_err(|refusal| refusal.number)?;
+    let (machine, answer) = Machine::start(&program, ALLOWANCE)?;
+    Ok((program, machine, answer))
 }
 
-fn last_line(mut printed: Vec<u8>, code: Number, moment: u64) -> Vec<u8> {
-    printed.extend(format!("X\t{code}\t{moment}\n").into_bytes());
-    printed
+/// A started machine, what is printed so far, and the moment of the last finished instant.
+struct Run {
+    program: Program,
+    machine: Machine,
+    printed: String,
+    moment: u64,
+    left: usize,
 }
 
-impl Session<'_> {
-    fn follow(&mut self, trace: &[u8]) -> Result<(), Ended> {
-        let mut rest = trace;
-        let mut group: Option<(u64, Vec<(u32, i32)>)> = None;
+impl Run {
+    fn follow(&mut self, trace: &[u8]) -> Result<(), Ending> {
+        let mut entries = trace.split_inclusive(|&byte| byte == b'\n').map(entry).peekable();
         loop {
-            let line = match rest.iter().position(|&b| b == b'\n') {
-                Some(end) => {
-                    let line = line_form(&rest[..end]);
-                    rest = &rest[end + 1..];
-                    line
+            match entries.next() {
+                Some(Some(Entry::Input(time, input))) => {
+                    // "neighbours of equal time forming one call"
+                    let mut inputs = vec![input];
+                    while let Some(&Some(Entry::Input(next, input))) = entries.peek() {
+                        if next != time {
+                            break;
+                        }
+                        inputs.push(input);
+                        entries.next();
+                    }
+                    self.make_due(|due| due < time)?;
+                    self.instant(time, &inputs)?;
                 }
-                None => None,
-            };
-            if let (Some(Line::Input { time, number, value }), Some((same, inputs))) = (&line, &mut group) {
-                if time == same {
-                    inputs.push((*number, *value));
-                    continue;
+                // "and those due up to Q's time"
+                Some(Some(Entry::Last(time))) => {
+                    self.make_due(|due| due <= time)?;
+                    break;
                 }
+                // "A line out of form when it is reached, one after `Q`, or no `Q` at the end
+                // has code 2, after the call of the lines before it."
+                Some(None) | None => return Err(Ending::Code(2)),
             }
-            if let Some((time, inputs)) = group.take() {
-                self.call(time, &inputs)?;
-            }
-            match line {
-                Some(Line::Input { time, number, value }) => group = Some((time, vec![(number, value)])),
-                Some(Line::Last { time }) => {
-                    self.due_up_to(time)?;
-                    return if rest.is_empty() { Ok(()) } else { Err(Ended::By(2)) };
-                }
-                None => return Err(Ended::By(2)),
-            }
+        }
+        match entries.next() {
+            Some(_) => Err(Ending::Code(2)),
+            None => Ok(()),
         }
     }
 
-    /// The due instants before the time, then the call itself.
-    fn call(&mut self, time: u64, inputs: &[(u32, i32)]) -> Result<(), Ended> {
-        while let Some(due) = self.machine.due().filter(|&due| due < time) {
-            self.instant(due, &[])?;
-        }
-        self.instant(time, inputs)
-    }
-
-    fn due_up_to(&mut self, time: u64) -> Result<(), Ended> {
-        while let Some(due) = self.machine.due().filter(|&due| due <= time) {
+    /// "The program makes every due instant between"
+    fn make_due(&mut self, wanted: impl Fn(u64) -> bool) -> Result<(), Ending> {
+        while let Some(due) = self.machine.due().filter(|&due| wanted(due)) {
             self.instant(due, &[])?;
         }
         Ok(())
     }
 
-    fn instant(&mut self, time: u64, inputs: &[(u32, i32)]) -> Result<(), Ended> {
-        self.instants_left = self.instants_left.checked_sub(1).ok_or(Ended::TooLong)?;
-        let answer = self.machine.instant(self.program, time, inputs, ALLOWANCE);
+    /// "the first refusal or stop ends it"
+    fn instant(&mut self, t: u64, inputs: &[(u32, i32)]) -> Result<(), Ending> {
+        let answer = self.machine.instant(&self.program, t, inputs, ALLOWANCE);
+        if (1..=12).contains(&answer.number) {
+            return Err(Ending::Code(answer.number));
+        }
+        self.left = self.left.checked_sub(1).ok_or(Ending::TooManyInstants)?;
         if answer.number != 0 {
-            return Err(Ended::By(answer.number));
+            return Err(Ending::Code(answer.number));
         }
-        self.moment = time;
-        self.print(&answer, time);
+        self.finish(t, &answer);
         Ok(())
     }
 
-    fn print(&mut self, answer: &Answer, time: u64) {
+    /// "It prints `O|time|output|value` for each write". "The moment is that of the last
+    /// finished instant, 0 if there is none."
+    fn finish(&mut self, t: u64, answer: &Answer) {
+        self.moment = t;
         for (output, value) in &answer.outputs {
-            self.printed.extend(format!("O\t{time}\t{output}\t{value}\n").into_bytes());
+            self.printed += &format!("O\t{t}\t{output}\t{value}\n");
         }
     }
 }
 
-fn line_form(line: &[u8]) -> Option<Line> {
-    let fields: Vec<&[u8]> = line.split(|&b| b == b'\t').collect();
-    match fields[..] {
-        [b"I", time, number, value] => Some(Line::Input {
-            time: listing::figure_below(time, 64)?,
-            number: listing::figure_below(number, 32)? as u32,
-            value: listing::literal(value)?,
-        }),
-        [b"Q", time] => Some(Line::Last { time: listing::figure_below(time, 64)? }),
+/// A line "in the listing's style", closed by a line feed; none if it is out of form.
+fn entry(closed: &[u8]) -> Option<Entry> {
+    let line = closed.strip_suffix(b"\n")?;
+    let fields: Vec<&[u8]> = line.split(|&byte| byte == b'\t').collect();
+    match fields.as_slice() {
+        [b"I", time, input, value] => {
+            let input = figure_below(input, 32)? as u32;
+            Some(Entry::Input(figure_below(time, 64)?, (input, literal(value)?)))
+        }
+        [b"Q", time] => figure_below(time, 64).map(Entry::Last),
         _ => None,
     }
 }

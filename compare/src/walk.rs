@@ -1,39 +1,36 @@
-//! The walk of document 01 without queues: a tree of routines, visited whole in every instant.
-//! A variable has a name of its own that is never used again. Written from document 01 and, where
-//! that leaves a point open, from docs/DECISIONS.md; not from the definitions.
+//! The walk: instants on a tree of routines, without a queue.
 
 use crate::listing::{Child, Instruction, Piece, Program};
 use std::collections::BTreeMap;
 
-const MOST_LIVE: usize = 64;
-const DEEPEST: usize = 10;
-const MOST_ALLOWED: u32 = 1_000_000;
-
-/// The number of a refusal or stop.
+/// The number of a question.
 pub type Number = u32;
-
-/// A variable's own name; the environment's are 0, 1, ..
+/// Environment variables are numbered from 0 as main's names; the others follow.
 pub type Variable = u64;
 
+/// "the deepest level is 10"
+pub const DEEPEST_LEVEL: usize = 10;
+/// "At most 64 routines live"
+pub const MOST_LIVE: usize = 64;
+/// "12 Is the allowance 1 to 1,000,000?"
+pub const MOST_STEPS: u32 = 1_000_000;
+
+/// "Each variable has at most one waiting write": moment due and value.
 #[derive(Clone, Copy, Debug, Default, PartialEq)]
 pub struct Cell {
     pub value: i32,
     pub written: bool,
-    /// The waiting write: moment due, value.
     pub waiting: Option<(u64, i32)>,
 }
 
-/// A live routine with its live children.
+/// A live routine and the children it has forked that are still live, in order.
 #[derive(Clone, Debug, PartialEq)]
 pub struct Live {
     pub routine: usize,
     pub level: usize,
-    /// The number of the child field that made it, in its parent's `F`; 0 for main.
     pub field: usize,
     pub at: usize,
-    /// The variable of each name.
     pub names: Vec<Variable>,
-    /// The variables that vanish with it.
     pub own: Vec<Variable>,
     pub children: Vec<Live>,
 }
@@ -52,310 +49,345 @@ pub struct Machine {
 pub struct Answer {
     pub number: Number,
     pub steps: u32,
-    /// Output number and final value, rising by number.
     pub outputs: Vec<(u32, i32)>,
     pub due: Option<u64>,
 }
 
 impl Answer {
+    /// "its other result figures are 0 and due is none"
     pub fn refused(number: Number) -> Answer {
         Answer { number, steps: 0, outputs: Vec::new(), due: None }
     }
 }
 
-/// One instant under way.
-struct Instant<'a> {
-    program: &'a Program,
-    cells: BTreeMap<Variable, Cell>,
-    next_variable: Variable,
-    moment: u64,
-    live: usize,
-    steps: u32,
-    allowance: u32,
-}
-
-fn allowed(allowance: u32) -> bool {
-    (1..=MOST_ALLOWED).contains(&allowance)
-}
-
-impl Machine {
-    /// The start, questions 1 and 6 being answered: a machine and its answer, or a refusal (12).
-    pub fn start(program: &Program, allowance: u32) -> Result<(Machine, Answer), Number> {
-        if !allowed(allowance) {
-            return Err(12);
-        }
-        let environment = (program.inputs + program.outputs) as Variable;
-        let mut machine = Machine {
-            moment: 0,
-            main: None,
-            cells: (0..environment).map(|v| (v, Cell::default())).collect(),
-            next_variable: environment,
-            stopped: None,
-        };
-        let answer = machine.pass(program, 0, &[], allowance, true);
-        Ok((machine, answer))
-    }
-
-    /// An instant, questions 1, 6 and 7 being answered. `inputs`: number and value.
-    pub fn instant(&mut self, program: &Program, t: u64, inputs: &[(u32, i32)], allowance: u32) -> Answer {
-        let rising = inputs.windows(2).all(|pair| pair[0].0 < pair[1].0);
-        let there = inputs.iter().all(|&(number, _)| (number as usize) < program.inputs);
-        let questions = [
-            (8, self.stopped.is_none()),
-            (9, t > self.moment),
-            (10, self.due().is_none_or(|due| due >= t)),
-            (11, rising && there),
-            (12, allowed(allowance)),
-        ];
-        if let Some((number, _)) = questions.iter().find(|(_, yes)| !yes) {
-            return Answer::refused(*number);
-        }
-        self.pass(program, t, inputs, allowance, false)
-    }
-
-    /// The next moment due.
-    pub fn due(&self) -> Option<u64> {
-        self.cells.values().filter_map(|cell| cell.waiting).map(|(due, _)| due).min()
-    }
-
-    /// Equal present moments, and equal values of all environment variables.
-    pub fn alike(&self, other: &Machine, program: &Program) -> bool {
-        let environment = 0..(program.inputs + program.outputs) as Variable;
-        self.moment == other.moment && environment.into_iter().all(|v| self.cells[&v].value == other.cells[&v].value)
-    }
-
-    fn pass(&mut self, program: &Program, t: u64, inputs: &[(u32, i32)], allowance: u32, start: bool) -> Answer {
-        let mut instant = Instant {
-            program,
-            cells: std::mem::take(&mut self.cells),
-            next_variable: self.next_variable,
-            moment: t,
-            live: self.main.as_ref().map_or(0, count),
-            steps: 0,
-            allowance,
-        };
-        instant.due_writes();
-        for &(number, value) in inputs {
-            instant.write(number as Variable, value);
-        }
-        let went = if start {
-            let names: Vec<Variable> = (0..self.next_variable).collect();
-            instant.start_main(names)
-        } else {
-            instant.visit_main(self.main.take())
-        };
-        match went {
-            Err(number) => {
-                self.stopped = Some(number);
-                Answer::refused(number)
-            }
-            Ok(main) => {
-                let outputs = instant.outputs();
-                let steps = instant.steps;
-                self.next_variable = instant.next_variable;
-                self.cells = instant.cells;
-                self.main = main;
-                self.moment = t;
-                Answer { number: 0, steps, outputs, due: self.due() }
-            }
-        }
-    }
-}
-
-/// The routines of a tree.
+/// How many routines of this tree live.
 pub fn count(live: &Live) -> usize {
     1 + live.children.iter().map(count).sum::<usize>()
 }
 
-impl Instant<'_> {
-    fn due_writes(&mut self) {
+impl Machine {
+    /// The environment's variables and nothing else: what main leaves if it ends at once.
+    pub fn without_main(program: &Program, moment: u64) -> Machine {
+        let environment = (program.inputs + program.outputs) as Variable;
+        Machine {
+            moment,
+            main: None,
+            cells: (0..environment).map(|v| (v, Cell::default())).collect(),
+            next_variable: environment,
+            stopped: None,
+        }
+    }
+
+    /// "The start is the instant 0, with main newly called and no inputs."
+    pub fn start(program: &Program, allowance: u32) -> Result<(Machine, Answer), Number> {
+        let mut machine = Machine::without_main(program, 0);
+        machine.main = Some(machine.call_main(program));
+        let answer = machine.walk(program, allowance, true)?;
+        Ok((machine, answer))
+    }
+
+    /// One instant at `t`, or the first question from 8 to 12 that is answered no.
+    pub fn instant(&mut self, program: &Program, t: u64, inputs: &[(u32, i32)], allowance: u32) -> Answer {
+        if let Some(number) = self.refusal(program, t, inputs, allowance) {
+            return Answer::refused(number);
+        }
+        self.moment = t;
+        self.make_due_writes();
+        for &(number, value) in inputs {
+            self.write(Variable::from(number), value);
+        }
+        self.walk(program, allowance, false).unwrap_or_else(|number| {
+            *self = Machine::stopped(number);
+            Answer::refused(number)
+        })
+    }
+
+    /// Questions 8 to 12, in order.
+    fn refusal(&self, program: &Program, t: u64, inputs: &[(u32, i32)], allowance: u32) -> Option<Number> {
+        let below = inputs.iter().all(|&(n, _)| (n as usize) < program.inputs);
+        let rising = inputs.windows(2).all(|pair| pair[0].0 < pair[1].0);
+        let answers = [
+            (8, self.stopped.is_none()),
+            (9, t > self.moment),
+            (10, self.due().iter().all(|&due| due >= t)),
+            (11, below && rising),
+            (12, allowance_in_range(allowance)),
+        ];
+        answers.iter().find(|answer| !answer.1).map(|answer| answer.0)
+    }
+
+    /// "the next moment due or none"
+    pub fn due(&self) -> Option<u64> {
+        let waiting = self.cells.values().filter_map(|cell| cell.waiting);
+        waiting.map(|(due, _)| due).min()
+    }
+
+    /// "Two running machines are alike when their present moments and the values of all
+    /// environment variables are equal."
+    pub fn alike(&self, other: &Machine, program: &Program) -> bool {
+        let environment = (program.inputs + program.outputs) as Variable;
+        let value = |machine: &Machine, v| machine.cells.get(&v).map(|cell| cell.value);
+        let running = self.stopped.is_none() && other.stopped.is_none();
+        let equal = (0..environment).all(|v| value(self, v) == value(other, v));
+        running && self.moment == other.moment && equal
+    }
+
+    /// "Every waiting write due at t is made, and is gone."
+    fn make_due_writes(&mut self) {
         for cell in self.cells.values_mut() {
-            cell.written = false;
-            if let Some((_, value)) = cell.waiting.filter(|&(due, _)| due == self.moment) {
-                *cell = Cell { value, written: true, waiting: None };
+            match cell.waiting {
+                Some((due, value)) if due == self.moment => {
+                    cell.value = value;
+                    cell.written = true;
+                    cell.waiting = None;
+                }
+                _ => {}
             }
         }
     }
 
+    fn cell(&mut self, variable: Variable) -> &mut Cell {
+        self.cells.get_mut(&variable).expect("a living variable")
+    }
+
+    /// A write now: "`S` and inputs leave it there" (the waiting write).
     fn write(&mut self, variable: Variable, value: i32) {
-        let cell = self.cells.get_mut(&variable).expect("a name leads to a variable that is there");
+        let cell = self.cell(variable);
         cell.value = value;
         cell.written = true;
     }
 
-    fn outputs(&self) -> Vec<(u32, i32)> {
-        let first = self.program.inputs as Variable;
-        let end = first + self.program.outputs as Variable;
-        (first..end).filter(|v| self.cells[v].written).map(|v| (v as u32, self.cells[&v].value)).collect()
+    /// "New variables hold 0, or the passed value for `v`, and are not written."
+    fn new_variable(&mut self, value: i32) -> Variable {
+        let variable = self.next_variable;
+        let cell = Cell { value, ..Cell::default() };
+        self.cells.insert(variable, cell);
+        self.next_variable += 1;
+        variable
     }
 
-    fn start_main(&mut self, names: Vec<Variable>) -> Result<Option<Live>, Number> {
-        let mut main = Live { routine: 0, level: 0, field: 0, at: 0, names, own: Vec::new(), children: Vec::new() };
-        self.add_locals(&mut main);
-        self.live = 1;
-        let ended = self.go_on(&mut main)?;
-        Ok((!ended).then_some(main))
-    }
-
-    fn visit_main(&mut self, main: Option<Live>) -> Result<Option<Live>, Number> {
-        let Some(mut main) = main else { return Ok(None) };
-        let ended = self.visit(&mut main)?;
-        Ok((!ended).then_some(main))
-    }
-
-    /// Visits a sleeping routine in its turn; says whether it has ended.
-    fn visit(&mut self, live: &mut Live) -> Result<bool, Number> {
-        match &self.program.routines[live.routine].code[live.at] {
-            Instruction::Wait { names } => {
-                if !names.iter().any(|&n| self.cells[&live.names[n]].written) {
-                    return Ok(false);
-                }
+    /// A routine newly called with the variables that are passed to it.
+    fn call(&mut self, program: &Program, routine: usize, passed: &[Variable]) -> Live {
+        let called = &program.routines[routine];
+        let (mut names, mut own) = (passed.to_vec(), Vec::new());
+        for (name, by_reference) in names.iter_mut().zip(&called.by_reference) {
+            if !by_reference {
+                let value = self.cell(*name).value;
+                *name = self.new_variable(value);
+                own.push(*name);
             }
-            Instruction::Fork { .. } => {
-                let mut left = Vec::new();
-                for mut child in std::mem::take(&mut live.children) {
-                    if !self.visit(&mut child)? {
-                        left.push(child);
-                    }
-                }
-                live.children = left;
-                if !live.children.is_empty() {
-                    return Ok(false);
-                }
-            }
-            _ => unreachable!("a routine sleeps at a wait or a fork"),
+        }
+        for _ in 0..called.locals {
+            let local = self.new_variable(0);
+            names.push(local);
+            own.push(local);
+        }
+        Live { routine, level: 0, field: 0, at: 0, names, own, children: Vec::new() }
+    }
+
+    /// "Main has i + o arguments, all `r`: the environment's variables, inputs first."
+    /// "Main is at level 0"
+    pub fn call_main(&mut self, program: &Program) -> Live {
+        let passed: Vec<Variable> = (0..self.next_variable).collect();
+        self.call(program, 0, &passed)
+    }
+
+    /// The child that field number `field` of the parent's `F` makes: "a child one deeper".
+    pub fn call_child(&mut self, program: &Program, parent: &Live, field: usize, child: &Child) -> Live {
+        let passed: Vec<Variable> = child.names.iter().map(|&n| parent.names[n]).collect();
+        Live { level: parent.level + 1, field, ..self.call(program, child.routine, &passed) }
+    }
+
+    /// "The tree is visited from main." Gives the result; no mark of the instant is left.
+    fn walk(&mut self, program: &Program, allowance: u32, new: bool) -> Result<Answer, Number> {
+        let mut main = self.main.take();
+        let live = main.as_ref().map_or(0, count);
+        let mut walk = Walk { program, machine: self, live, left: allowance };
+        let lives = match &mut main {
+            Some(main) => walk.turn(main, new)?,
+            None => false,
+        };
+        let steps = allowance - walk.left;
+        self.main = main.filter(|_| lives);
+        let outputs = self.written_outputs(program);
+        self.cells.values_mut().for_each(|cell| cell.written = false);
+        Ok(Answer { number: 0, steps, outputs, due: self.due() })
+    }
+
+    /// "Outputs written in the instant are put in the two lent lists (number, final value),
+    /// rising by number". "An output's number is its name number in main."
+    fn written_outputs(&self, program: &Program) -> Vec<(u32, i32)> {
+        let numbers = program.inputs..program.inputs + program.outputs;
+        let listed = numbers.map(|number| (number as u32, self.cells[&(number as Variable)]));
+        let written = listed.filter(|(_, cell)| cell.written);
+        written.map(|(number, cell)| (number, cell.value)).collect()
+    }
+
+    /// "The machine's first word holds the number (0 while running), its other 12,287 words
+    /// are 0": nothing else is left.
+    pub fn stopped(number: Number) -> Machine {
+        Machine { moment: 0, main: None, cells: BTreeMap::new(), next_variable: 0, stopped: Some(number) }
+    }
+}
+
+/// "12 Is the allowance 1 to 1,000,000?"
+pub fn allowance_in_range(allowance: u32) -> bool {
+    (1..=MOST_STEPS).contains(&allowance)
+}
+
+/// Does the routine still live after its turn?
+type Turn = Result<bool, Number>;
+
+/// An instant under way: live routines and steps left.
+struct Walk<'a> {
+    program: &'a Program,
+    machine: &'a mut Machine,
+    live: usize,
+    left: u32,
+}
+
+impl<'a> Walk<'a> {
+    /// A routine's turn: a new one runs, another is visited.
+    fn turn(&mut self, live: &mut Live, new: bool) -> Turn {
+        match new {
+            true => self.run(live),
+            false => self.visit(live),
+        }
+    }
+
+    fn instruction(&self, live: &Live) -> &'a Instruction {
+        &self.program.routines[live.routine].code[live.at]
+    }
+
+    /// "A routine at `W` goes on if a name of that wait has been written in this instant
+    /// before its turn; otherwise it stays. At `F`, the live children are visited in order;
+    /// once none is left the parent goes on in the same instant."
+    fn visit(&mut self, live: &mut Live) -> Turn {
+        let stays = match self.instruction(live) {
+            Instruction::Wait { names } => !names.iter().any(|&n| self.written(live, n)),
+            _ => self.children(live, false)?,
+        };
+        if stays {
+            return Ok(true);
         }
         live.at += 1;
-        self.go_on(live)
+        self.run(live)
     }
 
-    /// Runs a routine until it sleeps or ends; says whether it has ended.
-    fn go_on(&mut self, live: &mut Live) -> Result<bool, Number> {
-        let program = self.program;
-        loop {
-            if self.steps == self.allowance {
-                return Err(13);
-            }
-            self.steps += 1;
-            let mut next = live.at + 1;
-            match &program.routines[live.routine].code[live.at] {
-                Instruction::Set { name, value } => {
-                    let value = self.evaluate(value, live);
-                    self.write(live.names[*name], value);
-                }
-                Instruction::After { name, delay, value } => self.put_waiting(live, *name, delay, value)?,
-                Instruction::Unless { test, target } => {
-                    if self.evaluate(test, live) == 0 {
-                        next = *target;
-                    }
-                }
-                Instruction::Go { target } => next = *target,
-                Instruction::Wait { .. } => return Ok(false),
-                Instruction::Fork { children } => {
-                    self.fork(live, children)?;
-                    if !live.children.is_empty() {
-                        return Ok(false);
-                    }
-                }
-                Instruction::End => {
-                    self.live -= 1;
-                    for variable in &live.own {
-                        self.cells.remove(variable);
-                    }
-                    return Ok(true);
-                }
-            }
-            live.at = next;
-        }
-    }
-
-    fn put_waiting(&mut self, live: &Live, name: usize, delay: &[Piece], value: &[Piece]) -> Result<(), Number> {
-        let delay = self.evaluate(delay, live);
-        let value = self.evaluate(value, live);
-        if delay < 1 {
-            return Err(16);
-        }
-        let due = self.moment.checked_add(delay as u64).ok_or(17u32)?;
-        self.cells.get_mut(&live.names[name]).expect("a name leads to a variable that is there").waiting =
-            Some((due, value));
-        Ok(())
-    }
-
-    /// Makes all children, then runs each; those that have not ended stay.
-    fn fork(&mut self, live: &mut Live, fields: &[Child]) -> Result<(), Number> {
-        if self.live + fields.len() > MOST_LIVE {
-            return Err(14);
-        }
-        if live.level >= DEEPEST {
-            return Err(15);
-        }
-        self.live += fields.len();
-        let children: Vec<Live> = fields.iter().enumerate().map(|(k, field)| self.child(live, k, field)).collect();
-        for mut child in children {
-            if !self.go_on(&mut child)? {
+    /// The turns of the children, in order; is one left?
+    fn children(&mut self, live: &mut Live, new: bool) -> Turn {
+        for mut child in std::mem::take(&mut live.children) {
+            if self.turn(&mut child, new)? {
                 live.children.push(child);
             }
         }
+        Ok(!live.children.is_empty())
+    }
+
+    /// "A running routine goes until `W`, `F` or `E`."
+    fn run(&mut self, live: &mut Live) -> Turn {
+        loop {
+            self.count_step()?;
+            live.at = match self.instruction(live) {
+                Instruction::Set { name, value } => {
+                    let value = self.value(live, value);
+                    self.machine.write(live.names[*name], value);
+                    live.at + 1
+                }
+                Instruction::After { name, delay, value } => {
+                    let waiting = self.waiting_write(live, delay, value)?;
+                    self.machine.cell(live.names[*name]).waiting = Some(waiting);
+                    live.at + 1
+                }
+                Instruction::Unless { test, target } if self.value(live, test) == 0 => *target,
+                Instruction::Unless { .. } => live.at + 1,
+                Instruction::Go { target } => *target,
+                // "A wait reached now sleeps, even if its name was written earlier in this
+                // instant."
+                Instruction::Wait { .. } => return Ok(true),
+                Instruction::Fork { children } => {
+                    self.fork(live, children)?;
+                    if self.children(live, true)? {
+                        return Ok(true);
+                    }
+                    live.at + 1
+                }
+                Instruction::End => {
+                    self.end(live);
+                    return Ok(false);
+                }
+            };
+        }
+    }
+
+    /// "each instruction reached counts one"; "13 Is a step left?"
+    fn count_step(&mut self) -> Result<(), Number> {
+        self.left = self.left.checked_sub(1).ok_or(13u32)?;
         Ok(())
     }
 
-    fn child(&mut self, parent: &Live, k: usize, field: &Child) -> Live {
-        let mut child = Live {
-            routine: field.routine,
-            level: parent.level + 1,
-            field: k,
-            at: 0,
-            names: Vec::new(),
-            own: Vec::new(),
-            children: Vec::new(),
-        };
-        for (&name, &by_reference) in field.names.iter().zip(&self.program.routines[field.routine].by_reference) {
-            let passed = parent.names[name];
-            if by_reference {
-                child.names.push(passed);
-            } else {
-                let value = self.cells[&passed].value;
-                self.add_variable(&mut child, value);
-            }
+    /// "16 At `A`: is the delay at least 1?" "17 At `A`: is the due moment below 2 to the 64?"
+    fn waiting_write(&self, live: &Live, delay: &[Piece], value: &[Piece]) -> Result<(u64, i32), Number> {
+        let delay = self.value(live, delay);
+        if delay < 1 {
+            return Err(16);
         }
-        self.add_locals(&mut child);
-        child
+        let due = self.machine.moment.checked_add(delay as u64).ok_or(17u32)?;
+        Ok((due, self.value(live, value)))
     }
 
-    fn add_locals(&mut self, live: &mut Live) {
-        for _ in 0..self.program.routines[live.routine].locals {
-            self.add_variable(live, 0);
+    /// "At `F` all children exist and all `v` values are copied before the first child runs."
+    fn fork(&mut self, live: &mut Live, children: &[Child]) -> Result<(), Number> {
+        // "14 At `F`: live routines plus new children at most 64?"
+        if self.live + children.len() > MOST_LIVE {
+            return Err(14);
+        }
+        // "15 At `F`: is this routine's level at most 9?"
+        if live.level > DEEPEST_LEVEL - 1 {
+            return Err(15);
+        }
+        self.live += children.len();
+        for (field, child) in children.iter().enumerate() {
+            let child = self.machine.call_child(self.program, live, field, child);
+            live.children.push(child);
+        }
+        Ok(())
+    }
+
+    /// "At `E` the routine's own variables vanish with their waiting writes."
+    fn end(&mut self, live: &Live) {
+        self.live -= 1;
+        for variable in &live.own {
+            self.machine.cells.remove(variable);
         }
     }
 
-    fn add_variable(&mut self, live: &mut Live, value: i32) {
-        let variable = self.next_variable;
-        self.next_variable += 1;
-        self.cells.insert(variable, Cell { value, written: false, waiting: None });
-        live.names.push(variable);
-        live.own.push(variable);
+    fn written(&self, live: &Live, name: usize) -> bool {
+        self.machine.cells[&live.names[name]].written
     }
 
-    fn evaluate(&self, pieces: &[Piece], live: &Live) -> i32 {
-        let mut held: Vec<i32> = Vec::with_capacity(8);
+    /// "Sums, differences and products wrap at 32 bits, two's complement; `<` gives 1 or 0."
+    fn value(&self, live: &Live, pieces: &[Piece]) -> i32 {
+        let mut held: Vec<i32> = Vec::new();
         for piece in pieces {
-            let value = match piece {
-                Piece::Literal(v) => *v,
-                Piece::Value(n) => self.cells[&live.names[*n]].value,
-                Piece::Written(n) => self.cells[&live.names[*n]].written as i32,
-                sign => {
-                    let right = held.pop().expect("the form has two values for a sign");
-                    let left = held.pop().expect("the form has two values for a sign");
-                    match sign {
-                        Piece::Plus => left.wrapping_add(right),
-                        Piece::Minus => left.wrapping_sub(right),
-                        Piece::Times => left.wrapping_mul(right),
-                        _ => (left < right) as i32,
-                    }
-                }
+            let value = match *piece {
+                Piece::Literal(value) => value,
+                Piece::Value(name) => self.machine.cells[&live.names[name]].value,
+                Piece::Written(name) => i32::from(self.written(live, name)),
+                Piece::Plus => two(&mut held, i32::wrapping_add),
+                Piece::Minus => two(&mut held, i32::wrapping_sub),
+                Piece::Times => two(&mut held, i32::wrapping_mul),
+                Piece::Less => two(&mut held, |left, right| i32::from(left < right)),
             };
             held.push(value);
         }
         held[0]
     }
+}
+
+/// Takes the two values held last, the later one being the right side.
+fn two(held: &mut Vec<i32>, of: fn(i32, i32) -> i32) -> i32 {
+    let right = held.pop().expect("a second value");
+    let left = held.pop().expect("a first value");
+    of(left, right)
 }

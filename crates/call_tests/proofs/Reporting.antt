@@ -1,47 +1,31 @@
--- The figures of an answer, case by case, and two reports compared part by part.
+-- The figures of a call, and two reports compared part by part.
 use mathlib.Core.Bool.{Bool, false}
 use mathlib.Core.Path.{_≡_, refl, sym, ap, subst, _∙_}
-use Prim.Native.Nat.{ℕ}
+use Prim.Native.Nat.{ℕ, zero, suc}
 use lib.Dec.{eqb}
 use borrow.Author.Tests.{eqb-true, eq-eqb}
 use Rattle.walk.specs.Promises.{Result}
-use Rattle.engine.specs.Answers.{dueOf, resultOf}
-use Rattle.engine.specs.declared.answers.Due.{Due}
-use Rattle.engine.specs.declared.answers.Due.the-variants.{Never, At}
-use Rattle.engine.specs.declared.answers.Figures.{Figures}
-use Rattle.engine.specs.declared.answers.Answer.{Answer}
-use Rattle.engine.specs.declared.answers.Answer.the-variants.{Refused, Stopped, Done}
+use Rattle.fabrwent.specs.Figures.{dueIn, resultIn, DueTold}
+use Rattle.fabrwent.specs.declared.calls.FabrwentCall.{FabrwentCall}
 use Rattle.cases.specs.Words.{Tells}
 use Rattle.cases.proofs.Telling.{tells-no}
 use Rattle.call_tests.specs.Reports.{dueFigure, ReportOf}
 use Rattle.call_tests.specs.declared.reports.Report.{Report}
 
-pub none-due : (d : Due) → d ≡ Never → 0 ≡ dueFigure (dueOf d)
-unfolding dueFigure dueOf
-none-due d e = ap (λ (x : Due). dueFigure (dueOf x)) (sym e)
-
-pub one-due : (d : Due) (t : ℕ) → d ≡ At t → t ≡ dueFigure (dueOf d)
-unfolding dueFigure dueOf
-one-due d t e = ap (λ (x : Due). dueFigure (dueOf x)) (sym e)
-
 -- a report without steps, outputs or a moment due
 report : ℕ → ℕ → ℕ → ℕ → Report
 report n s l d = record { number = n; steps = s; listed = l; due = d }
 
-pub of-refused : (a : Answer) (k : ℕ) (r : Report) → r .number ≡ k → r .steps ≡ 0 → r .listed ≡ 0 → r .due ≡ 0 → a ≡ Refused k → ReportOf (resultOf a) r
-unfolding dueFigure resultOf
-of-refused a k r n s l d e =
-    subst (λ (x : Answer). ReportOf (resultOf x) r) (sym e) (record { numberIs = n; stepsAre = s; listedIs = l; dueIs = d })
+-- the moment of figures that tell it is that of the result, 0 if there is none
+due-in : (known due : ℕ) → (known ≡ 0 → due ≡ 0) → due ≡ dueFigure (dueIn known due)
+unfolding dueFigure dueIn
+due-in zero due none = none refl
+due-in (suc known) due none = refl
 
-pub of-stopped : (a : Answer) (k : ℕ) (r : Report) → r .number ≡ k → r .steps ≡ 0 → r .listed ≡ 0 → r .due ≡ 0 → a ≡ Stopped k → ReportOf (resultOf a) r
-unfolding dueFigure resultOf
-of-stopped a k r n s l d e =
-    subst (λ (x : Answer). ReportOf (resultOf x) r) (sym e) (record { numberIs = n; stepsAre = s; listedIs = l; dueIs = d })
-
-pub of-done : (a : Answer) (f : Figures) (r : Report) → r .number ≡ 0 → r .steps ≡ f .steps → r .listed ≡ f .listed → r .due ≡ dueFigure (dueOf (f .due)) → a ≡ Done f → ReportOf (resultOf a) r
-unfolding resultOf
-of-done a f r n s l d e =
-    subst (λ (x : Answer). ReportOf (resultOf x) r) (sym e) (record { numberIs = n; stepsAre = s; listedIs = l; dueIs = d })
+pub of-figures : (f : FabrwentCall) (r : Report) → r .number ≡ f .number → r .steps ≡ f .steps → r .listed ≡ f .listed → r .due ≡ f .due → DueTold f → ReportOf (resultIn f) r
+unfolding resultIn
+of-figures f r n s l d told =
+    record { numberIs = n; stepsAre = s; listedIs = l; dueIs = d ∙ due-in (f .«due_known») (f .due) (told .none) }
 
 pub of-same : {o p : Result} {r : Report} → o ≡ p → ReportOf o r → ReportOf p r
 of-same {r = r} e k = subst (λ (x : Result). ReportOf x r) e k

@@ -1,14 +1,13 @@
-// The answer of a start or an instant call as document 01's figures. The place is always 0.
+// The answer of a start or an instant call of the library as firmware links it, as document 01's figures. The place is always 0.
 ghost use mathlib.Core.Path.{_≡_};
 ghost use Rattle.walk.specs.Calls.{startCall, instantCall};
 ghost use Rattle.layout.specs.Layout.{layout};
-ghost use Rattle.engine.specs.Answers.{dueOf, resultOf};
+ghost use Rattle.fabrwent.specs.Figures.{resultIn, DueTold};
 ghost use Rattle.cases.specs.Words.{Tells};
-ghost use Rattle.call_tests.specs.Reports.{dueFigure, ReportOf, Reported};
+ghost use Rattle.call_tests.specs.Reports.{ReportOf, Reported};
 use cases::report::say;
 use cases::report::say_number;
-use engine::Answer;
-use engine::Due;
+use fabrwent::FabrwentCall;
 
 // The number, the steps used, the outputs listed, and the next moment due, or 0 if none is (a moment due is at least 1).
 pub struct Report {
@@ -18,40 +17,15 @@ pub struct Report {
     pub due: u64,
 }
 
-fn due_of(due: Due) -> u64
-    ensures { λ r. ⌜ r ≡ dueFigure (dueOf due) ⌝ }
+// The figures of an exported call.
+fn report_in(ran: FabrwentCall) -> Report
+    ensures { λ r. ⌜ (DueTold ran → ReportOf (resultIn ran) r) ⌝ }
 {
-    match due {
-        Due::Never => 0,
-        Due::At(t) => t,
-    }
-}
-
-fn report_of(answer: Answer) -> Report
-    ensures { λ r. ⌜ ReportOf (resultOf answer) r ⌝ }
-{
-    match answer {
-        Answer::Refused(number) => Report {
-            number,
-            steps: 0,
-            listed: 0,
-            due: 0,
-        },
-        Answer::Stopped(number) => Report {
-            number,
-            steps: 0,
-            listed: 0,
-            due: 0,
-        },
-        Answer::Done(figures) => {
-            let due = figures.due;
-            Report {
-                number: 0,
-                steps: figures.steps,
-                listed: figures.listed,
-                due: due_of(due),
-            }
-        }
+    Report {
+        number: ran.number,
+        steps: ran.steps,
+        listed: ran.listed,
+        due: ran.due,
     }
 }
 
@@ -67,8 +41,8 @@ pub fn start_report(
         (now (machine .exit)) (now (numbers .exit)) (now (values .exit))
         (startCall layout (now (table .entry)) (now (machine .entry)) (now (numbers .entry)) (now (values .entry)) allowance) r ⌝ }
 {
-    let answer = engine::start(table, machine, numbers, values, allowance);
-    report_of(answer)
+    let ran = fabrwent::fabrwent_start(table, machine, numbers, values, allowance);
+    report_in(ran)
 }
 
 // The instant call, with the figures of its defined outcome.
@@ -86,8 +60,8 @@ pub fn instant_report(
         (now (machine .exit)) (now (numbers .exit)) (now (values .exit))
         (instantCall layout (now (table .entry)) (now (machine .entry)) t (now (ins .entry)) (now (news .entry)) (now (numbers .entry)) (now (values .entry)) allowance) r ⌝ }
 {
-    let answer = engine::instant(table, machine, t, ins, news, numbers, values, allowance);
-    report_of(answer)
+    let ran = fabrwent::fabrwent_instant(table, machine, t, ins, news, numbers, values, allowance);
+    report_in(ran)
 }
 
 pub fn same_reports(a: Report, b: Report) -> bool

@@ -10,24 +10,9 @@ use Rattle.cases.specs.Words.{Tells}
 use Rattle.cases.proofs.Telling.{tells-no, tells-same, tells-else}
 use Rattle.walk.specs.Promises.{TableAfter}
 use Rattle.layout.specs.Layout.{layout}
-use Rattle.listing.specs.Load.{Loading, refused, loaded, loadingNumber, loadingPlace, loading, isLongEnough}
-use Rattle.listing.specs.Questions.{listingIn}
+use Rattle.listing.specs.Load.{Loading, loading, isLongEnough}
 use Rattle.load_tests.specs.Cases.{FiguresOf, pattern, TablesRight, Agrees, Ran}
 use Rattle.load_tests.specs.declared.figures.Figures.{Figures}
-
-pub of-done : (text : List ℕ) (r : Figures) → r .number ≡ 0 → r .place ≡ 0 → FiguresOf (loaded (listingIn text)) r
-unfolding loadingNumber loadingPlace
-of-done text r n p = record { numberIs = n; placeIs = p }
-
-pub of-refused : (number place : ℕ) (r : Figures) → r .number ≡ number → r .place ≡ place → FiguresOf (refused number place) r
-unfolding loadingNumber loadingPlace
-of-refused number place r n p = record { numberIs = n; placeIs = p }
-
-pub of-same : {o p : Loading} {r : Figures} → o ≡ p → FiguresOf o r → FiguresOf p r
-of-same {r = r} e k = subst (λ (x : Loading). FiguresOf x r) e k
-
-pub table-of-same : {before after : List ℕ} {o p : Loading} → o ≡ p → TableAfter layout before after o → TableAfter layout before after p
-table-of-same {before} {after} e k = subst (λ (x : Loading). TableAfter layout before after x) e k
 
 -- two pairs of figures compared part by part
 pub other-number : (a b : Figures) → (a .number ≡ b .number → ⊥) → Tells false (a ≡ b)

@@ -21,7 +21,7 @@ use Rattle.scheduler.proofs.Steady.{TableFits, Above, Steady, steady-ni
 use Rattle.scheduler.proofs.Outcomes.{Goal, Sound, AsWalk, idle-as-walk}
 use Rattle.scheduler.proofs.Loop.{run-meets}
 
-steady-brief : (listing : Listing) {u : Above} {level c : ℕ} {t : Tree} → Steady listing u level c t → Brief listing c t
+pub steady-brief : (listing : Listing) {u : Above} {level c : ℕ} {t : Tree} → Steady listing u level c t → Brief listing c t
 steady-brief listing steady-nil = brief-nil
 steady-brief listing (steady-put {level = level} {c = c} {x = x} f k s) =
     let l : c + length (x .own) ≤ 65536 = omega (arith, f .short, f .high) in brief-put l (steady-brief listing k) (steady-brief listing s)

@@ -32,6 +32,8 @@ pub mod Changing
 pub mod Order
 pub mod Folding
 pub mod Holds
+pub mod Marking
+pub mod AnyOrder
 pub mod InstantOnRows
 pub mod StartOnRows
 pub mod Filling

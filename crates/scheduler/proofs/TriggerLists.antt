@@ -16,11 +16,11 @@ use Rattle.scheduler.proofs.Waking.{Triggers, rowAwaits, consIf-cases, 
 use Rattle.scheduler.proofs.Owners.{awaitsOwner}
 use Rattle.scheduler.proofs.Kept.{Known, slots-small}
 
-or-right : (a b : Bool) → b ≡ true → a || b ≡ true
+pub or-right : (a b : Bool) → b ≡ true → a || b ≡ true
 or-right true b e = refl
 or-right false b e = e
 
-or-cases : (a b : Bool) → a || b ≡ true → Either (a ≡ true) (b ≡ true)
+pub or-cases : (a b : Bool) → a || b ≡ true → Either (a ≡ true) (b ≡ true)
 or-cases true b e = this refl
 or-cases false b e = that e
 
@@ -61,7 +61,7 @@ names-in bindings-are n (w ∷ ws) o ss e = go (or-cases (sameOwner (ownerOf bin
     go (that h) deep = deep h
 
 module _ (listing : Listing) (σ : Rows) (o : Owner) where
-  below-only : (n s : ℕ) → In s (triggersBelow listing σ n o) → rowAwaits listing (σ s) o ≡ true
+  pub below-only : (n s : ℕ) → In s (triggersBelow listing σ n o) → rowAwaits listing (σ s) o ≡ true
   unfolding triggersBelow listIf rowAwaits awaitedBy
   below-only zero s i = elim i [ ]
   below-only (suc n) s i = go ((σ n) .asleep) i (below-only n s)
@@ -76,7 +76,7 @@ module _ (listing : Listing) (σ : Rows) (o : Owner) where
       go true j deep = two (names-only ((σ n) .bindings) n (awaitedBy listing (σ n)) o (triggersBelow listing σ n o) s j) deep
       go false j deep = deep j
 
-  below-in : (n s : ℕ) → s < n → (σ s) .asleep ≡ true → rowAwaits listing (σ s) o ≡ true → In s (triggersBelow listing σ n o)
+  pub below-in : (n s : ℕ) → s < n → (σ s) .asleep ≡ true → rowAwaits listing (σ s) o ≡ true → In s (triggersBelow listing σ n o)
   unfolding triggersBelow listIf rowAwaits awaitedBy
   below-in zero s l a h = absurd (omega arith)
   below-in (suc n) s l a h = go (ℕ-discrete s n) (below-in n s)

@@ -1,43 +1,52 @@
--- The beginning of an instant, from one part to the next: filled in, due writes made, inputs written, sleepers listed, the first ready ones found.
--- Letters: t the table's words; m₀ to m₄ the machine's at the entry, filled in, after due writes, after inputs, with the trigger lists; s the state that m₀
--- is read as; n the number of environment variables.
-use mathlib.Core.Path.{_≡_, sym, ap, _∙_}
-use mathlib.Core.Bool.{true}
-use mathlib.Core.List.{List}
+-- The beginning of an instant, from one part to the next: filled in, sleepers listed, due writes made, inputs written.
+-- Letters: t the table's words; m₀ to m₄ the machine's at the entry, filled in, with the trigger lists, after due writes, after inputs; s the state that m₀
+-- is read as; n the number of environment variables; σ rows.
+use mathlib.Core.Path.{_≡_, refl, sym, ap, _∙_}
+use mathlib.Core.Bool.{true, false}
+use mathlib.Core.List.{List, []}
 use mathlib.Core.Option.{some}
 use Prim.Native.Nat.{ℕ, _+_, _*_, _≤_, _<_}
 use native.Mathlib.Omega.{arith}
 use lib.ListN.{length, take}
 use Rattle.listing.specs.Listing.{Listing}
-use Rattle.walk.specs.State.{State}
+use Rattle.walk.specs.State.{Variable, State}
 use Rattle.walk.specs.Instant.{Write, environmentSize, dueWrites, applyInputs, nextDue}
 use Rattle.walk.specs.Calls.{Words32, running, inputsOf}
 use Rattle.walk.specs.Question7.{IsState}
+use Rattle.walk_laws.proofs.NextDue.{DueOnlyAfter}
 use Rattle.table.specs.Decode.{tableListing}
 use Rattle.table.specs.Question6.{isTable}
 use Rattle.machine.specs.ReadMachine.{readMachine}
+use Rattle.machine.specs.Limits.{WithinLimits}
 use Rattle.question7.proofs.FromQuestion6.{table-within-limits}
 use Rattle.scheduler.specs.Rows.{Rows}
-use Rattle.scheduler.specs.Triggers.{triggersOf}
+use Rattle.scheduler.specs.Ready.{insertAll}
+use Rattle.scheduler.specs.Triggers.{triggersOf, wakesNow, readyOf}
 use Rattle.scheduler.specs.Beginning.{dueInRows}
 use Rattle.scheduler.specs.Records.{filledRows}
+use Rattle.scheduler.proofs.Sorted.{In}
 use Rattle.scheduler.proofs.Holds.{Holds}
+use Rattle.scheduler.proofs.Marking.{none-wakes}
+use Rattle.scheduler.proofs.AnyOrder.{ready-any-order}
 use Rattle.blocks.specs.Blocks.{Block, block, ownerAt, rowsOf, environmentOf}
-use Rattle.blocks.specs.Changes.{SameOutside, SameTriggers, SameRows}
-use Rattle.blocks.proofs.Staying.{outside-then, triggers-then, rows-of-same, environment-of-same}
+use Rattle.blocks.specs.Changes.{SameOutside, SameRows}
+use Rattle.blocks.proofs.Staying.{outside-then, rows-of-same, environment-of-same}
 use Rattle.tidy.specs.Tidy.{TidyBlock, TidySlot, Tidy}
 use Rattle.ready.specs.declared.ReadyList.{ReadyList}
+use Rattle.ready.specs.Slots.{slotsOf}
+use Rattle.ready.specs.Ordered.{Ordered, ordered-none}
 use Rattle.triggers.specs.Chains.{triggersAt, NoTriggers, OnlyTriggers}
 use Rattle.triggers.specs.Awaited.{Sleepers, NamesOf}
 use Rattle.filling.specs.Filling.{orderOf, portsOf, FillsRows, MayFillAll}
 use Rattle.instants.specs.Beginnings.{DueMade, NothingDue, InputsWritten, NumbersBelow}
 use Rattle.instants.proofs.InputNumbers.{rising-numbers-below}
-use Rattle.beginning.specs.FirstReady.{MayList, FirstReady}
+use Rattle.instants.specs.Reaching.{ReadySoFar, Reaches, NothingWritten}
 use Rattle.beginning.specs.Begun.{MayBegin, BegunFrom, Begun}
-use Rattle.beginning.proofs.Found.{found-live, found-tidy, found-environment, found-no-triggers}
+use Rattle.beginning.proofs.Found.{found-live, found-tidy, found-environment, found-no-triggers, false-not}
 use Rattle.beginning.proofs.Filled.{state-found, filledFrom, filled-from-holds, filled-rows, may-fill-all}
 use Rattle.beginning.proofs.NotDue.{only-after, rows-not-made, environment-not-made}
-use Rattle.beginning.proofs.Made.{made-placed, made-sleepers, made-names, made-bound, made-may-list}
+use Rattle.beginning.proofs.AtRest.{words-unwritten, nothing-written}
+use Rattle.beginning.proofs.Made.{own-as-it-is, own-after-due, made-placed, made-sleepers, made-names}
 
 -- ── trigger words do not make words untidy ────────────────────────────────────────────────────────
 block-tidy : {c : ℕ} (a b : Block) → ((k : ℕ) → k < 144 → b k ≡ a k) → TidyBlock c a → TidyBlock c b
@@ -71,16 +80,56 @@ listed-tidy {a = a} {m = m} R T = record {
   };
 }
 
--- ── up to the inputs ──────────────────────────────────────────────────────────────────────────────
-pub record Written (t m₀ m₃ : List ℕ) (moment : ℕ) (inputs : List Write) (filled : Rows) (s : State) : Type 0 where
-  pub rows : rowsOf m₃ ≡ dueInRows moment filled
-  pub environment : environmentOf (environmentSize (tableListing t)) m₃ ≡ applyInputs inputs (dueWrites moment (s .environment))
-  pub tidy : Tidy (environmentSize (tableListing t)) m₃
-  pub outside : SameOutside m₀ m₃
-  pub triggers : SameTriggers m₀ m₃
+-- ── words that stand for rows and an environment ──────────────────────────────────────────────────
+-- They are tidy, and differ from m₀ in blocks alone.
+record Stands (n : ℕ) (m₀ m : List ℕ) (σ : Rows) (environment : List Variable) : Type 0 where
+  rows : rowsOf m ≡ σ
+  outer : environmentOf n m ≡ environment
+  tidy : Tidy n m
+  outside : SameOutside m₀ m
 
-module _ (t m₀ : List ℕ) (table : isTable t ≡ true) (long : 12288 ≤ length m₀) (small : Words32 m₀) (s : State)
-    (e : readMachine (tableListing t) (take 12288 m₀) ≡ some (running s)) (moment : ℕ) (inputs : List Write) where
+module _ {n : ℕ} {m₀ m m′ : List ℕ} {σ : Rows} {environment : List Variable} (S : Stands n m₀ m σ environment) where
+  listed-stand : OnlyTriggers m m′ → Stands n m₀ m′ σ environment
+  listed-stand O = record {
+    rows = rows-of-same (O .rows) ∙ S .rows;
+    outer = environment-of-same (O .rows) n ∙ S .outer;
+    tidy = listed-tidy (O .rows) (S .tidy);
+    outside = outside-then (S .outside) (O .outside);
+  }
+
+  due-stand : (moment : ℕ) → DueMade n moment m m′ → Stands n m₀ m′ (dueInRows moment σ) (dueWrites moment environment)
+  due-stand moment D = record {
+    rows = D .rows ∙ ap (dueInRows moment) (S .rows);
+    outer = D .environment ∙ ap (dueWrites moment) (S .outer);
+    tidy = D .tidy (S .tidy);
+    outside = outside-then (S .outside) (D .outside);
+  }
+
+  inputs-stand : (inputs : List Write) → InputsWritten n inputs m m′ → Stands n m₀ m′ σ (applyInputs inputs environment)
+  inputs-stand inputs W = record {
+    rows = W .rows ∙ S .rows;
+    outer = W .environment ∙ ap (applyInputs inputs) (S .outer);
+    tidy = W .tidy (S .tidy);
+    outside = outside-then (S .outside) (W .outside);
+  }
+
+-- ── the ready list ────────────────────────────────────────────────────────────────────────────────
+-- The trigger lists of m′ are those of the rows of m.
+abbrev ListsOf : Listing → List ℕ → List ℕ → Type 0
+ListsOf listing m m′ = (q index : ℕ) → q ≤ 64 → index < 16 → triggersAt m′ q index ≡ triggersOf listing (rowsOf m) (ownerAt q index)
+
+-- Nobody is ready where nothing is written.
+first-ready : (listing : Listing) (n : ℕ) (m : List ℕ) → ((s : ℕ) → wakesNow listing (rowsOf m) (environmentOf n m) s ≡ false) →
+    ListsOf listing m m → ReadySoFar listing n m []
+unfolding insertAll
+first-ready listing n m none lists =
+    record { woken = []; made = refl; sound = λ s i. elim i [ ]; full = λ s w. false-not (sym (none s) ∙ w); lists = lists }
+
+-- ── the parts, for a state that m₀ is read as ─────────────────────────────────────────────────────
+abbrev FilledIn : List ℕ → List ℕ → List ℕ → Type 0
+FilledIn t m₀ m₁ = FillsRows m₀ (filledRows (tableListing t) (rowsOf m₀) (portsOf t m₀) (λ level. 64) (orderOf m₀)) m₁
+
+module _ (t m₀ : List ℕ) (table : isTable t ≡ true) (small : Words32 m₀) (s : State) (e : readMachine (tableListing t) (take 12288 m₀) ≡ some (running s)) where
   abbrev listing : Listing
   listing = tableListing t
 
@@ -90,72 +139,82 @@ module _ (t m₀ : List ℕ) (table : isTable t ≡ true) (long : 12288 ≤ leng
   abbrev filled : Rows
   filled = filledFrom t m₀ table small s e
 
-  pub written : (m₁ m₂ m₃ : List ℕ) → FillsRows m₀ (filledRows listing (rowsOf m₀) (portsOf t m₀) (λ level. 64) (orderOf m₀)) m₁ →
-      DueMade n moment m₁ m₂ → InputsWritten n inputs m₂ m₃ → Written t m₀ m₃ moment inputs filled s
-  written m₁ m₂ m₃ F D W =
-      record {
-        rows = W .rows ∙ (D .rows ∙ ap (dueInRows moment) (F .rows ∙ filled-rows t m₀ table small s e));
-        environment = W .environment ∙ ap (applyInputs inputs) (D .environment ∙
-            ap (dueWrites moment) (F .environment n ∙ found-environment listing (table-within-limits t table) m₀ small s e));
-        tidy = W .tidy (D .tidy (F .tidy n (found-tidy listing (table-within-limits t table) m₀ small s e)));
-        outside = outside-then (outside-then (F .outside) (D .outside)) (W .outside);
-        triggers = triggers-then (triggers-then (F .triggers) (D .triggers)) (W .triggers);
-      }
+  limits : WithinLimits listing
+  limits = table-within-limits t table
 
-  module _ (m₃ : List ℕ) (W : Written t m₀ m₃ moment inputs filled s) where
-    held : Holds true listing filled (s .environment) s
-    held = filled-from-holds t m₀ table small s e
+  held : Holds true listing filled (s .environment) s
+  held = filled-from-holds t m₀ table small s e
 
-    state : IsState listing s
-    state = state-found t m₀ table small s e
+  state : IsState listing s
+  state = state-found t m₀ table small s e
 
-    long₃ : 12288 ≤ length m₃
-    long₃ = let size = W .outside .size in omega arith
-
-    pub no-triggers-yet : NoTriggers m₃
-    no-triggers-yet = record {
-      none = λ q i h l. W .triggers .same q (144 + i) h (omega arith) ∙ found-no-triggers listing (table-within-limits t table) m₀ small s e .none q i h l;
+  module _ (m₁ : List ℕ) (F : FilledIn t m₀ m₁) where
+    filled-stand : Stands n m₀ m₁ filled (s .environment)
+    filled-stand = record {
+      rows = F .rows ∙ filled-rows t m₀ table small s e;
+      outer = F .environment n ∙ found-environment listing limits m₀ small s e;
+      tidy = F .tidy n (found-tidy listing limits m₀ small s e);
+      outside = F .outside;
     }
 
-    pub sleepers-named : Sleepers t m₃
-    sleepers-named = made-sleepers t m₃ moment inputs s filled table long₃ held state (W .rows) (W .environment) (W .tidy)
+    -- before the sleepers are listed
+    no-triggers-yet : NoTriggers m₁
+    no-triggers-yet = record {
+      none = λ q i h l. F .triggers .same q (144 + i) h (omega arith) ∙ found-no-triggers listing limits m₀ small s e .none q i h l;
+    }
 
-    pub names-listed : NamesOf listing t m₃
-    names-listed = made-names t m₃ moment inputs s filled table long₃ held state (W .rows) (W .environment) (W .tidy)
+    sleepers-named : Sleepers t m₁
+    sleepers-named = made-sleepers t m₁ s filled table held state _ (filled-stand .rows ∙ own-as-it-is filled)
 
-    module _ (m₄ : List ℕ) (O : OnlyTriggers m₃ m₄) where
-      rows₄ : rowsOf m₄ ≡ dueInRows moment filled
-      rows₄ = rows-of-same (O .rows) ∙ W .rows
+    names-listed : NamesOf listing t m₁
+    names-listed = made-names t m₁ s filled table held state _ (filled-stand .rows ∙ own-as-it-is filled)
 
-      environment₄ : environmentOf n m₄ ≡ applyInputs inputs (dueWrites moment (s .environment))
-      environment₄ = environment-of-same (O .rows) n ∙ W .environment
+    module _ (m₂ : List ℕ) (O : OnlyTriggers m₁ m₂) where
+      abbrev listed : Stands n m₀ m₂ filled (s .environment)
+      listed = listed-stand filled-stand O
 
-      tidy₄ : Tidy n m₄
-      tidy₄ = listed-tidy (O .rows) (W .tidy)
+      -- before due writes
+      not-due : (moment : ℕ) → DueOnlyAfter moment (nextDue s) → NothingDue n moment m₂
+      not-due moment after = record {
+        rows = rw (listed .rows) (rows-not-made listing moment filled s held state after);
+        environment = rw (listed .outer) (environment-not-made listing moment filled s held state after);
+      }
 
-      long₄ : 12288 ≤ length m₄
-      long₄ = let size = O .outside .size in let l = long₃ in omega arith
+      unwritten : NothingWritten n m₂
+      unwritten = nothing-written listing n m₂ filled s held state (listed .rows) (listed .outer) (listed .tidy)
 
-      pub may-list-ready : MayList t m₄
-      may-list-ready = made-may-list t m₄ moment inputs s filled table long₄ held state rows₄ environment₄ tidy₄
+      nobody-ready : ListsOf listing m₁ m₂ → ReadySoFar listing n m₂ []
+      nobody-ready lists =
+          first-ready listing n m₂
+          (none-wakes listing (rowsOf m₂) (environmentOf n m₂) (words-unwritten listing n m₂ filled s held state (listed .rows) (listed .outer) (listed .tidy)))
+          (λ q i h l. lists q i h l ∙ ap (λ (σ : Rows). triggersOf listing σ (ownerAt q i)) (sym (rows-of-same (O .rows))))
 
-      pub begun-from : ((q index : ℕ) → q ≤ 64 → index < 16 → triggersAt m₄ q index ≡ triggersOf listing (rowsOf m₃) (ownerAt q index)) →
-          (r : ReadyList) → FirstReady t m₄ r → BegunFrom t m₀ m₄ moment inputs r s
-      begun-from lists r R =
-          record {
-            filled = filled;
-            filled-holds = held;
-            rows = rows₄;
-            environment = environment₄;
-            lists = λ q i h l. lists q i h l ∙ ap (λ (σ : Rows). triggersOf listing σ (ownerAt q i)) (sym (rows-of-same (O .rows)));
-            ready-slots = R .slots n (made-bound t m₄ moment inputs s filled table long₄ held state rows₄ environment₄ tidy₄);
-            order = R .order;
-            live = found-live listing (table-within-limits t table) m₀ small s e;
-            tidy = tidy₄;
-            placed = made-placed t m₄ moment inputs s filled table long₄ held state rows₄ environment₄ tidy₄;
-            size = O .outside .size ∙ W .outside .size;
-            past = O .outside .past ∙ W .outside .past;
-          }
+      -- at the end
+      module _ (moment : ℕ) (inputs : List Write) (m₃ m₄ : List ℕ) (D : DueMade n moment m₂ m₃) (W : InputsWritten n inputs m₃ m₄) where
+        abbrev written : Stands n m₀ m₄ (dueInRows moment filled) (applyInputs inputs (dueWrites moment (s .environment)))
+        written = inputs-stand (due-stand listed moment D) inputs W
+
+        begun-from : (r : ReadyList) → Ordered (rowsOf m₄) (slotsOf r) → ReadySoFar listing n m₄ (slotsOf r) → BegunFrom t m₀ m₄ moment inputs r s
+        begun-from r order R =
+            record {
+              filled = filled;
+              filled-holds = held;
+              rows = written .rows;
+              environment = written .outer;
+              lists = R .lists;
+              ready-slots = R .made ∙ all-ready (R .woken) (R .sound) (R .full);
+              order = order;
+              live = found-live listing limits m₀ small s e;
+              tidy = written .tidy;
+              placed = made-placed t m₄ s filled table held state _ (written .rows ∙ own-after-due moment filled) (written .tidy);
+              size = written .outside .size;
+              past = written .outside .past;
+            }
+          where
+            all-ready : (woken : List ℕ) → ((q : ℕ) → In q woken → wakesNow listing (rowsOf m₄) (environmentOf n m₄) q ≡ true) →
+                ((q : ℕ) → wakesNow listing (rowsOf m₄) (environmentOf n m₄) q ≡ true → In q woken) →
+                insertAll (rowsOf m₄) woken [] ≡ readyOf listing (rowsOf m₄) (environmentOf n m₄)
+            all-ready = rw (written .rows, written .outer) (λ woken sound full. ready-any-order s moment inputs woken held state sound full)
 
 -- ── the parts of `begin_instant` ──────────────────────────────────────────────────────────────────
 module _ (t m₀ : List ℕ) (moment soonest : ℕ) (numbers values : List ℕ) (P : MayBegin t m₀ moment soonest numbers values) where
@@ -168,55 +227,67 @@ module _ (t m₀ : List ℕ) (moment soonest : ℕ) (numbers values : List ℕ) 
       let N = rising-numbers-below ((tableListing t) .inputs) 0 numbers values (P .same) (P .inputs) in
       record { below = λ i l. let b = N .below i l in omega arith }
 
-  pub numbers-of-ports : NumbersBelow (environmentSize (tableListing t)) numbers
+  numbers-of-ports : NumbersBelow (environmentSize (tableListing t)) numbers
   numbers-of-ports = numbers-below (environmentSize (tableListing t)) inputs-few
 
-  pub numbers-of-names : NumbersBelow 16 numbers
+  numbers-of-names : NumbersBelow 16 numbers
   numbers-of-names = let a = inputs-few in let b = table-within-limits t (P .table) .ports in numbers-below 16 (omega arith)
 
   module _ (small : Words32 m₀) where
     pub may-begin-pass : MayFillAll t m₀
     may-begin-pass = may-fill-all t m₀ (P .table) small (P .state) (P .stands) (P .size)
 
-    pub nothing-due-at : (m₁ : List ℕ) → FillsRows m₀ (filledRows (tableListing t) (rowsOf m₀) (portsOf t m₀) (λ level. 64) (orderOf m₀)) m₁ → (soonest ≡ moment → ⊥) →
-        NothingDue (environmentSize (tableListing t)) moment m₁
-    nothing-due-at m₁ F other =
-        let s = P .state in
-        let rows : rowsOf m₁ ≡ filledFrom t m₀ (P .table) small s (P .stands) = F .rows ∙ filled-rows t m₀ (P .table) small s (P .stands) in
-        let environment : environmentOf (environmentSize (tableListing t)) m₁ ≡ s .environment =
-        F .environment (environmentSize (tableListing t)) ∙ found-environment (tableListing t) (table-within-limits t (P .table)) m₀ small s (P .stands) in
-        let H = filled-from-holds t m₀ (P .table) small s (P .stands) in
-        let I = state-found t m₀ (P .table) small s (P .stands) in
-        let after = only-after soonest moment (nextDue s) (P .next) (P .nothing-due) other in
-        record {
-          rows = rw rows (rows-not-made (tableListing t) moment _ s H I after);
-          environment = rw environment (environment-not-made (tableListing t) moment _ s H I after);
-        }
-
-    module _ (m₁ m₂ m₃ : List ℕ) (F : FillsRows m₀ (filledRows (tableListing t) (rowsOf m₀) (portsOf t m₀) (λ level. 64) (orderOf m₀)) m₁)
-        (D : DueMade (environmentSize (tableListing t)) moment m₁ m₂) (N : InputsWritten (environmentSize (tableListing t)) (inputsOf numbers values) m₂ m₃) where
-      pub may-list-sleepers : (12288 ≤ length m₃) × NoTriggers m₃ × Sleepers t m₃
+    module _ (m₁ : List ℕ) (F : FilledIn t m₀ m₁) where
+      pub may-list-sleepers : (12288 ≤ length m₁) × NoTriggers m₁ × Sleepers t m₁
       may-list-sleepers =
-          let W = written t m₀ (P .table) (P .size) small (P .state) (P .stands) moment (inputsOf numbers values) m₁ m₂ m₃ F D N in
-          let size = W .outside .size in
+          let size = F .outside .size in
           let long = P .size in (
             omega arith,
-            no-triggers-yet t m₀ (P .table) (P .size) small (P .state) (P .stands) moment (inputsOf numbers values) m₃ W,
-            sleepers-named t m₀ (P .table) (P .size) small (P .state) (P .stands) moment (inputsOf numbers values) m₃ W,
+            no-triggers-yet t m₀ (P .table) small (P .state) (P .stands) m₁ F,
+            sleepers-named t m₀ (P .table) small (P .state) (P .stands) m₁ F,
           )
 
-      module _ (m₄ : List ℕ) (O : OnlyTriggers m₃ m₄) where
-        pub may-find-ready : MayList t m₄
-        may-find-ready =
-            let W = written t m₀ (P .table) (P .size) small (P .state) (P .stands) moment (inputsOf numbers values) m₁ m₂ m₃ F D N in
-            may-list-ready t m₀ (P .table) (P .size) small (P .state) (P .stands) moment (inputsOf numbers values) m₃ W m₄ O
+      -- k is the number of ports as the code has it
+      module _ (k : ℕ) (ports : (k ≡ environmentSize (tableListing t)) × (k ≤ 16)) (m₂ : List ℕ) (O : OnlyTriggers m₁ m₂) (q₀ : ReadyList) (none : slotsOf q₀ ≡ []) where
+        nothing-due-at : (soonest ≡ moment → ⊥) → NothingDue k moment m₂
+        nothing-due-at other =
+            rw (ports .0) (not-due t m₀ (P .table) small (P .state) (P .stands) m₁ F m₂ O moment
+            (only-after soonest moment (nextDue (P .state)) (P .next) (P .nothing-due) other))
 
-        pub begun : ((listing : Listing) → NamesOf listing t m₃ → (q index : ℕ) → q ≤ 64 → index < 16 →
-            triggersAt m₄ q index ≡ triggersOf listing (rowsOf m₃) (ownerAt q index)) →
-            (r : ReadyList) → FirstReady t m₄ r → Begun t m₀ m₄ moment numbers values r
-        begun lists r R = record {
-          holds = λ s e.
-              let W = written t m₀ (P .table) (P .size) small s e moment (inputsOf numbers values) m₁ m₂ m₃ F D N in
-              let names = names-listed t m₀ (P .table) (P .size) small s e moment (inputsOf numbers values) m₃ W in
-              begun-from t m₀ (P .table) (P .size) small s e moment (inputsOf numbers values) m₃ W m₄ O (lists (tableListing t) names) r R;
-        }
+        pub may-make-due : (12288 ≤ length m₂) × (k ≤ 16) × (0 < moment) × ((soonest ≡ moment → ⊥) → NothingDue k moment m₂) × Ordered (rowsOf m₂) (slotsOf q₀)
+        may-make-due =
+            let a = F .outside .size in
+            let b = O .outside .size in
+            let long = P .size in
+            (omega arith, ports .1, P .later, nothing-due-at, rw none ordered-none)
+
+        module _ (m₃ : List ℕ) (q₁ : ReadyList)
+            (D : DueMade k moment m₂ m₃ × Ordered (rowsOf m₃) (slotsOf q₁) × (NothingWritten k m₂ → Reaches k m₂ m₃ (slotsOf q₀) (slotsOf q₁))) where
+          pub may-write-inputs : (12288 ≤ length m₃) × (length numbers ≡ length values) × NumbersBelow 16 numbers × Ordered (rowsOf m₃) (slotsOf q₁)
+          may-write-inputs =
+              let a = F .outside .size in
+              let b = O .outside .size in
+              let d = D .0 .outside .size in
+              let long = P .size in
+              (omega arith, P .same, numbers-of-names, D .1)
+
+          pub begun : (m₄ : List ℕ) (r : ReadyList) → ((listing : Listing) → NamesOf listing t m₁ → ListsOf listing m₁ m₂) →
+              Ordered (rowsOf m₄) (slotsOf r) × ((n : ℕ) → NumbersBelow n numbers →
+              InputsWritten n (inputsOf numbers values) m₃ m₄ × Reaches n m₃ m₄ (slotsOf q₁) (slotsOf r)) → Begun t m₀ m₄ moment numbers values r
+          begun m₄ r lists W = record { holds = all }
+            where
+              n : ℕ
+              n = environmentSize (tableListing t)
+
+              made : DueMade n moment m₂ m₃ × Ordered (rowsOf m₃) (slotsOf q₁) × (NothingWritten n m₂ → Reaches n m₂ m₃ [] (slotsOf q₁))
+              made = rw (ports .0, none) at D
+
+              last : InputsWritten n (inputsOf numbers values) m₃ m₄ × Reaches n m₃ m₄ (slotsOf q₁) (slotsOf r)
+              last = W .1 n numbers-of-ports
+
+              all : (s : State) → readMachine (tableListing t) (take 12288 m₀) ≡ some (running s) → BegunFrom t m₀ m₄ moment (inputsOf numbers values) r s
+              all s e =
+                  let names = names-listed t m₀ (P .table) small s e m₁ F in
+                  let first = nobody-ready t m₀ (P .table) small s e m₁ F m₂ O (lists (tableListing t) names) in
+                  let due = made .2 (unwritten t m₀ (P .table) small s e m₁ F m₂ O) .goes-on (tableListing t) first in
+                  begun-from t m₀ (P .table) small s e m₁ F m₂ O moment (inputsOf numbers values) m₃ m₄ (made .0) (last .0) r (W .0) (last .1 .goes-on (tableListing t) due)

@@ -1,4 +1,3 @@
-pub mod Asking
 pub mod Sitting
 pub mod AtInstructions
 pub mod Passing
@@ -9,3 +8,4 @@ pub mod Made
 pub mod Composed
 pub mod Blank
 pub mod NotDue
+pub mod AtRest

@@ -1,6 +1,6 @@
 -- Where the next moment due is none or after t, making the writes due at t changes nothing: no variable of a state at rest is marked.
 -- Letters: σ rows, q a slot, s the state, xs variables, x and y moments due or none, the tree's as in scheduler's Place and Held.
-use mathlib.Core.Path.{_≡_, refl, sym, ap, ap₂, subst, _∙_, fun-ext}
+use mathlib.Core.Path.{_≡_, refl, sym, ap₂, subst, _∙_, fun-ext}
 use mathlib.Core.Bool.{Bool, true, false}
 use mathlib.Core.List.{List, _∷_}
 use Prim.Native.Nat.{ℕ, zero, suc, _<_, _≤_}
@@ -16,11 +16,11 @@ use Rattle.walk.specs.Question7.{IsState, allAtRest}
 use Rattle.walk_laws.proofs.NextDue.{DueOnlyAfter, never-due, due-later}
 use Rattle.walk_laws.proofs.Idle.{NoMarks, none-marked, first-unmarked, at-rest-no-marks}
 use Rattle.machine.specs.Due.{dueAt}
-use Rattle.scheduler.specs.Rows.{Row, Rows, withOwn}
+use Rattle.scheduler.specs.Rows.{Rows, withOwn}
 use Rattle.scheduler.specs.Beginning.{ownIf, dueInRows, dueIf, dueBelow, nextDueOfRows}
 use Rattle.scheduler.proofs.Place.{Tree, nil, put, erase}
 use Rattle.scheduler.proofs.Sorted.{In, here, there, in-cases, Either, this, that}
-use Rattle.scheduler.proofs.Held.{Entry, rowFor, Held, held-nil, held-put}
+use Rattle.scheduler.proofs.Held.{Entry, rowFor, Held, held-put}
 use Rattle.scheduler.proofs.Kept.{slotsOf}
 use Rattle.scheduler.proofs.Begun.{Settled, at-wait, at-fork, state-settled}
 use Rattle.scheduler.proofs.Holds.{Holds, slot-below, holds-due}
@@ -97,16 +97,20 @@ module _ (listing : Listing) (rest : List Variable → Bool) {σ : Rows} where
       go (this v) a b = a v
       go (that v) a b = b v
 
+-- a live routine's own variables have no marks
+module _ (listing : Listing) (σ : Rows) (s : State) (H : Holds true listing σ (s .environment) s) (I : IsState listing s) where
+  pub used-no-marks : (q : ℕ) → (σ q) .used ≡ true → NoMarks ((σ q) .own)
+  used-no-marks q u =
+      let settled = subst (λ f. Settled listing (allAtRest (s .now)) 0 f) (sym (H .tree-is)) (state-settled listing (allAtRest (s .now)) (I .tree)) in
+      at-rest-no-marks (s .now) ((σ q) .own) (own-rests listing (allAtRest (s .now)) (H .tree) (H .held) settled q (H .whole q u))
+
 module _ (listing : Listing) (t : ℕ) (σ : Rows) (s : State) (H : Holds true listing σ (s .environment) s) (I : IsState listing s) (after : DueOnlyAfter t (nextDue s)) where
   rows-after : DueOnlyAfter t (dueBelow σ 64 (dueOfVariables (s .environment)))
   unfolding nextDueOfRows
   rows-after = subst (DueOnlyAfter t) (sym (holds-due H)) after
 
   used-not-made : (q : ℕ) → (σ q) .used ≡ true → dueWrites t ((σ q) .own) ≡ (σ q) .own
-  used-not-made q u =
-      let settled = subst (λ f. Settled listing (allAtRest (s .now)) 0 f) (sym (H .tree-is)) (state-settled listing (allAtRest (s .now)) (I .tree)) in
-      let rests = own-rests listing (allAtRest (s .now)) (H .tree) (H .held) settled q (H .whole q u) in
-      none-made t (at-rest-no-marks (s .now) ((σ q) .own) rests) (row-after t σ _ 64 q (slot-below H q (H .whole q u)) u rows-after)
+  used-not-made q u = none-made t (used-no-marks listing σ s H I q u) (row-after t σ _ 64 q (slot-below H q (H .whole q u)) u rows-after)
 
   pub rows-not-made : dueInRows t σ ≡ σ
   unfolding dueInRows ownIf withOwn

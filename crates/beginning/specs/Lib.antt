@@ -1,2 +1,1 @@
-pub mod FirstReady
 pub mod Begun

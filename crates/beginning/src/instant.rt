@@ -1,5 +1,5 @@
 // The beginning of an instant. Rule 1 of document 01: "Every waiting write due at t is made, and is gone. Then the call's inputs
-// are written"; then the queues of the instant are made.
+// are written": after the trigger lists are made, so that each of these writes reaches just the routines that wait on its variable.
 ghost use mathlib.Core.Path.{_≡_};
 ghost use mathlib.Core.Bool.{true};
 ghost use Prim.Native.Nat.{_≤_};
@@ -7,7 +7,6 @@ ghost use Rattle.walk.specs.Instant.{environmentSize};
 ghost use Rattle.table.specs.Decode.{tableListing};
 ghost use Rattle.table.specs.Question6.{isTable};
 ghost use Rattle.beginning.specs.Begun.{MayBegin, Begun};
-use crate::first_ready::first_ready;
 use filling::fill_rows;
 use instants::make_due_at;
 use instants::write_inputs;
@@ -25,7 +24,7 @@ fn ports(t: &[u32]) -> usize
     inputs + outputs
 }
 
-// Rows filled in, due writes and inputs made, sleepers listed; the routines that are ready. Given the next moment due (0: none).
+// Rows filled in, sleepers listed, due writes and inputs made; the routines that are ready. Given the next moment due (0: none).
 pub fn begin_instant(
     t: &[u32],
     m: &mut [u32],
@@ -39,8 +38,7 @@ pub fn begin_instant(
 {
     let n = ports(t);
     fill_rows(t, m);
-    make_due_at(m, n, present.0, soonest);
-    write_inputs(m, numbers, values);
     list_sleepers(m, t);
-    first_ready(t, m)
+    let due = make_due_at(m, ready::empty(), n, present.0, soonest);
+    write_inputs(m, due, numbers, values)
 }

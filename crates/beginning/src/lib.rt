@@ -1,6 +1,5 @@
-// The beginning of a call: an instant's rows are filled in, due writes and inputs are made, sleepers are listed, and the routines
-// that are ready are found; the start has main newly called in blank memory. `t` is the table, `m` the machine's memory.
-pub mod first_ready;
+// The beginning of a call: an instant's rows are filled in, sleepers are listed, due writes and inputs are made, which make routines
+// ready; the start has main newly called in blank memory. `t` is the table, `m` the machine's memory.
 pub mod instant;
 pub mod start;
 

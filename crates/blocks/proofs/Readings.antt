@@ -35,7 +35,7 @@ moment-of zero v = refl
 moment-of (suc d) v = refl
 
 -- ── the owner's variable ──────────────────────────────────────────────────────────────────────────
-length-variables : (b : Block) (n : ℕ) → length (variablesIn b n) ≡ min n 16
+pub length-variables : (b : Block) (n : ℕ) → length (variablesIn b n) ≡ min n 16
 unfolding variablesIn
 length-variables b n = length-tabulate 0 (min n 16) (variableIn b)
 

@@ -47,7 +47,7 @@ module _ (b : Block) (t : ℕ) where
   later-mark zero i h l = refl
   later-mark (suc c) i h l = due-within (dueFirst c t b) c (omega arith) t .above (128 + i) (omega arith) (λ e. omega arith) ∙ later-mark c i (omega arith) l
 
-  later-variable : (c i : ℕ) → c ≤ i → i < 16 → variableIn (dueFirst c t b) i ≡ variableIn b i
+  pub later-variable : (c i : ℕ) → c ≤ i → i < 16 → variableIn (dueFirst c t b) i ≡ variableIn b i
   later-variable c i h l =
       variable-same b (dueFirst c t b) i (later-word c i 8 h l (omega arith) (omega arith)) (later-word c i 9 h l (omega arith) (omega arith))
       (later-word c i 10 h l (omega arith) (omega arith)) (later-word c i 11 h l (omega arith) (omega arith)) (later-mark c i h l)

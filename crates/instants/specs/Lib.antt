@@ -1,3 +1,4 @@
 pub mod Passes
 pub mod Beginnings
 pub mod Outputs
+pub mod Reaching

@@ -1,36 +1,62 @@
-// Rule 1 of document 01: "Every waiting write due at t is made, and is gone."
+// Rule 1 of document 01: "Every waiting write due at t is made, and is gone." A write made passes along the trigger list of its variable.
 ghost use mathlib.Core.Path.{_≡_};
-ghost use Prim.Native.Nat.{_≤_, _<_, min};
+ghost use Prim.Native.Nat.{ℕ, _≤_, _<_, min};
 ghost use lib.ListN.{length};
-ghost use Rattle.blocks.specs.Blocks.{block};
+ghost use Rattle.blocks.specs.Blocks.{block, ownerAt, rowsOf};
+ghost use Rattle.blocks.specs.Bindings.{variablesBeside};
 ghost use Rattle.blocks.specs.Changes.{InBlock};
+ghost use Rattle.blocks.specs.Store.{storeOf};
+ghost use Rattle.ready.specs.Slots.{slotsOf};
+ghost use Rattle.ready.specs.Ordered.{Ordered};
 ghost use Rattle.instants.specs.Passes.{dueFirst, dueSlot, Mapped};
 ghost use Rattle.instants.specs.Beginnings.{DueMade, NothingDue};
+ghost use Rattle.instants.specs.Reaching.{Unwritten, NothingWritten, ReachesOne, Reaches};
+use ready::ReadyList;
+
+// Those who await variable `index` of block s are ready, if it is written.
+fn wake_if_written(m: &[u32], ready: ReadyList, s: usize, index: usize) -> ReadyList
+    requires { ⌜ (12288 ≤ length (now m)) × (s ≤ 64) × (index < 16) × (Ordered (rowsOf (now m)) (slotsOf ready)) ⌝ }
+    ensures { λ r. ⌜ ReachesOne (now (m .entry)) s index (slotsOf ready) (slotsOf r) ⌝ }
+{
+    if blocks::written(m, s, index) {
+        return triggers::wake_all(m, ready, s, index);
+    }
+    ready
+}
 
 // The first `count` variables of block s.
-pub fn make_due_in(m: &mut [u32], s: usize, count: usize, t: u64)
-    requires { ⌜ (12288 ≤ length (now m)) × (s ≤ 64) × (count ≤ 16) × (0 < t) ⌝ }
-    ensures { λ _. ⌜ InBlock s (now (m .entry)) (now (m .exit)) (dueFirst count t (block (now (m .entry)) s)) ⌝ }
+pub fn make_due_in(m: &mut [u32], ready: ReadyList, s: usize, count: usize, t: u64) -> ReadyList
+    requires { ⌜ (12288 ≤ length (now m)) × (s ≤ 64) × (count ≤ 16) × (0 < t) × (Ordered (rowsOf (now m)) (slotsOf ready)) ⌝ }
+    ensures { λ r. ⌜ (InBlock s (now (m .entry)) (now (m .exit)) (dueFirst count t (block (now (m .entry)) s)))
+        × (Ordered (rowsOf (now (m .exit))) (slotsOf r))
+        × ((n : ℕ) → count ≤ length (variablesBeside (storeOf n (now (m .entry))) (ownerAt s 0)) → Unwritten count (block (now (m .entry)) s)
+        → Reaches n (now (m .entry)) (now (m .exit)) (slotsOf ready) (slotsOf r)) ⌝ }
 {
     let mut i: usize = 0;
+    let mut woken = ready;
     while i < count {
         blocks::make_due(m, s, i, t);
+        woken = wake_if_written(m, woken, s, i);
         i += 1;
     }
+    woken
 }
 
 // The own variables of the routine in slot s, if one sits there.
-pub fn make_due_slot(m: &mut [u32], s: usize, t: u64)
-    requires { ⌜ (12288 ≤ length (now m)) × (s < 64) × (0 < t) ⌝ }
-    ensures { λ _. ⌜ InBlock s (now (m .entry)) (now (m .exit)) (dueSlot t (block (now (m .entry)) s)) ⌝ }
+pub fn make_due_slot(m: &mut [u32], ready: ReadyList, s: usize, t: u64) -> ReadyList
+    requires { ⌜ (12288 ≤ length (now m)) × (s < 64) × (0 < t) × (Ordered (rowsOf (now m)) (slotsOf ready)) ⌝ }
+    ensures { λ r. ⌜ (InBlock s (now (m .entry)) (now (m .exit)) (dueSlot t (block (now (m .entry)) s)))
+        × (Ordered (rowsOf (now (m .exit))) (slotsOf r))
+        × ((n : ℕ) → Unwritten (min (block (now (m .entry)) s 4) 16) (block (now (m .entry)) s)
+        → Reaches n (now (m .entry)) (now (m .exit)) (slotsOf ready) (slotsOf r)) ⌝ }
 {
     let taken = blocks::word_at(m, s, 0);
     if taken == 0 {
-        return;
+        return ready;
     }
     let own = blocks::word_at(m, s, 4);
     let count = at_most_16(own);
-    make_due_in(m, s, count, t);
+    make_due_in(m, ready, s, count, t)
 }
 
 // A count of variables, read as 16 if it is above.
@@ -44,33 +70,41 @@ pub fn at_most_16(n: u32) -> usize
 }
 
 // All slots.
-pub fn make_due_slots(m: &mut [u32], t: u64)
-    requires { ⌜ (12288 ≤ length (now m)) × (0 < t) ⌝ }
-    ensures { λ _. ⌜ Mapped 64 (dueSlot t) (now (m .entry)) (now (m .exit)) ⌝ }
+pub fn make_due_slots(m: &mut [u32], ready: ReadyList, t: u64) -> ReadyList
+    requires { ⌜ (12288 ≤ length (now m)) × (0 < t) × (Ordered (rowsOf (now m)) (slotsOf ready)) ⌝ }
+    ensures { λ r. ⌜ (Mapped 64 (dueSlot t) (now (m .entry)) (now (m .exit)))
+        × (Ordered (rowsOf (now (m .exit))) (slotsOf r))
+        × ((n : ℕ) → NothingWritten n (now (m .entry)) → Reaches n (now (m .entry)) (now (m .exit)) (slotsOf ready) (slotsOf r)) ⌝ }
 {
     let mut s: usize = 0;
+    let mut woken = ready;
     while s < 64 {
-        make_due_slot(m, s, t);
+        woken = make_due_slot(m, woken, s, t);
         s += 1;
     }
+    woken
 }
 
 // All slots, and the n variables of the environment.
-pub fn make_due_all(m: &mut [u32], n: usize, t: u64)
-    requires { ⌜ (12288 ≤ length (now m)) × (n ≤ 16) × (0 < t) ⌝ }
-    ensures { λ _. ⌜ DueMade n t (now (m .entry)) (now (m .exit)) ⌝ }
+pub fn make_due_all(m: &mut [u32], ready: ReadyList, n: usize, t: u64) -> ReadyList
+    requires { ⌜ (12288 ≤ length (now m)) × (n ≤ 16) × (0 < t) × (Ordered (rowsOf (now m)) (slotsOf ready)) ⌝ }
+    ensures { λ r. ⌜ (DueMade n t (now (m .entry)) (now (m .exit)))
+        × (Ordered (rowsOf (now (m .exit))) (slotsOf r))
+        × (NothingWritten n (now (m .entry)) → Reaches n (now (m .entry)) (now (m .exit)) (slotsOf ready) (slotsOf r)) ⌝ }
 {
-    make_due_slots(m, t);
-    make_due_in(m, 64, n, t);
+    let woken = make_due_slots(m, ready, t);
+    make_due_in(m, woken, 64, n, t)
 }
 
 // The same where the next moment due is known (0: none): without one at t there is nothing to make.
-pub fn make_due_at(m: &mut [u32], n: usize, t: u64, soonest: u64)
-    requires { ⌜ (12288 ≤ length (now m)) × (n ≤ 16) × (0 < t) × ((soonest ≡ t → ⊥) → NothingDue n t (now m)) ⌝ }
-    ensures { λ _. ⌜ DueMade n t (now (m .entry)) (now (m .exit)) ⌝ }
+pub fn make_due_at(m: &mut [u32], ready: ReadyList, n: usize, t: u64, soonest: u64) -> ReadyList
+    requires { ⌜ (12288 ≤ length (now m)) × (n ≤ 16) × (0 < t) × ((soonest ≡ t → ⊥) → NothingDue n t (now m)) × (Ordered (rowsOf (now m)) (slotsOf ready)) ⌝ }
+    ensures { λ r. ⌜ (DueMade n t (now (m .entry)) (now (m .exit)))
+        × (Ordered (rowsOf (now (m .exit))) (slotsOf r))
+        × (NothingWritten n (now (m .entry)) → Reaches n (now (m .entry)) (now (m .exit)) (slotsOf ready) (slotsOf r)) ⌝ }
 {
     if soonest != t {
-        return;
+        return ready;
     }
-    make_due_all(m, n, t);
+    make_due_all(m, ready, n, t)
 }

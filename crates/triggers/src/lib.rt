@@ -15,7 +15,7 @@ ghost use Rattle.ready.specs.Slots.{slotsOf};
 ghost use Rattle.ready.specs.Ordered.{Ordered};
 ghost use Rattle.triggers.specs.Chains.{triggersAt, NoTriggers, Chains, OnlyTriggers};
 ghost use Rattle.triggers.specs.Awaited.{awaitedNames, FewNames, Sleepers, NamesOf, listsWith};
-ghost use Rattle.triggers.specs.Wakes.{wakes};
+ghost use Rattle.triggers.specs.Wakes.{wakes, triggeredFrom};
 use ready::ReadyList;
 
 // The number of an instruction's kind in the table: `W`.
@@ -23,24 +23,25 @@ const WAIT: usize = 5;
 
 // ---- at a write ----
 
-// Slot s put into the ready list, if the write wakes it.
-fn wake_one(m: &[u32], q: ReadyList, s: usize, low: u32) -> ReadyList
+// Slot s put into the ready list, if it sleeps and its lowest priority is `from` or above.
+fn wake_one(m: &[u32], q: ReadyList, s: usize, from: u64) -> ReadyList
     requires { ⌜ (12288 ≤ length (now m)) × (s < 64) × (Ordered (rowsOf (now m)) (slotsOf q)) ⌝ }
-    ensures { λ r. ⌜ slotsOf r ≡ insertIf (wakes (rowsOf (now (m .entry))) low s) (rowsOf (now (m .entry))) s (slotsOf q) ⌝ }
+    ensures { λ r. ⌜ slotsOf r ≡ insertIf (wakes (rowsOf (now (m .entry))) from s) (rowsOf (now (m .entry))) s (slotsOf q) ⌝ }
 {
     if !blocks::asleep(m, s) {
         return q;
     }
-    if blocks::low(m, s) <= low {
+    let low = blocks::low(m, s) as u64;
+    if low < from {
         return q;
     }
     ready::push(m, q, s)
 }
 
-// The ready list after a write to variable `index` of block s, by a routine whose lowest priority is `low`.
-pub fn wake(m: &[u32], q: ReadyList, s: usize, index: usize, low: u32) -> ReadyList
+// The ready list after a write to variable `index` of block s, which reaches the sleepers whose lowest priority is `from` or above.
+fn wake_from(m: &[u32], q: ReadyList, s: usize, index: usize, from: u64) -> ReadyList
     requires { ⌜ (12288 ≤ length (now m)) × (s ≤ 64) × (index < 16) × (Ordered (rowsOf (now m)) (slotsOf q)) ⌝ }
-    ensures { λ r. ⌜ (slotsOf r ≡ insertAll (rowsOf (now (m .entry))) (triggered (rowsOf (now (m .entry))) low (triggersAt (now (m .entry)) s index)) (slotsOf q))
+    ensures { λ r. ⌜ (slotsOf r ≡ insertAll (rowsOf (now (m .entry))) (triggeredFrom (rowsOf (now (m .entry))) from (triggersAt (now (m .entry)) s index)) (slotsOf q))
         × (Ordered (rowsOf (now (m .entry))) (slotsOf r)) ⌝ }
 {
     let mut next = number(blocks::word_at(m, s, 144 + index));
@@ -51,13 +52,31 @@ pub fn wake(m: &[u32], q: ReadyList, s: usize, index: usize, low: u32) -> ReadyL
     while next > 0 {
         let n = next - 1;
         let slot = n / 4;
-        woken = wake_one(m, woken, slot, low);
+        woken = wake_one(m, woken, slot, from);
         next = number(blocks::word_at(m, slot, 160 + n % 4));
         if next > n {
             return woken;
         }
     }
     woken
+}
+
+// A write by a routine whose lowest priority is `low`: it reaches those who come later.
+pub fn wake(m: &[u32], q: ReadyList, s: usize, index: usize, low: u32) -> ReadyList
+    requires { ⌜ (12288 ≤ length (now m)) × (s ≤ 64) × (index < 16) × (Ordered (rowsOf (now m)) (slotsOf q)) ⌝ }
+    ensures { λ r. ⌜ (slotsOf r ≡ insertAll (rowsOf (now (m .entry))) (triggered (rowsOf (now (m .entry))) low (triggersAt (now (m .entry)) s index)) (slotsOf q))
+        × (Ordered (rowsOf (now (m .entry))) (slotsOf r)) ⌝ }
+{
+    wake_from(m, q, s, index, low as u64 + 1)
+}
+
+// A due write or an input, before any routine runs: it reaches all who await the variable.
+pub fn wake_all(m: &[u32], q: ReadyList, s: usize, index: usize) -> ReadyList
+    requires { ⌜ (12288 ≤ length (now m)) × (s ≤ 64) × (index < 16) × (Ordered (rowsOf (now m)) (slotsOf q)) ⌝ }
+    ensures { λ r. ⌜ (slotsOf r ≡ insertAll (rowsOf (now (m .entry))) (triggeredFrom (rowsOf (now (m .entry))) 0 (triggersAt (now (m .entry)) s index)) (slotsOf q))
+        × (Ordered (rowsOf (now (m .entry))) (slotsOf r)) ⌝ }
+{
+    wake_from(m, q, s, index, 0)
 }
 
 // ---- at the beginning of an instant ----

@@ -24,18 +24,21 @@ returns : tie.Need-returns
 returns c =
     let a = c .before .before .before .args in
     let r = rowsOf (now (a .m)) in
-    not-inserted r _ (a .s) (slotsOf (a .q)) (stays-awake r (a .low) (a .s) (sym (c .before .asleep .ensures) ∙ not-true _ (c .if1 .taken)))
+    not-inserted r _ (a .s) (slotsOf (a .q)) (stays-awake r (a .from) (a .s) (sym (c .before .asleep .ensures) ∙ not-true _ (c .if1 .taken)))
 
 low-requires : tie.Need-low-requires
 low-requires c κs = search needs
+
+cast-low : tie.Need-cast-low
+cast-low c = search needs
 
 returns-2 : tie.Need-returns-2
 returns-2 c =
     let a = c .before .before .before .before .before .args in
     let r = rowsOf (now (a .m)) in
     let e = c .before .low .ensures in
-    let early : (r (a .s)) .low ≤ a .low = omega arith in
-    not-inserted r _ (a .s) (slotsOf (a .q)) (comes-earlier r (a .low) (a .s) early)
+    let early : (r (a .s)) .low < a .from = omega arith in
+    not-inserted r _ (a .s) (slotsOf (a .q)) (comes-earlier r (a .from) (a .s) early)
 
 push-requires : tie.Need-push-requires
 push-requires c κs =
@@ -52,9 +55,9 @@ returns-3 c =
     let a = c .before .before .before .before .before .before .args in
     let r = rowsOf (now (a .m)) in
     let e = c .before .before .low .ensures in
-    let later : a .low < (r (a .s)) .low = omega arith in
-    c .push .ensures .1 ∙ inserted r _ (a .s) (slotsOf (a .q)) (is-woken r (a .low) (a .s) (sym (c .before .before .before .before .asleep .ensures) ∙ not-false _ (c .before .before .before .if1 .left)) later)
+    let later : a .from ≤ (r (a .s)) .low = omega arith in
+    c .push .ensures .1 ∙ inserted r _ (a .s) (slotsOf (a .q)) (is-woken r (a .from) (a .s) (sym (c .before .before .before .before .asleep .ensures) ∙ not-false _ (c .before .before .before .if1 .left)) later)
 
 pub wake-one-spec : {M : Type 1} → statement M
 wake-one-spec =
-    tie.close (tie.spec asleep-requires returns low-requires returns-2 push-requires returns-3)
+    tie.close (tie.spec asleep-requires returns low-requires cast-low returns-2 push-requires returns-3)

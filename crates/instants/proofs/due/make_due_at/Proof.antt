@@ -1,12 +1,17 @@
 -- `instants::due::make_due_at` meets its contract.
-use Rattle.instants.proofs.Passing.{nothing-made}
+use denote.Ref.{now}
 use borrow.Author.Needs.{needs}
+use Rattle.ready.specs.Slots.{slotsOf}
+use Rattle.instants.proofs.Passing.{nothing-made}
+use Rattle.instants.proofs.Reached.{reaches-none}
 use Rattle.instants.proofs.due.make_due_at.Statement.{statement}
 use Rattle.instants.proofs.due.make_due_at.Tie as tie
 
 returns : tie.Need-returns
 returns c =
-    nothing-made (c .before .before .pre .3 (c .if1 .taken))
+    let a = c .before .before .args in
+    let p = c .before .before .pre in
+    (nothing-made (p .3 (c .if1 .taken)), p .4, λ N. reaches-none (a .n) (now (a .m)) (slotsOf (a .ready)))
 
 make-due-all-requires : tie.Need-make-due-all-requires
 make-due-all-requires c κs = search needs

@@ -1,29 +1,32 @@
-use Rattle.instants.proofs.Turns.{no-variable-done, one-more-done}
-use Rattle.instants.specs.Passes.{dueFirst}
-use Rattle.blocks.specs.Blocks.{block}
-use Rattle.blocks.specs.Changes.{InBlock}
-use Prim.Native.Nat.{_≤_, _-_}
-use mathlib.Core.Path.{_≡_}
-use native.Mathlib.Omega.{arith}
+-- `instants::due::make_due_in` meets its contract.
 use denote.Ref.{now}
+use mathlib.Core.Path.{_≡_}
+use Prim.Native.Nat.{_≤_, _-_}
+use native.Mathlib.Omega.{arith}
 use borrow.Author.Needs.{needs}
+use Rattle.ready.specs.Slots.{slotsOf}
+use Rattle.instants.proofs.ReachedBlocks.{DueSoFar, order-kept, none-due-yet, one-more-due}
 use Rattle.instants.proofs.due.make_due_in.Statement.{statement}
 use Rattle.instants.proofs.due.make_due_in.Tie as tie
-use Rattle.instants.proofs.due.make_due_in.Reads as reads
-use Rattle.instants.proofs.due.make_due_in.Lts as lts
-use Rattle.blocks.proofs.make_due.Reads as make-due-reads
 
 abbrev Inv-loop : tie.InvT-loop
-Inv-loop m₀ s count t i₀ m i = (i ≤ count) × InBlock s m₀ m (dueFirst i t (block m₀ s))
+Inv-loop m₀ s count t i₀ woken₀ m i woken = (i ≤ count) × DueSoFar s count t i m₀ m (slotsOf woken₀) (slotsOf woken)
 
 abbrev μ-loop : tie.MeasureT-loop
-μ-loop m₀ s count t i₀ m i = count - i
+μ-loop m₀ s count t i₀ woken₀ m i woken = count - i
 
 loop-holds : tie.Need-loop-holds Inv-loop μ-loop
-loop-holds c = let a = c .before .args in (search needs, no-variable-done (a .t) (now (a .m)) (a .s))
+loop-holds c =
+    let a = c .before .args in
+    (omega arith, none-due-yet (a .s) (a .count) (a .t) (now (a .m)) (slotsOf (a .ready)) (c .before .pre .4))
 
 make-due-requires : tie.Need-make-due-requires Inv-loop μ-loop
 make-due-requires c κs = search needs
+
+wake-if-written-requires : tie.Need-wake-if-written-requires Inv-loop μ-loop
+wake-if-written-requires c κs =
+    let v = c .before .before .before .before .before .before .loop in
+    (search needs, search needs, search needs, order-kept _ _ (slotsOf (v .woken)) (c .before .before .before .make-due .ensures) (v .inv .1 .order))
 
 add-i : tie.Need-add-i Inv-loop μ-loop
 add-i c = search needs
@@ -33,9 +36,9 @@ loop-less c = search needs
 
 loop-again : tie.Need-loop-again Inv-loop μ-loop
 loop-again c =
-    let a = c .before .before .before .before .before .before .before .args in
-    let v = c .before .before .before .before .before .loop in
-    (search needs, one-more-done (a .t) (v .i) (v .inv .1) (c .before .before .make-due .ensures .inBlock))
+    let a = c .before .before .before .before .before .before .before .before .before .args in
+    let v = c .before .before .before .before .before .before .before .loop in
+    (search needs, one-more-due (a .s) (a .count) (a .t) (v .i) (search needs) (search needs) (search needs) (c .before .before .before .before .before .before .loop-test .taken) (v .inv .1) (c .before .before .before .before .make-due .ensures) (c .wake-if-written .ensures))
 
 same-length : tie.Need-same-length Inv-loop μ-loop
 same-length c = search needs
@@ -44,7 +47,10 @@ returns : tie.Need-returns Inv-loop μ-loop
 returns c =
     let v = c .before .loop in
     let z : v .i ≡ c .before .before .before .args .count = omega arith in
-    rw z at (v .inv .1)
+    let d = rw z at (v .inv .1) in
+    (d .words, d .order, d .reaches)
 
 pub make-due-in-spec : {M : Type 1} → statement M
-make-due-in-spec = tie.close (tie.spec Inv-loop μ-loop loop-holds make-due-requires add-i loop-less loop-again same-length returns)
+make-due-in-spec =
+    tie.close
+    (tie.spec Inv-loop μ-loop loop-holds make-due-requires wake-if-written-requires add-i loop-less loop-again same-length returns)

@@ -1,17 +1,15 @@
-use Rattle.instants.proofs.Turns.{free-slot-stays, taken-slot-done}
-use Rattle.instants.specs.Passes.{dueSlot, dueFirst}
-use Rattle.blocks.specs.Blocks.{block}
+-- `instants::due::make_due_slot` meets its contract.
+use denote.Ref.{now}
 use mathlib.Core.Path.{_≡_, sym, ap, _∙_}
 use Prim.Native.Nat.{ℕ, min}
-use denote.Ref.{now}
 use borrow.Author.Needs.{needs}
+use Rattle.blocks.specs.Blocks.{block}
+use Rattle.ready.specs.Slots.{slotsOf}
+use Rattle.instants.proofs.Turns.{free-slot-stays, taken-slot-done}
+use Rattle.instants.proofs.Reached.{reaches-none}
+use Rattle.instants.proofs.ReachedBlocks.{slot-reaches}
 use Rattle.instants.proofs.due.make_due_slot.Statement.{statement}
 use Rattle.instants.proofs.due.make_due_slot.Tie as tie
-use Rattle.instants.proofs.due.make_due_slot.Reads as reads
-use Rattle.instants.proofs.due.make_due_slot.Lts as lts
-use Rattle.blocks.proofs.word_at.Reads as word-at-reads
-use Rattle.instants.proofs.due.at_most_16.Reads as at-most-16-reads
-use Rattle.instants.proofs.due.make_due_in.Reads as make-due-in-reads
 
 word-at-requires : tie.Need-word-at-requires
 word-at-requires c κs = search needs
@@ -21,8 +19,11 @@ same-length c = search needs
 
 returns : tie.Need-returns
 returns c =
-    let a = c .before .before .before .before .args in
-    free-slot-stays (a .t) (now (a .m)) (a .s) (sym (c .before .word-at .ensures) ∙ c .if1 .taken)
+    let a = c .before .before .before .before .args in (
+      free-slot-stays (a .t) (now (a .m)) (a .s) (sym (c .before .word-at .ensures) ∙ c .if1 .taken),
+      c .before .before .before .before .pre .3,
+      λ n u. reaches-none n (now (a .m)) (slotsOf (a .ready)),
+    )
 
 word-at-requires-2 : tie.Need-word-at-requires-2
 word-at-requires-2 c κs = search needs
@@ -39,8 +40,12 @@ same-length-2 c = search needs
 returns-2 : tie.Need-returns-2
 returns-2 c =
     let a = c .before .before .before .before .before .before .before .before .before .before .before .args in
-    taken-slot-done (a .t) _ (λ z. c .before .before .before .before .before .before .before .if1 .left (c .before .before .before .before .before .before .before .before .word-at .ensures ∙ z)) (c .before .before .before .before .at-most-16 .ensures ∙ ap (λ (n : ℕ). min n 16) (c .before .before .before .before .before .word-at2 .ensures))
-    (c .before .before .make-due-in .ensures)
+    let own = c .before .before .before .before .at-most-16 .ensures ∙ ap (λ (n : ℕ). min n 16) (c .before .before .before .before .before .word-at2 .ensures) in
+    let made = c .before .before .make-due-in .ensures in (
+      taken-slot-done (a .t) _ (λ z. c .before .before .before .before .before .before .before .if1 .left (c .before .before .before .before .before .before .before .before .word-at .ensures ∙ z)) own (made .0),
+      made .1,
+      λ n u. slot-reaches n (a .s) _ (search needs) own (made .2) u,
+    )
 
 pub make-due-slot-spec : {M : Type 1} → statement M
 make-due-slot-spec =

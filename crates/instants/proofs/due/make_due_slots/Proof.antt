@@ -1,29 +1,30 @@
-use Rattle.instants.proofs.Passing.{none-mapped, one-more-mapped}
-use Rattle.instants.specs.Passes.{dueSlot, Mapped}
-use Rattle.blocks.specs.Blocks.{block}
-use Prim.Native.Nat.{_≤_, _-_}
-use mathlib.Core.Path.{_≡_}
-use native.Mathlib.Numerals.{add-one}
-use native.Mathlib.Omega.{arith}
+-- `instants::due::make_due_slots` meets its contract.
 use denote.Ref.{now}
+use mathlib.Core.Path.{_≡_}
+use Prim.Native.Nat.{_≤_, _-_}
+use native.Mathlib.Omega.{arith}
 use borrow.Author.Needs.{needs}
+use Rattle.ready.specs.Slots.{slotsOf}
+use Rattle.instants.proofs.ReachedBlocks.{SlotsSoFar, no-slot-yet, one-more-slot}
 use Rattle.instants.proofs.due.make_due_slots.Statement.{statement}
 use Rattle.instants.proofs.due.make_due_slots.Tie as tie
-use Rattle.instants.proofs.due.make_due_slots.Reads as reads
-use Rattle.instants.proofs.due.make_due_slots.Lts as lts
-use Rattle.instants.proofs.due.make_due_slot.Reads as make-due-slot-reads
 
 abbrev Inv-loop : tie.InvT-loop
-Inv-loop m₀ t s₀ m s = (s ≤ 64) × Mapped s (dueSlot t) m₀ m
+Inv-loop m₀ t s₀ woken₀ m s woken = (s ≤ 64) × SlotsSoFar t s m₀ m (slotsOf woken₀) (slotsOf woken)
 
 abbrev μ-loop : tie.MeasureT-loop
-μ-loop m₀ t s₀ m s = 64 - s
+μ-loop m₀ t s₀ woken₀ m s woken = 64 - s
 
 loop-holds : tie.Need-loop-holds Inv-loop μ-loop
-loop-holds c = let a = c .before .args in (search needs, none-mapped (dueSlot (a .t)) (now (a .m)))
+loop-holds c =
+    let a = c .before .args in
+    (omega arith, no-slot-yet (a .t) (now (a .m)) (slotsOf (a .ready)) (c .before .pre .2))
 
 make-due-slot-requires : tie.Need-make-due-slot-requires Inv-loop μ-loop
-make-due-slot-requires c κs = search needs
+make-due-slot-requires c κs =
+    let v = c .before .before .loop in
+    let size = v .inv .1 .words .size in
+    (omega arith, search needs, search needs, v .inv .1 .order)
 
 add-s : tie.Need-add-s Inv-loop μ-loop
 add-s c = search needs
@@ -35,7 +36,8 @@ loop-again : tie.Need-loop-again Inv-loop μ-loop
 loop-again c =
     let a = c .before .before .before .before .before .before .before .args in
     let v = c .before .before .before .before .before .loop in
-    (search needs, rw add-one (one-more-mapped (dueSlot (a .t)) _ _ _ (v .s) (search needs) (v .inv .1) (c .before .before .make-due-slot .ensures)))
+    let one = c .before .before .make-due-slot .ensures in
+    (search needs, one-more-slot (a .t) (v .s) (search needs) (v .inv .1) (one .0) (one .1) (one .2))
 
 same-length : tie.Need-same-length Inv-loop μ-loop
 same-length c = search needs
@@ -44,7 +46,8 @@ returns : tie.Need-returns Inv-loop μ-loop
 returns c =
     let v = c .before .loop in
     let z : v .s ≡ 64 = omega arith in
-    rw z at (v .inv .1)
+    let d = rw z at (v .inv .1) in
+    (d .words, d .order, d .reaches)
 
 pub make-due-slots-spec : {M : Type 1} → statement M
 make-due-slots-spec = tie.close (tie.spec Inv-loop μ-loop loop-holds make-due-slot-requires add-s loop-less loop-again same-length returns)

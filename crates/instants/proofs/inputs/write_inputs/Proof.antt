@@ -1,24 +1,33 @@
-use Rattle.instants.proofs.InputPass.{InputsSoFar, inputs-begun, one-more-input, inputs-done}
-use Prim.Native.Nat.{_≤_, _-_}
+-- `instants::inputs::write_inputs` meets its contract.
+use denote.Ref.{now}
 use mathlib.Core.Path.{_≡_}
+use Prim.Native.Nat.{ℕ, _≤_, _-_}
 use native.Mathlib.Omega.{arith}
 use lib.ListN.{length}
-use denote.Ref.{now}
 use borrow.Author.Needs.{needs}
+use Rattle.blocks.specs.Blocks.{rowsOf}
+use Rattle.ready.specs.Ordered.{Ordered}
+use Rattle.ready.specs.Slots.{slotsOf}
+use Rattle.instants.specs.Beginnings.{NumbersBelow}
+use Rattle.instants.specs.Reaching.{Reaches}
+use Rattle.instants.proofs.InputPass.{InputsSoFar, inputs-begun, one-more-input, inputs-done}
+use Rattle.instants.proofs.Reached.{reaches-none, reaches-then}
+use Rattle.instants.proofs.ReachedBlocks.{order-kept, input-reaches}
 use Rattle.instants.proofs.inputs.write_inputs.Statement.{statement}
 use Rattle.instants.proofs.inputs.write_inputs.Tie as tie
-use Rattle.instants.proofs.inputs.write_inputs.Reads as reads
-use Rattle.instants.proofs.inputs.write_inputs.Lts as lts
-use Rattle.blocks.proofs.assign.Reads as assign-reads
 
 abbrev Inv-loop : tie.InvT-loop
-Inv-loop m₀ numbers values k₀ m k = (k ≤ length numbers) × InputsSoFar numbers values k m₀ m
+Inv-loop m₀ numbers values k₀ woken₀ m k woken =
+    (k ≤ length numbers) × InputsSoFar numbers values k m₀ m × (Ordered (rowsOf m) (slotsOf woken))
+    × ((n : ℕ) → NumbersBelow n numbers → Reaches n m₀ m (slotsOf woken₀) (slotsOf woken))
 
 abbrev μ-loop : tie.MeasureT-loop
-μ-loop m₀ numbers values k₀ m k = length numbers - k
+μ-loop m₀ numbers values k₀ woken₀ m k woken = length numbers - k
 
 loop-holds : tie.Need-loop-holds Inv-loop μ-loop
-loop-holds c = let a = c .before .before .before .args in (search needs, inputs-begun (now (a .numbers)) (now (a .values)) (now (a .m)))
+loop-holds c =
+    let a = c .before .before .before .args in
+    (omega arith, inputs-begun (now (a .numbers)) (now (a .values)) (now (a .m)), c .before .before .before .pre .3, λ n h. reaches-none n (now (a .m)) (slotsOf (a .ready)))
 
 mul-number : tie.Need-mul-number Inv-loop μ-loop
 mul-number c = search needs
@@ -36,7 +45,13 @@ shared-slice-read-value : tie.Need-shared-slice-read-value Inv-loop μ-loop
 shared-slice-read-value c = search needs
 
 assign-requires : tie.Need-assign-requires Inv-loop μ-loop
-assign-requires c κs = (search needs, search needs, c .before .before .before .before .before .before .before .before .pre .2 .below (c .before .before .before .before .loop .k) (search needs))
+assign-requires c κs =
+    (search needs, search needs, c .before .before .before .before .before .before .before .before .pre .2 .below (c .before .before .before .before .loop .k) (search needs))
+
+wake-all-requires : tie.Need-wake-all-requires Inv-loop μ-loop
+wake-all-requires c κs =
+    let v = c .before .before .before .before .before .before .before .before .loop in
+    (search needs, search needs, c .before .before .before .before .before .before .before .before .before .before .before .before .pre .2 .below (v .k) (search needs), order-kept _ _ (slotsOf (v .woken)) (c .before .before .before .assign .ensures) (v .inv .2))
 
 add-k : tie.Need-add-k Inv-loop μ-loop
 add-k c = search needs
@@ -46,9 +61,15 @@ loop-less c = search needs
 
 loop-again : tie.Need-loop-again Inv-loop μ-loop
 loop-again c =
-    let a = c .before .before .before .before .before .before .before .before .before .before .before .args in
-    let v = c .before .before .before .before .before .before .before .loop in
-    (search needs, one-more-input (now (a .numbers)) (now (a .values)) (v .k) (search needs) (search needs) (v .inv .1) (c .before .before .assign .ensures))
+    let a = c .before .before .before .before .before .before .before .before .before .before .before .before .before .args in
+    let v = c .before .before .before .before .before .before .before .before .before .loop in
+    let w = c .wake-all .ensures in
+    let below = c .before .before .before .before .before .before .before .before .before .before .before .before .before .pre .2 .below (v .k) (search needs) in (
+      search needs,
+      one-more-input (now (a .numbers)) (now (a .values)) (v .k) (search needs) (search needs) (v .inv .1) (c .before .before .before .before .assign .ensures),
+      w .1,
+      λ n h. reaches-then (v .inv .3 n h) (input-reaches n _ _ below (h .below (v .k) (search needs)) (c .before .before .before .before .assign .ensures) (w .0)),
+    )
 
 same-length : tie.Need-same-length Inv-loop μ-loop
 same-length c = search needs
@@ -58,10 +79,10 @@ returns c =
     let a = c .before .before .before .before .before .args in
     let v = c .before .loop in
     let z : v .k ≡ length (now (a .numbers)) = omega arith in
-    inputs-done (now (a .numbers)) (now (a .values)) (rw z at (v .inv .1))
+    (v .inv .2, λ n h. (inputs-done (now (a .numbers)) (now (a .values)) (rw z at (v .inv .1)) n h, v .inv .3 n h))
 
 pub write-inputs-spec : {M : Type 1} → statement M
 write-inputs-spec =
     tie.close
-    (tie.spec Inv-loop μ-loop loop-holds mul-number shared-slice-read-number cast-number mul-value shared-slice-read-value assign-requires add-k loop-less
-    loop-again same-length returns)
+    (tie.spec Inv-loop μ-loop loop-holds mul-number shared-slice-read-number cast-number mul-value shared-slice-read-value assign-requires wake-all-requires add-k
+    loop-less loop-again same-length returns)

@@ -3,14 +3,14 @@
 use mathlib.Core.Path.{_≡_, refl, sym, ap, subst, _∙_}
 use mathlib.Core.Bool.{Bool, true, false}
 use mathlib.Core.List.{List, []}
-use Prim.Native.Nat.{ℕ, zero, suc, _<_, min}
+use Prim.Native.Nat.{ℕ, _<_, min}
 use native.Mathlib.Decide.{decLt}
 use native.Mathlib.Omega.{arith}
 use Rattle.listing.specs.Listing.{Listing}
 use Rattle.walk.specs.State.{Variable, fresh, State}
 use Rattle.walk.specs.Memory.{variableAt}
 use Rattle.walk.specs.Question7.{IsState}
-use Rattle.walk_laws.proofs.Idle.{NoMarks, none-marked, first-unmarked, at-rest-no-marks}
+use Rattle.walk_laws.proofs.Idle.{NoMarks, none-marked, no-mark-at, at-rest-no-marks}
 use Rattle.scheduler.specs.Rows.{Owner, inEnvironment, inSlot, Row, Rows, freeRow, variableOf}
 use Rattle.scheduler.proofs.Holds.{Holds}
 use Rattle.blocks.specs.Tabulate.{tabulateFrom}
@@ -24,12 +24,6 @@ use Rattle.beginning.proofs.Found.{no-row}
 use Rattle.beginning.proofs.NotDue.{used-no-marks}
 
 -- ── variables without marks ───────────────────────────────────────────────────────────────────────
-no-mark-at : {xs : List Variable} → NoMarks xs → (i : ℕ) → (variableAt xs i) .written ≡ false
-unfolding variableAt fresh
-no-mark-at none-marked i = refl
-no-mark-at (first-unmarked e h) zero = e
-no-mark-at (first-unmarked e h) (suc i) = no-mark-at h i
-
 block-unwritten : (b : Block) (c : ℕ) → NoMarks (variablesIn b c) → Unwritten (min c 16) b
 unfolding variablesIn variableAt
 block-unwritten b c h = record {

@@ -1,5 +1,5 @@
 // What an instant does to all blocks before its run, due writes and inputs, and the outputs listed after it.
-// Uses `blocks`; its contracts speak of rows and environment. `m` is the machine's memory.
+// Uses `blocks`, and `triggers` for whom a write wakes; its contracts speak of rows, environment and ready list. `m` is the machine's memory.
 pub mod due;
 pub mod inputs;
 pub mod outputs;

@@ -76,7 +76,7 @@ no-marks-drop zero h = h
 no-marks-drop (suc k) none-marked = none-marked
 no-marks-drop (suc k) (first-unmarked e h) = no-marks-drop k h
 
-no-mark-at : {xs : List Variable} → NoMarks xs → (a : ℕ) → (variableAt xs a) .written ≡ false
+pub no-mark-at : {xs : List Variable} → NoMarks xs → (a : ℕ) → (variableAt xs a) .written ≡ false
 unfolding variableAt fresh
 no-mark-at none-marked a = refl
 no-mark-at (first-unmarked e h) zero = e

@@ -36,56 +36,41 @@ module _ (w : List ℕ) (names held a : ℕ) where
       go zero e h = rw (e, same-number (word w (a + 1)))
       go (suc k) e h = absurd (omega arith)
 
-  pub after-name : 1 ≤ word w a → word w a ≤ 2 → word w (a + 1) < names → Gives (pushed held)
+  after-named : 1 ≤ word w a → word w a ≤ 2 → Gives (cond (ltb (word w (a + 1)) names) (pushed held) 0)
   unfolding heldAfter heldPast pieceAt pieceOf pieceWords sameAt pieceIsThere heldWith
-  after-name l h there = rw first (go (word w a) refl l h)
+  after-named l h = rw first (go (word w a) refl l h)
     where
-      go : (k : ℕ) → word w a ≡ k → 1 ≤ k → k ≤ 2 → given k (word w (a + 1)) ≡ pushed held
+      go : (k : ℕ) → word w a ≡ k → 1 ≤ k → k ≤ 2 → given k (word w (a + 1)) ≡ cond (ltb (word w (a + 1)) names) (pushed held) 0
       go zero e l h = absurd (omega arith)
-      go (suc zero) e l h = rw (e, same-number (word w (a + 1)), lt-ltb (word w (a + 1)) names there)
-      go (suc (suc zero)) e l h = rw (e, same-number (word w (a + 1)), lt-ltb (word w (a + 1)) names there)
+      go (suc zero) e l h = rw (e, same-number (word w (a + 1)), and-yes (ltb (word w (a + 1)) names))
+      go (suc (suc zero)) e l h = rw (e, same-number (word w (a + 1)), and-yes (ltb (word w (a + 1)) names))
       go (suc (suc (suc k))) e l h = absurd (omega arith)
+
+  pub after-name : 1 ≤ word w a → word w a ≤ 2 → word w (a + 1) < names → Gives (pushed held)
+  after-name l h there = after-named l h ∙ rw (lt-ltb (word w (a + 1)) names there)
 
   pub after-no-name : 1 ≤ word w a → word w a ≤ 2 → names ≤ word w (a + 1) → Gives 0
+  after-no-name l h past = after-named l h ∙ rw (le-ltb (word w (a + 1)) names past)
+
+  after-signed : 2 < word w a → word w a ≤ 6 → Gives (cond (eqb (word w (a + 1)) 0) (joined held) 0)
   unfolding heldAfter heldPast pieceAt pieceOf pieceWords sameAt pieceIsThere heldWith
-  after-no-name l h past = rw first (go (word w a) refl l h)
+  after-signed l h = rw first (go (word w a) refl l h)
     where
-      go : (k : ℕ) → word w a ≡ k → 1 ≤ k → k ≤ 2 → given k (word w (a + 1)) ≡ 0
+      go : (k : ℕ) → word w a ≡ k → 2 < k → k ≤ 6 → given k (word w (a + 1)) ≡ cond (eqb (word w (a + 1)) 0) (joined held) 0
       go zero e l h = absurd (omega arith)
-      go (suc zero) e l h = rw (le-ltb (word w (a + 1)) names past)
-      go (suc (suc zero)) e l h = rw (le-ltb (word w (a + 1)) names past)
-      go (suc (suc (suc k))) e l h = absurd (omega arith)
+      go (suc zero) e l h = absurd (omega arith)
+      go (suc (suc zero)) e l h = absurd (omega arith)
+      go (suc (suc (suc zero))) e l h = rw (e, and-yes (eqb (word w (a + 1)) 0))
+      go (suc (suc (suc (suc zero)))) e l h = rw (e, and-yes (eqb (word w (a + 1)) 0))
+      go (suc (suc (suc (suc (suc zero))))) e l h = rw (e, and-yes (eqb (word w (a + 1)) 0))
+      go (suc (suc (suc (suc (suc (suc zero)))))) e l h = rw (e, and-yes (eqb (word w (a + 1)) 0))
+      go (suc (suc (suc (suc (suc (suc (suc k))))))) e l h = absurd (omega arith)
 
   pub after-sign : 2 < word w a → word w a ≤ 6 → word w (a + 1) ≡ 0 → Gives (joined held)
-  unfolding heldAfter heldPast pieceAt pieceOf pieceWords sameAt pieceIsThere heldWith
-  after-sign l h z = rw first (go (word w a) refl l h)
-    where
-      go : (k : ℕ) → word w a ≡ k → 2 < k → k ≤ 6 → given k (word w (a + 1)) ≡ joined held
-      go zero e l h = absurd (omega arith)
-      go (suc zero) e l h = absurd (omega arith)
-      go (suc (suc zero)) e l h = absurd (omega arith)
-      go (suc (suc (suc zero))) e l h = rw (e, z)
-      go (suc (suc (suc (suc zero)))) e l h = rw (e, z)
-      go (suc (suc (suc (suc (suc zero))))) e l h = rw (e, z)
-      go (suc (suc (suc (suc (suc (suc zero)))))) e l h = rw (e, z)
-      go (suc (suc (suc (suc (suc (suc (suc k))))))) e l h = absurd (omega arith)
+  after-sign l h z = after-signed l h ∙ rw z
 
   pub after-marked-sign : 2 < word w a → word w a ≤ 6 → (word w (a + 1) ≡ 0 → ⊥) → Gives 0
-  unfolding heldAfter heldPast pieceAt pieceOf pieceWords sameAt pieceIsThere heldWith
-  after-marked-sign l h n = rw first (go (word w a) refl l h)
-    where
-      junk : eqb (word w (a + 1)) 0 ≡ false
-      junk = ne-eqb (word w (a + 1)) 0 n
-
-      go : (k : ℕ) → word w a ≡ k → 2 < k → k ≤ 6 → given k (word w (a + 1)) ≡ 0
-      go zero e l h = absurd (omega arith)
-      go (suc zero) e l h = absurd (omega arith)
-      go (suc (suc zero)) e l h = absurd (omega arith)
-      go (suc (suc (suc zero))) e l h = rw (e, junk)
-      go (suc (suc (suc (suc zero)))) e l h = rw (e, junk)
-      go (suc (suc (suc (suc (suc zero))))) e l h = rw (e, junk)
-      go (suc (suc (suc (suc (suc (suc zero)))))) e l h = rw (e, junk)
-      go (suc (suc (suc (suc (suc (suc (suc k))))))) e l h = absurd (omega arith)
+  after-marked-sign l h n = after-signed l h ∙ rw (ne-eqb (word w (a + 1)) 0 n)
 
   pub after-no-piece : 6 < word w a → Gives 0
   unfolding heldAfter heldPast pieceAt pieceOf pieceWords sameAt pieceIsThere heldWith

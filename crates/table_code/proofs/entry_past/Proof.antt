@@ -1,10 +1,11 @@
 -- `table_code::entry_past` meets its contract.
 use denote.Ref.{now}
-use Prim.Native.Nat.{_+_}
+use Prim.Native.Nat.{ℕ, _+_}
 use mathlib.Core.Path.{_≡_, sym}
+use mathlib.Core.List.{List}
 use native.Mathlib.Omega.{arith}
 use Rattle.table.specs.Decode.{word}
-use Rattle.table_code.specs.Pass.{Words}
+use Rattle.table_code.specs.Pass.{Words, entryPast}
 use Rattle.table_code.proofs.Entries as entries
 use borrow.Author.Needs.{needs}
 use Rattle.table_code.proofs.entry_past.Statement.{statement}
@@ -88,68 +89,41 @@ fork-past-requires c κs = search needs
 plain-past-requires-2 : tie.Need-plain-past-requires-2
 plain-past-requires-2 c κs = search needs
 
-returns-2 : tie.Need-returns-2
-returns-2 c =
-    let a = c .before .before .before .before .before .before .before .before .before .args in
+-- at the match, a law on entries of a kind tells what is to be returned
+abbrev Law : ℕ → (List ℕ → ℕ → ℕ → ℕ → ℕ → ℕ) → Type 0
+Law k f =
+    (w : List ℕ) → Words w → (names size e at : ℕ) → word w (e + 2) ≡ at → word w (e + 0) ≡ k → entryPast w names size e at ≡ f w names size e at
+
+past : (c : tie.Else1) {k r : ℕ} {f : List ℕ → ℕ → ℕ → ℕ → ℕ → ℕ} → Law k f
+    → (let a = c .before .before .before .before .before .before .before .args in
+    word (now (a .t)) (a .e + 0) ≡ k → r ≡ f (now (a .t)) (a .names) (a .size) (a .e) (a .cells) → r ≡ entryPast (now (a .t)) (a .names) (a .size) (a .e) (a .cells))
+past c law h z =
+    let a = c .before .before .before .before .before .before .before .args in
     let w = now (a .t) in
     let x : word w (a .e + 2) ≡ a .cells = omega arith in
-    let k : word w (a .e + 0) ≡ 1 = omega arith in
-    let small : Words w = λ j. omega (arith, (c .before .before .before .before .before .before .before .before .shared-slice-known .given) j) in
-    rw (entries.past-assign w small (a .names) (a .size) (a .e) (a .cells) x k) (c .expression-past .ensures)
+    let small : Words w = λ j. omega (arith, c .before .before .before .before .before .before .shared-slice-known .given j) in
+    rw (law w small (a .names) (a .size) (a .e) (a .cells) x h) z
+
+returns-2 : tie.Need-returns-2
+returns-2 c = past (c .before .before) entries.past-assign (c .before .match .keys1) (c .expression-past .ensures)
 
 returns-3 : tie.Need-returns-3
-returns-3 c =
-    let a = c .before .before .before .before .before .before .before .before .before .args in
-    let w = now (a .t) in
-    let x : word w (a .e + 2) ≡ a .cells = omega arith in
-    let k : word w (a .e + 0) ≡ 2 = omega arith in
-    let small : Words w = λ j. omega (arith, (c .before .before .before .before .before .before .before .before .shared-slice-known .given) j) in
-    rw (entries.past-schedule w small (a .names) (a .size) (a .e) (a .cells) x k) (c .schedule-past .ensures)
+returns-3 c = past (c .before .before) entries.past-schedule (c .before .match .keys2) (c .schedule-past .ensures)
 
 returns-4 : tie.Need-returns-4
-returns-4 c =
-    let a = c .before .before .before .before .before .before .before .before .before .args in
-    let w = now (a .t) in
-    let x : word w (a .e + 2) ≡ a .cells = omega arith in
-    let k : word w (a .e + 0) ≡ 3 = omega arith in
-    let small : Words w = λ j. omega (arith, (c .before .before .before .before .before .before .before .before .shared-slice-known .given) j) in
-    rw (entries.past-branch w small (a .names) (a .size) (a .e) (a .cells) x k) (c .expression-past2 .ensures)
+returns-4 c = past (c .before .before) entries.past-branch (c .before .match .keys3) (c .expression-past2 .ensures)
 
 returns-5 : tie.Need-returns-5
-returns-5 c =
-    let a = c .before .before .before .before .before .before .before .before .before .args in
-    let w = now (a .t) in
-    let x : word w (a .e + 2) ≡ a .cells = omega arith in
-    let k : word w (a .e + 0) ≡ 4 = omega arith in
-    let small : Words w = λ j. omega (arith, (c .before .before .before .before .before .before .before .before .shared-slice-known .given) j) in
-    rw (entries.past-jump w small (a .names) (a .size) (a .e) (a .cells) x k) (c .plain-past .ensures)
+returns-5 c = past (c .before .before) entries.past-jump (c .before .match .keys4) (c .plain-past .ensures)
 
 returns-6 : tie.Need-returns-6
-returns-6 c =
-    let a = c .before .before .before .before .before .before .before .before .before .args in
-    let w = now (a .t) in
-    let x : word w (a .e + 2) ≡ a .cells = omega arith in
-    let k : word w (a .e + 0) ≡ 5 = omega arith in
-    let small : Words w = λ j. omega (arith, (c .before .before .before .before .before .before .before .before .shared-slice-known .given) j) in
-    rw (entries.past-wait w small (a .names) (a .size) (a .e) (a .cells) x k) (c .wait-past .ensures)
+returns-6 c = past (c .before .before) entries.past-wait (c .before .match .keys5) (c .wait-past .ensures)
 
 returns-7 : tie.Need-returns-7
-returns-7 c =
-    let a = c .before .before .before .before .before .before .before .before .before .args in
-    let w = now (a .t) in
-    let x : word w (a .e + 2) ≡ a .cells = omega arith in
-    let k : word w (a .e + 0) ≡ 6 = omega arith in
-    let small : Words w = λ j. omega (arith, (c .before .before .before .before .before .before .before .before .shared-slice-known .given) j) in
-    rw (entries.past-fork w small (a .names) (a .size) (a .e) (a .cells) x k) (c .fork-past .ensures)
+returns-7 c = past (c .before .before) entries.past-fork (c .before .match .keys6) (c .fork-past .ensures)
 
 returns-8 : tie.Need-returns-8
-returns-8 c =
-    let a = c .before .before .before .before .before .before .before .before .before .args in
-    let w = now (a .t) in
-    let x : word w (a .e + 2) ≡ a .cells = omega arith in
-    let k : word w (a .e + 0) ≡ 7 = omega arith in
-    let small : Words w = λ j. omega (arith, (c .before .before .before .before .before .before .before .before .shared-slice-known .given) j) in
-    rw (entries.past-end w small (a .names) (a .size) (a .e) (a .cells) x k) (c .plain-past2 .ensures)
+returns-8 c = past (c .before .before) entries.past-end (c .before .match .keys7) (c .plain-past2 .ensures)
 
 returns-9 : tie.Need-returns-9
 returns-9 c =

@@ -1,193 +1,124 @@
 -- `table_read::fetch` meets its contract.
 use denote.Ref.{now}
-use Prim.Native.Nat.{_+_, _*_}
+use Prim.Native.Nat.{ℕ, _+_, _*_, _≤_}
 use native.Mathlib.Omega.{arith}
+use mir.Val.{Fits}
+use mir.Syntax.{w64}
+use lib.ListN.{length}
 use Rattle.table.specs.Decode.{word}
 use Rattle.table.proofs.Bounds.{bounds}
 use Rattle.table.proofs.Entry.{fetched}
 use Rattle.table_read.proofs.fetch.Statement.{statement}
 use Rattle.table_read.proofs.fetch.Tie as tie
 
+-- routine r's entry is among the words
+entry-room : (s : tie.Start) → 8 + 5 * s .args .r + 5 ≤ length (now (s .args .t))
+entry-room s =
+    let b = bounds (now (s .args .t)) (s .pre .0) in
+    omega (arith, b .words, b .few, s .pre .1)
+
+-- the instruction's entry is among the words
+room : (s : tie.Start) → 328 + 5 * word (now (s .args .t)) (8 + 5 * s .args .r + 3) + 5 * s .args .place + 5 ≤ length (now (s .args .t))
+room s =
+    let b = bounds (now (s .args .t)) (s .pre .0) in
+    omega (arith, b .words, s .pre .2, b .code (s .args .r) (s .pre .1))
+
+-- a word of the table is a usize
+wide : (c : tie.After-shared-slice-known) (j : ℕ) → Fits w64 (word (now (c .before .args .t)) j)
+wide c j = omega (arith, c .shared-slice-known .given j)
+
 mul-a : tie.Need-mul-a
-mul-a c =
-    let a = c .args in
-    let b = bounds (now (a .t)) (c .pre .0) in
-    omega (arith, b .words, b .few, (c .pre .1))
+mul-a c = omega (arith, entry-room c)
 
 add-a : tie.Need-add-a
-add-a c =
-    let a = c .args in
-    let b = bounds (now (a .t)) (c .pre .0) in
-    omega (arith, b .words, b .few, (c .pre .1))
+add-a c = omega (arith, entry-room c)
 
 add-start : tie.Need-add-start
-add-start c =
-    let a = c .args in
-    let b = bounds (now (a .t)) (c .pre .0) in
-    omega (arith, b .words, b .few, (c .pre .1))
+add-start c = omega (arith, entry-room c)
 
 mul-start : tie.Need-mul-start
-mul-start c =
-    let a = c .args in
-    let b = bounds (now (a .t)) (c .pre .0) in
-    omega (arith, b .words, b .few, (c .pre .1))
+mul-start c = omega (arith, entry-room c)
 
 shared-slice-read-start : tie.Need-shared-slice-read-start
-shared-slice-read-start c =
-    let a = c .before .args in
-    let b = bounds (now (a .t)) (c .before .pre .0) in
-    omega (arith, b .words, b .few, (c .before .pre .1))
+shared-slice-read-start c = omega (arith, entry-room (c .before))
 
 cast-start : tie.Need-cast-start
-cast-start c =
-    omega (arith, (c .shared-slice-known .given) (8 + 5 * (c .before .args .r) + 3))
+cast-start c = wide c _
 
 mul-e : tie.Need-mul-e
-mul-e c =
-    let a = c .before .args in
-    let b = bounds (now (a .t)) (c .before .pre .0) in
-    omega (arith, b .words, b .few, (c .before .pre .1), (c .before .pre .2), b .code (a .r) (c .before .pre .1))
+mul-e c = omega (arith, room (c .before))
 
 add-e : tie.Need-add-e
-add-e c =
-    let a = c .before .args in
-    let b = bounds (now (a .t)) (c .before .pre .0) in
-    omega (arith, b .words, b .few, (c .before .pre .1), (c .before .pre .2), b .code (a .r) (c .before .pre .1))
+add-e c = omega (arith, room (c .before))
 
 mul-e-2 : tie.Need-mul-e-2
-mul-e-2 c =
-    let a = c .before .args in
-    let b = bounds (now (a .t)) (c .before .pre .0) in
-    omega (arith, b .words, b .few, (c .before .pre .1), (c .before .pre .2), b .code (a .r) (c .before .pre .1))
+mul-e-2 c = omega (arith, room (c .before))
 
 add-e-2 : tie.Need-add-e-2
-add-e-2 c =
-    let a = c .before .args in
-    let b = bounds (now (a .t)) (c .before .pre .0) in
-    omega (arith, b .words, b .few, (c .before .pre .1), (c .before .pre .2), b .code (a .r) (c .before .pre .1))
+add-e-2 c = omega (arith, room (c .before))
 
 add-kind : tie.Need-add-kind
-add-kind c =
-    let a = c .before .args in
-    let b = bounds (now (a .t)) (c .before .pre .0) in
-    omega (arith, b .words, b .few, (c .before .pre .1), (c .before .pre .2), b .code (a .r) (c .before .pre .1))
+add-kind c = omega (arith, room (c .before))
 
 mul-kind : tie.Need-mul-kind
-mul-kind c =
-    let a = c .before .args in
-    let b = bounds (now (a .t)) (c .before .pre .0) in
-    omega (arith, b .words, b .few, (c .before .pre .1), (c .before .pre .2), b .code (a .r) (c .before .pre .1))
+mul-kind c = omega (arith, room (c .before))
 
 shared-slice-read-kind : tie.Need-shared-slice-read-kind
-shared-slice-read-kind c =
-    let a = c .before .before .args in
-    let b = bounds (now (a .t)) (c .before .before .pre .0) in
-    omega (arith, b .words, b .few, (c .before .before .pre .1), (c .before .before .pre .2), b .code (a .r) (c .before .before .pre .1))
+shared-slice-read-kind c = omega (arith, room (c .before .before))
 
 add-operand : tie.Need-add-operand
-add-operand c =
-    let a = c .before .before .args in
-    let b = bounds (now (a .t)) (c .before .before .pre .0) in
-    omega (arith, b .words, b .few, (c .before .before .pre .1), (c .before .before .pre .2), b .code (a .r) (c .before .before .pre .1))
+add-operand c = omega (arith, room (c .before .before))
 
 mul-operand : tie.Need-mul-operand
-mul-operand c =
-    let a = c .before .before .args in
-    let b = bounds (now (a .t)) (c .before .before .pre .0) in
-    omega (arith, b .words, b .few, (c .before .before .pre .1), (c .before .before .pre .2), b .code (a .r) (c .before .before .pre .1))
+mul-operand c = omega (arith, room (c .before .before))
 
 shared-slice-read-operand : tie.Need-shared-slice-read-operand
-shared-slice-read-operand c =
-    let a = c .before .before .before .args in
-    let b = bounds (now (a .t)) (c .before .before .before .pre .0) in
-    omega (arith, b .words, b .few, (c .before .before .before .pre .1), (c .before .before .before .pre .2), b .code (a .r) (c .before .before .before .pre .1))
+shared-slice-read-operand c = omega (arith, room (c .before .before .before))
 
 cast-operand : tie.Need-cast-operand
-cast-operand c =
-    let a = c .before .before .before .args in
-    let g = c .before .before .shared-slice-known .given in
-    let e = 328 + 5 * word (now (a .t)) (8 + 5 * a .r + 3) + 5 * a .place in
-    omega (arith, g (e + 1), g (e + 2), g (e + 3), g (e + 4))
+cast-operand c = wide (c .before .before) _
 
 add-cells : tie.Need-add-cells
-add-cells c =
-    let a = c .before .before .before .args in
-    let b = bounds (now (a .t)) (c .before .before .before .pre .0) in
-    omega (arith, b .words, b .few, (c .before .before .before .pre .1), (c .before .before .before .pre .2), b .code (a .r) (c .before .before .before .pre .1))
+add-cells c = omega (arith, room (c .before .before .before))
 
 mul-cells : tie.Need-mul-cells
-mul-cells c =
-    let a = c .before .before .before .args in
-    let b = bounds (now (a .t)) (c .before .before .before .pre .0) in
-    omega (arith, b .words, b .few, (c .before .before .before .pre .1), (c .before .before .before .pre .2), b .code (a .r) (c .before .before .before .pre .1))
+mul-cells c = omega (arith, room (c .before .before .before))
 
 shared-slice-read-cells : tie.Need-shared-slice-read-cells
-shared-slice-read-cells c =
-    let a = c .before .before .before .before .args in
-    let b = bounds (now (a .t)) (c .before .before .before .before .pre .0) in
-    omega (arith, b .words, b .few, (c .before .before .before .before .pre .1), (c .before .before .before .before .pre .2), b .code (a .r) (c .before .before .before .before .pre .1))
+shared-slice-read-cells c = omega (arith, room (c .before .before .before .before))
 
 cast-cells : tie.Need-cast-cells
-cast-cells c =
-    let a = c .before .before .before .before .args in
-    let g = c .before .before .before .shared-slice-known .given in
-    let e = 328 + 5 * word (now (a .t)) (8 + 5 * a .r + 3) + 5 * a .place in
-    omega (arith, g (e + 1), g (e + 2), g (e + 3), g (e + 4))
+cast-cells c = wide (c .before .before .before) _
 
 add-first : tie.Need-add-first
-add-first c =
-    let a = c .before .before .before .before .args in
-    let b = bounds (now (a .t)) (c .before .before .before .before .pre .0) in
-    omega (arith, b .words, b .few, (c .before .before .before .before .pre .1), (c .before .before .before .before .pre .2), b .code (a .r) (c .before .before .before .before .pre .1))
+add-first c = omega (arith, room (c .before .before .before .before))
 
 mul-first : tie.Need-mul-first
-mul-first c =
-    let a = c .before .before .before .before .args in
-    let b = bounds (now (a .t)) (c .before .before .before .before .pre .0) in
-    omega (arith, b .words, b .few, (c .before .before .before .before .pre .1), (c .before .before .before .before .pre .2), b .code (a .r) (c .before .before .before .before .pre .1))
+mul-first c = omega (arith, room (c .before .before .before .before))
 
 shared-slice-read-first : tie.Need-shared-slice-read-first
-shared-slice-read-first c =
-    let a = c .before .before .before .before .before .args in
-    let b = bounds (now (a .t)) (c .before .before .before .before .before .pre .0) in
-    omega (arith, b .words, b .few, (c .before .before .before .before .before .pre .1), (c .before .before .before .before .before .pre .2), b .code (a .r) (c .before .before .before .before .before .pre .1))
+shared-slice-read-first c = omega (arith, room (c .before .before .before .before .before))
 
 cast-first : tie.Need-cast-first
-cast-first c =
-    let a = c .before .before .before .before .before .args in
-    let g = c .before .before .before .before .shared-slice-known .given in
-    let e = 328 + 5 * word (now (a .t)) (8 + 5 * a .r + 3) + 5 * a .place in
-    omega (arith, g (e + 1), g (e + 2), g (e + 3), g (e + 4))
+cast-first c = wide (c .before .before .before .before) _
 
 add-second : tie.Need-add-second
-add-second c =
-    let a = c .before .before .before .before .before .args in
-    let b = bounds (now (a .t)) (c .before .before .before .before .before .pre .0) in
-    omega (arith, b .words, b .few, (c .before .before .before .before .before .pre .1), (c .before .before .before .before .before .pre .2), b .code (a .r) (c .before .before .before .before .before .pre .1))
+add-second c = omega (arith, room (c .before .before .before .before .before))
 
 mul-second : tie.Need-mul-second
-mul-second c =
-    let a = c .before .before .before .before .before .args in
-    let b = bounds (now (a .t)) (c .before .before .before .before .before .pre .0) in
-    omega (arith, b .words, b .few, (c .before .before .before .before .before .pre .1), (c .before .before .before .before .before .pre .2), b .code (a .r) (c .before .before .before .before .before .pre .1))
+mul-second c = omega (arith, room (c .before .before .before .before .before))
 
 shared-slice-read-second : tie.Need-shared-slice-read-second
-shared-slice-read-second c =
-    let a = c .before .before .before .before .before .before .args in
-    let b = bounds (now (a .t)) (c .before .before .before .before .before .before .pre .0) in
-    omega (arith, b .words, b .few, (c .before .before .before .before .before .before .pre .1), (c .before .before .before .before .before .before .pre .2), b .code (a .r) (c .before .before .before .before .before .before .pre .1))
+shared-slice-read-second c = omega (arith, room (c .before .before .before .before .before .before))
 
 cast-second : tie.Need-cast-second
-cast-second c =
-    let a = c .before .before .before .before .before .before .args in
-    let g = c .before .before .before .before .before .shared-slice-known .given in
-    let e = 328 + 5 * word (now (a .t)) (8 + 5 * a .r + 3) + 5 * a .place in
-    omega (arith, g (e + 1), g (e + 2), g (e + 3), g (e + 4))
+cast-second c = wide (c .before .before .before .before .before) _
 
 returns : tie.Need-returns
 returns c =
-    let a = c .before .before .before .before .before .before .args in
-    fetched (now (a .t)) (c .before .before .before .before .before .before .pre .0) (a .r) (c .before .before .before .before .before .before .pre .1) (a .place) (c .before .before .before .before .before .before .pre .2)
+    let s = c .before .before .before .before .before .before in
+    let a = s .args in
+    fetched (now (a .t)) (s .pre .0) (a .r) (s .pre .1) (a .place) (s .pre .2)
 
 pub fetch-spec : {M : Type 1} → statement M
 fetch-spec =

@@ -1,120 +1,84 @@
 -- `table_read::opening_of` meets its contract.
 use denote.Ref.{now}
-use Prim.Native.Nat.{_+_, _*_}
+use Prim.Native.Nat.{ℕ, _+_, _*_, _≤_}
 use native.Mathlib.Omega.{arith}
+use mir.Val.{Fits}
+use mir.Syntax.{w64}
+use lib.ListN.{length}
+use Rattle.table.specs.Decode.{word}
 use Rattle.table.proofs.Bounds.{bounds}
 use Rattle.table.proofs.Reach as reach
 use Rattle.table_read.proofs.opening_of.Statement.{statement}
 use Rattle.table_read.proofs.opening_of.Tie as tie
 
+-- routine r's entry is among the words
+room : (s : tie.Start) → 8 + 5 * s .args .r + 5 ≤ length (now (s .args .t))
+room s =
+    let b = bounds (now (s .args .t)) (s .pre .0) in
+    omega (arith, b .words, b .few, s .pre .1)
+
+-- a word of the table is a usize
+wide : (c : tie.After-shared-slice-known) (j : ℕ) → Fits w64 (word (now (c .before .args .t)) j)
+wide c j = omega (arith, c .shared-slice-known .given j)
+
 mul-a : tie.Need-mul-a
-mul-a c =
-    let a = c .args in
-    let b = bounds (now (a .t)) (c .pre .0) in
-    omega (arith, b .words, b .few, (c .pre .1))
+mul-a c = omega (arith, room c)
 
 add-a : tie.Need-add-a
-add-a c =
-    let a = c .args in
-    let b = bounds (now (a .t)) (c .pre .0) in
-    omega (arith, b .words, b .few, (c .pre .1))
+add-a c = omega (arith, room c)
 
 add-arguments : tie.Need-add-arguments
-add-arguments c =
-    let a = c .args in
-    let b = bounds (now (a .t)) (c .pre .0) in
-    omega (arith, b .words, b .few, (c .pre .1))
+add-arguments c = omega (arith, room c)
 
 mul-arguments : tie.Need-mul-arguments
-mul-arguments c =
-    let a = c .args in
-    let b = bounds (now (a .t)) (c .pre .0) in
-    omega (arith, b .words, b .few, (c .pre .1))
+mul-arguments c = omega (arith, room c)
 
 shared-slice-read-arguments : tie.Need-shared-slice-read-arguments
-shared-slice-read-arguments c =
-    let a = c .before .args in
-    let b = bounds (now (a .t)) (c .before .pre .0) in
-    omega (arith, b .words, b .few, (c .before .pre .1))
+shared-slice-read-arguments c = omega (arith, room (c .before))
 
 cast-arguments : tie.Need-cast-arguments
-cast-arguments c =
-    let a = c .before .args in
-    let g = c .shared-slice-known .given in
-    omega (arith, g (8 + 5 * a .r + 0), g (8 + 5 * a .r + 2), g (8 + 5 * a .r + 4))
+cast-arguments c = wide c _
 
 add-bits : tie.Need-add-bits
-add-bits c =
-    let a = c .before .args in
-    let b = bounds (now (a .t)) (c .before .pre .0) in
-    omega (arith, b .words, b .few, (c .before .pre .1))
+add-bits c = omega (arith, room (c .before))
 
 mul-bits : tie.Need-mul-bits
-mul-bits c =
-    let a = c .before .args in
-    let b = bounds (now (a .t)) (c .before .pre .0) in
-    omega (arith, b .words, b .few, (c .before .pre .1))
+mul-bits c = omega (arith, room (c .before))
 
 shared-slice-read-bits : tie.Need-shared-slice-read-bits
-shared-slice-read-bits c =
-    let a = c .before .before .args in
-    let b = bounds (now (a .t)) (c .before .before .pre .0) in
-    omega (arith, b .words, b .few, (c .before .before .pre .1))
+shared-slice-read-bits c = omega (arith, room (c .before .before))
 
 add-locals : tie.Need-add-locals
-add-locals c =
-    let a = c .before .before .args in
-    let b = bounds (now (a .t)) (c .before .before .pre .0) in
-    omega (arith, b .words, b .few, (c .before .before .pre .1))
+add-locals c = omega (arith, room (c .before .before))
 
 mul-locals : tie.Need-mul-locals
-mul-locals c =
-    let a = c .before .before .args in
-    let b = bounds (now (a .t)) (c .before .before .pre .0) in
-    omega (arith, b .words, b .few, (c .before .before .pre .1))
+mul-locals c = omega (arith, room (c .before .before))
 
 shared-slice-read-locals : tie.Need-shared-slice-read-locals
-shared-slice-read-locals c =
-    let a = c .before .before .before .args in
-    let b = bounds (now (a .t)) (c .before .before .before .pre .0) in
-    omega (arith, b .words, b .few, (c .before .before .before .pre .1))
+shared-slice-read-locals c = omega (arith, room (c .before .before .before))
 
 cast-locals : tie.Need-cast-locals
-cast-locals c =
-    let a = c .before .before .before .args in
-    let g = c .before .before .shared-slice-known .given in
-    omega (arith, g (8 + 5 * a .r + 0), g (8 + 5 * a .r + 2), g (8 + 5 * a .r + 4))
+cast-locals c = wide (c .before .before) _
 
 add-size : tie.Need-add-size
-add-size c =
-    let a = c .before .before .before .args in
-    let b = bounds (now (a .t)) (c .before .before .before .pre .0) in
-    omega (arith, b .words, b .few, (c .before .before .before .pre .1))
+add-size c = omega (arith, room (c .before .before .before))
 
 mul-size : tie.Need-mul-size
-mul-size c =
-    let a = c .before .before .before .args in
-    let b = bounds (now (a .t)) (c .before .before .before .pre .0) in
-    omega (arith, b .words, b .few, (c .before .before .before .pre .1))
+mul-size c = omega (arith, room (c .before .before .before))
 
 shared-slice-read-size : tie.Need-shared-slice-read-size
-shared-slice-read-size c =
-    let a = c .before .before .before .before .args in
-    let b = bounds (now (a .t)) (c .before .before .before .before .pre .0) in
-    omega (arith, b .words, b .few, (c .before .before .before .before .pre .1))
+shared-slice-read-size c = omega (arith, room (c .before .before .before .before))
 
 cast-size : tie.Need-cast-size
-cast-size c =
-    let a = c .before .before .before .before .args in
-    let g = c .before .before .before .shared-slice-known .given in
-    omega (arith, g (8 + 5 * a .r + 0), g (8 + 5 * a .r + 2), g (8 + 5 * a .r + 4))
+cast-size c = wide (c .before .before .before) _
 
 returns : tie.Need-returns
 returns c =
-    let a = c .before .before .before .before .args in
+    let s = c .before .before .before .before in
+    let a = s .args in
     let w = now (a .t) in
-    let b = bounds w (c .before .before .before .before .pre .0) in
-    let l = c .before .before .before .before .pre .1 in
+    let b = bounds w (s .pre .0) in
+    let l = s .pre .1 in
     let code = b .code (a .r) l in
     record {
       kinds = reach.kinds-by-number w (a .r) l;

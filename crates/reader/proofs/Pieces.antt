@@ -65,9 +65,10 @@ pub piece-none : (s : List ℕ) (i to : ℕ) → i ≡ to → pieceAnswer (slice
 unfolding readPiece
 piece-none s i to e = rw (e, slice-empty to s)
 
-module _ (s : List ℕ) (from to : ℕ) (h : from < to) (k : to ≤ length s) where
+-- Of a text from one offset up to another, which is not empty.
+module _ (s : List ℕ) (from to : ℕ) (inside : (from ≤ to) × (to ≤ length s)) (left : from ≡ to → ⊥) where
   first : slice from to s ≡ getD s from 0 ∷ slice (from + 1) to s
-  first = simp add-one (slice-cons from to s 0 h k)
+  first = simp add-one (slice-cons from to s 0 (omega (arith, inside .0, left)) (inside .1))
 
   pub literal-minus : getD s from 0 ≡ 45 → asPiece (readLiteral (slice from to s)) ≡ negative (figureAnswer (slice (from + 1) to s))
   unfolding readLiteral
@@ -94,8 +95,8 @@ module _ (s : List ℕ) (from to : ℕ) (h : from < to) (k : to ≤ length s) wh
       go true e = rw (borrow.Author.Tests.eqb-true (from + 1) to e, slice-empty to s)
       go false e =
           let n : from + 1 ≡ to → ⊥ = borrow.Author.Tests.eqb-false (from + 1) to e in
-          let l : from + 1 < to = omega arith in
-          rw (slice-cons (from + 1) to s 0 l k)
+          let l : from + 1 < to = omega (arith, inside .0, left) in
+          rw (slice-cons (from + 1) to s 0 l (inside .1))
 
   pub piece-plus : getD s from 0 ≡ 43 → pieceAnswer (slice from to s) ≡ ifAlone (from + 1) to PV.Plus
   unfolding readPiece

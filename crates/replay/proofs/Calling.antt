@@ -8,25 +8,16 @@ use native.Mathlib.Omega.{arith}
 use lib.ListN.{length, take}
 use lib.Seq.{length-take-le}
 use Rattle.walk.specs.Calls.{inputsOf, laterWords}
-use Rattle.replay.specs.Made.{InstantMade, stepAfter}
+use Rattle.replay.specs.Made.{InstantMade}
 use Rattle.replay.specs.Phases.{FromStarting, FromToward, FromUntil}
 use Rattle.replay.specs.Phases as phases
 use Rattle.replay.specs.Advancing.{Steps}
 use Rattle.replay.specs.declared.phase.Clock.{Clock}
-use Rattle.replay.specs.declared.phase.Phase.{Phase}
-use Rattle.replay.specs.declared.phase.Phase.the-variants.{Starting, Toward, Until, Over}
+use Rattle.replay.specs.declared.phase.Phase.the-variants.{Starting, Toward, Until}
 use Rattle.replay.specs.declared.phase.Step.{Step}
 use Rattle.replay.specs.declared.calls.Made.{Made}
-use Rattle.replay.specs.declared.calls.Made.the-variants.{Ended, Went}
 use Rattle.replay.proofs.Promised.{InstantPrinted, machine-past, start-printed, instant-printed}
 use Rattle.replay.proofs.Stepping.{ends-steps, starting-steps, due-toward-steps, call-toward-steps, too-many-steps, due-until-steps, end-until-is}
-
--- The step after a call, by what was made.
-pub after-ended : (made : Made) (n : ℕ) (phase : Clock → Phase) → made ≡ Ended n → record { phase = Over; printed = n } ≡ stepAfter made phase
-after-ended made n phase e = sym (ap (λ (x : Made). stepAfter x phase) e)
-
-pub after-went : (made : Made) (clock : Clock) (n : ℕ) (phase : Clock → Phase) → made ≡ Went clock n → record { phase = phase clock; printed = n } ≡ stepAfter made phase
-after-went made clock n phase e = sym (ap (λ (x : Made). stepAfter x phase) e)
 
 module _ (listing trace table machine numbers values outNumbers outValues out machine′ outNumbers′ outValues′ out′ : List ℕ) (step : Step) where
   -- ── words past 12,288 ───────────────────────────────────────────────────────────────────────────

@@ -15,9 +15,11 @@ use Rattle.engine.specs.Answers.{dueOf}
 use Rattle.engine.specs.declared.answers.Due.{Due}
 use Rattle.engine.specs.declared.answers.Due.the-variants.{Never, At}
 use Rattle.replay.specs.declared.phase.Phase.{Phase}
-use Rattle.replay.specs.declared.phase.Phase.the-variants.{Over}
+use Rattle.replay.specs.declared.phase.Phase.the-variants.{Reading, Toward, Until, Over}
 use Rattle.replay.specs.declared.phase.Clock.{Clock}
 use Rattle.replay.specs.declared.phase.Step.{Step}
+use Rattle.replay.specs.declared.phase.Then.{Then}
+use Rattle.replay.specs.declared.phase.Then.the-variants.{Read, Call, End}
 use Rattle.replay.specs.declared.calls.Made.{Made}
 use Rattle.replay.specs.declared.calls.Made.the-variants.{Ended, Went}
 
@@ -59,6 +61,12 @@ InstantMade now t inNumbers inValues table machine numbers values =
 abbrev pub stepAfter : Made → (Clock → Phase) → Step
 stepAfter (Ended n) phase = record { phase = Over; printed = n }
 stepAfter (Went clock n) phase = record { phase = phase clock; printed = n }
+
+-- The phase that comes then, with what the call told.
+abbrev pub onward : Then → Clock → Phase
+onward (Read at) clock = Reading clock at
+onward (Call time count next) clock = Toward clock time count next
+onward (End time nothingAfter) clock = Until clock time nothingAfter
 
 -- The step that prints the `X` line.
 pub record EndsWith (before : List ℕ) (code present : ℕ) (after : List ℕ) (step : Step) : Type 0 where

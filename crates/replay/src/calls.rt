@@ -1,10 +1,13 @@
 // One engine call with what is printed of it.
 ghost use mathlib.Core.Path.{_≡_};
 ghost use Prim.Native.Nat.{suc, _≤_};
-ghost use lib.ListN.{length};
+ghost use lib.ListN.{length, take};
 ghost use Rattle.engine.specs.Answers.{dueOf, resultOf};
-ghost use Rattle.replay.specs.Made.{Soon, ResultPrinted, StartMade, InstantMade};
+ghost use Rattle.replay.specs.Made.{Soon, ResultPrinted, StartMade, InstantMade, stepAfter, onward};
 use crate::phase::Clock;
+use crate::phase::Phase;
+use crate::phase::Step;
+use crate::phase::Then;
 use engine::Answer;
 use engine::Due;
 use engine::instant;
@@ -123,21 +126,22 @@ pub fn make_start(
     print_answer(answer, 0, 0, out_numbers, out_values, out)
 }
 
-// The instant at t with these inputs, after the present moment.
+// The instant at t with so many of these inputs, after the present moment.
 pub fn make_instant(
     table: &[u32],
     machine: &mut [u32],
     present: u64,
     t: u64,
-    in_numbers: &[u32],
-    in_values: &[u32],
+    numbers: &[u32],
+    values: &[u32],
+    count: usize,
     out_numbers: &mut [u32],
     out_values: &mut [u32],
     out: &mut [u8],
 ) -> Made
-    requires { ⌜ (12288 ≤ length (now table)) × (12288 ≤ length (now machine)) × (length (now «in_numbers») ≡ length (now «in_values»))
+    requires { ⌜ (12288 ≤ length (now table)) × (12288 ≤ length (now machine)) × (count ≤ length (now numbers)) × (count ≤ length (now values))
         × (length (now «out_numbers») ≡ 16) × (length (now «out_values») ≡ 16) × (1100 ≤ length (now out)) ⌝ }
-    ensures { λ r. ⌜ InstantMade present t (now («in_numbers» .entry)) (now («in_values» .entry))
+    ensures { λ r. ⌜ InstantMade present t (take count (now (numbers .entry))) (take count (now (values .entry)))
         (now (table .entry)) (now (machine .entry)) (now («out_numbers» .entry)) (now («out_values» .entry)) (now (out .entry))
         (now (machine .exit)) (now («out_numbers» .exit)) (now («out_values» .exit)) (now (out .exit)) r ⌝ }
 {
@@ -145,11 +149,37 @@ pub fn make_instant(
         table,
         machine,
         t,
-        in_numbers,
-        in_values,
+        &numbers[..count],
+        &values[..count],
         out_numbers,
         out_values,
         ALLOWANCE,
     );
     print_answer(answer, present, t, out_numbers, out_values, out)
+}
+
+fn go_on(then: Then, clock: Clock) -> Phase
+    ensures { λ r. ⌜ r ≡ onward then clock ⌝ }
+{
+    match then {
+        Then::Read(at) => Phase::Reading(clock, at),
+        Then::Call(time, count, next) => Phase::Toward(clock, time, count, next),
+        Then::End(time, nothing_after) => Phase::Until(clock, time, nothing_after),
+    }
+}
+
+// The step after a call: "the first refusal or stop ends it", or the session goes on with what the call told.
+pub fn step_after(made: Made, then: Then) -> Step
+    ensures { λ r. ⌜ r ≡ stepAfter made (onward then) ⌝ }
+{
+    match made {
+        Made::Ended(printed) => Step {
+            phase: Phase::Over,
+            printed,
+        },
+        Made::Went(clock, printed) => {
+            let phase = go_on(then, clock);
+            Step { phase, printed }
+        }
+    }
 }

@@ -4,11 +4,12 @@ ghost use Prim.Native.Nat.{_≤_};
 ghost use lib.ListN.{length};
 ghost use Rattle.replay.specs.Made.{EndsWith};
 ghost use Rattle.replay.specs.Phases.{FromOpening, FromStarting, FromReading};
-use crate::calls::Made;
 use crate::calls::make_start;
+use crate::calls::step_after;
 use crate::phase::Clock;
 use crate::phase::Phase;
 use crate::phase::Step;
+use crate::phase::Then;
 use load::load;
 use loader::Loaded;
 use printing::put_end_line;
@@ -64,16 +65,7 @@ pub fn from_starting(
         (now (machine .exit)) (now («out_numbers» .exit)) (now («out_values» .exit)) (now (out .exit)) r ⌝ }
 {
     let made = make_start(table, machine, out_numbers, out_values, out);
-    match made {
-        Made::Ended(printed) => Step {
-            phase: Phase::Over,
-            printed,
-        },
-        Made::Went(clock, printed) => Step {
-            phase: Phase::Reading(clock, 0),
-            printed,
-        },
-    }
+    step_after(made, Then::Read(0))
 }
 
 // The trace is read from an offset on: the next call, the last line, or "A line out of form when it is reached".

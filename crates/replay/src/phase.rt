@@ -22,6 +22,16 @@ pub enum Phase {
     Over,
 }
 
+// What a session does after a call, once the clock is told.
+pub enum Then {
+    // the trace is to be played from this offset on
+    Read(usize),
+    // a call with so many of the lent inputs is to be made at this time
+    Call(u64, usize, usize),
+    // the end is to come after this time
+    End(u64, bool),
+}
+
 // A step: the next phase, and how many bytes were printed.
 pub struct Step {
     pub phase: Phase,

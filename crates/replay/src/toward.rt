@@ -6,67 +6,17 @@ ghost use lib.ListN.{length};
 ghost use Rattle.listing.specs.Listing.{Listing};
 ghost use Rattle.words.specs.Moments.{momentRange};
 ghost use Rattle.walk.specs.Session.{endCode};
-ghost use Rattle.engine.specs.Answers.{dueOf};
-ghost use Rattle.replay.specs.Made.{Soon};
 ghost use Rattle.replay.specs.Phases.{FromToward, FromUntil};
-use crate::calls::Made;
 use crate::calls::due_before;
 use crate::calls::due_until;
 use crate::calls::make_instant;
+use crate::calls::step_after;
 use crate::from_phase::end_with;
 use crate::phase::Clock;
 use crate::phase::Phase;
 use crate::phase::Step;
+use crate::phase::Then;
 use engine::Due;
-
-// The call with the lent inputs, nothing being due before it.
-fn join_inputs(
-    table: &[u32],
-    machine: &mut [u32],
-    numbers: &[u32],
-    values: &[u32],
-    out_numbers: &mut [u32],
-    out_values: &mut [u32],
-    out: &mut [u8],
-    clock: Clock,
-    time: u64,
-    count: usize,
-    next: usize,
-) -> Step
-    requires { ⌜ (12288 ≤ length (now table)) × (12288 ≤ length (now machine)) × (17 ≤ length (now numbers)) × (17 ≤ length (now values))
-        × (length (now «out_numbers») ≡ 16) × (length (now «out_values») ≡ 16) × (1100 ≤ length (now out)) × (Soon (dueOf (clock .due)) time Due.Never) ⌝ }
-    ensures { λ r. ⌜ FromToward (now (table .entry)) (now (machine .entry)) (now (numbers .entry)) (now (values .entry)) (now («out_numbers» .entry)) (now («out_values» .entry)) (now (out .entry))
-        clock time count next (now (machine .exit)) (now («out_numbers» .exit)) (now («out_values» .exit)) (now (out .exit)) r ⌝ }
-{
-    if count > 17 {
-        return Step {
-            phase: Phase::Over,
-            printed: 0,
-        };
-    }
-    let present = clock.now;
-    let made = make_instant(
-        table,
-        machine,
-        present,
-        time,
-        &numbers[..count],
-        &values[..count],
-        out_numbers,
-        out_values,
-        out,
-    );
-    match made {
-        Made::Ended(printed) => Step {
-            phase: Phase::Over,
-            printed,
-        },
-        Made::Went(c, printed) => Step {
-            phase: Phase::Reading(c, next),
-            printed,
-        },
-    }
-}
 
 // A due instant before the call, or the call.
 pub fn from_toward(
@@ -91,41 +41,39 @@ pub fn from_toward(
     let due = clock.due;
     let soon = due_before(due, time);
     let Due::At(m) = soon else {
-        return join_inputs(
+        if count > 17 {
+            return Step {
+                phase: Phase::Over,
+                printed: 0,
+            };
+        }
+        let made = make_instant(
             table,
             machine,
+            present,
+            time,
             numbers,
             values,
+            count,
             out_numbers,
             out_values,
             out,
-            clock,
-            time,
-            count,
-            next,
         );
+        return step_after(made, Then::Read(next));
     };
     let made = make_instant(
         table,
         machine,
         present,
         m,
-        &numbers[..0],
-        &values[..0],
+        numbers,
+        values,
+        0,
         out_numbers,
         out_values,
         out,
     );
-    match made {
-        Made::Ended(printed) => Step {
-            phase: Phase::Over,
-            printed,
-        },
-        Made::Went(c, printed) => Step {
-            phase: Phase::Toward(c, time, count, next),
-            printed,
-        },
-    }
+    step_after(made, Then::Call(time, count, next))
 }
 
 // "A line out of form when it is reached, one after `Q` .. has code 2"
@@ -168,20 +116,12 @@ pub fn from_until(
         machine,
         present,
         m,
-        &numbers[..0],
-        &values[..0],
+        numbers,
+        values,
+        0,
         out_numbers,
         out_values,
         out,
     );
-    match made {
-        Made::Ended(printed) => Step {
-            phase: Phase::Over,
-            printed,
-        },
-        Made::Went(c, printed) => Step {
-            phase: Phase::Until(c, time, nothing_after),
-            printed,
-        },
-    }
+    step_after(made, Then::End(time, nothing_after))
 }

@@ -1,3 +1,4 @@
+-- `explain::sentences::sentence` meets its contract.
 use mathlib.Core.Path.{refl}
 use Rattle.listing.specs.Bytes.{bytesOf}
 use Rattle.explain.specs.Sentences.{sentences}

@@ -31,21 +31,11 @@ enum-told c = search needs
 
 returns-2 : tie.Need-returns-2
 returns-2 c =
-    let a = c .before .before .before .before .before .before .before .args in
-    let s = now (a .s) in
-    let nf : a .from ≡ a .to → ⊥ = c .before .before .before .before .before .if1 .left in
-    let h : a .from < a .to = omega (arith, c .before .before .before .before .before .before .before .pre .0) in
-    let k : a .to ≤ length s = c .before .before .before .before .before .before .before .pre .1 in
-    sym (pieces.literal-minus s (a .from) (a .to) h k (c .before .before .before .if2 .taken) ∙ rw (← c .before .before .figure-of .ensures, c .enum-told .given .1))
+    sym (pieces.literal-minus _ _ _ (c .before .before .before .before .before .before .before .pre) (c .before .before .before .before .before .if1 .left) (c .before .before .before .if2 .taken) ∙ rw (← c .before .before .figure-of .ensures, c .enum-told .given .1))
 
 returns-3 : tie.Need-returns-3
 returns-3 c =
-    let a = c .before .before .before .before .before .before .before .before .before .args in
-    let s = now (a .s) in
-    let nf : a .from ≡ a .to → ⊥ = c .before .before .before .before .before .before .before .if1 .left in
-    let h : a .from < a .to = omega (arith, c .before .before .before .before .before .before .before .before .before .pre .0) in
-    let k : a .to ≤ length s = c .before .before .before .before .before .before .before .before .before .pre .1 in
-    sym (pieces.literal-minus s (a .from) (a .to) h k (c .before .before .before .before .before .if2 .taken) ∙ rw (← c .before .before .before .before .figure-of .ensures, c .before .before .n .given .1, lt-leb 1 _ (c .if3 .taken)))
+    sym (pieces.literal-minus _ _ _ (c .before .before .before .before .before .before .before .before .before .pre) (c .before .before .before .before .before .before .before .if1 .left) (c .before .before .before .before .before .if2 .taken) ∙ rw (← c .before .before .before .before .figure-of .ensures, c .before .before .n .given .1, lt-leb 1 _ (c .if3 .taken)))
 
 sub-t12 : tie.Need-sub-t12
 sub-t12 c = search needs
@@ -55,21 +45,11 @@ cast-t13 c = search needs
 
 returns-4 : tie.Need-returns-4
 returns-4 c =
-    let a = c .before .before .before .before .before .before .before .before .before .before .args in
-    let s = now (a .s) in
-    let nf : a .from ≡ a .to → ⊥ = c .before .before .before .before .before .before .before .before .if1 .left in
-    let h : a .from < a .to = omega (arith, c .before .before .before .before .before .before .before .before .before .before .pre .0) in
-    let k : a .to ≤ length s = c .before .before .before .before .before .before .before .before .before .before .pre .1 in
-    sym (pieces.literal-minus s (a .from) (a .to) h k (c .before .before .before .before .before .before .if2 .taken) ∙ rw (← c .before .before .before .before .before .figure-of .ensures, c .before .before .before .n .given .1, le-leb 1 _ (c .before .if3 .left), le-leb _ 2147483648 (c .if4 .taken)))
+    sym (pieces.literal-minus _ _ _ (c .before .before .before .before .before .before .before .before .before .before .pre) (c .before .before .before .before .before .before .before .before .if1 .left) (c .before .before .before .before .before .before .if2 .taken) ∙ rw (← c .before .before .before .before .before .figure-of .ensures, c .before .before .before .n .given .1, le-leb 1 _ (c .before .if3 .left), le-leb _ 2147483648 (c .if4 .taken)))
 
 returns-5 : tie.Need-returns-5
 returns-5 c =
-    let a = c .before .before .before .before .before .before .before .before .before .before .args in
-    let s = now (a .s) in
-    let nf : a .from ≡ a .to → ⊥ = c .before .before .before .before .before .before .before .before .if1 .left in
-    let h : a .from < a .to = omega (arith, c .before .before .before .before .before .before .before .before .before .before .pre .0) in
-    let k : a .to ≤ length s = c .before .before .before .before .before .before .before .before .before .before .pre .1 in
-    sym (pieces.literal-minus s (a .from) (a .to) h k (c .before .before .before .before .before .before .if2 .taken) ∙ rw (← c .before .before .before .before .before .figure-of .ensures, c .before .before .before .n .given .1, le-leb 1 _ (c .before .if3 .left), lt-leb _ 2147483648 (c .if4 .left)))
+    sym (pieces.literal-minus _ _ _ (c .before .before .before .before .before .before .before .before .before .before .pre) (c .before .before .before .before .before .before .before .before .if1 .left) (c .before .before .before .before .before .before .if2 .taken) ∙ rw (← c .before .before .before .before .before .figure-of .ensures, c .before .before .before .n .given .1, le-leb 1 _ (c .before .if3 .left), lt-leb _ 2147483648 (c .if4 .left)))
 
 figure-of-requires-2 : tie.Need-figure-of-requires-2
 figure-of-requires-2 c κs = search needs
@@ -82,33 +62,18 @@ enum-told-2 c = search needs
 
 returns-6 : tie.Need-returns-6
 returns-6 c =
-    let a = c .before .before .before .before .before .before .before .args in
-    let s = now (a .s) in
-    let nf : a .from ≡ a .to → ⊥ = c .before .before .before .before .before .if1 .left in
-    let h : a .from < a .to = omega (arith, c .before .before .before .before .before .before .before .pre .0) in
-    let k : a .to ≤ length s = c .before .before .before .before .before .before .before .pre .1 in
-    sym (pieces.literal-plain s (a .from) (a .to) h k (c .before .before .before .if2 .left) ∙ rw (← c .before .before .figure-of2 .ensures, c .enum-told2 .given .1))
+    sym (pieces.literal-plain _ _ _ (c .before .before .before .before .before .before .before .pre) (c .before .before .before .before .before .if1 .left) (c .before .before .before .if2 .left) ∙ rw (← c .before .before .figure-of2 .ensures, c .enum-told2 .given .1))
 
 cast-t15 : tie.Need-cast-t15
 cast-t15 c = search needs
 
 returns-7 : tie.Need-returns-7
 returns-7 c =
-    let a = c .before .before .before .before .before .before .before .before .before .args in
-    let s = now (a .s) in
-    let nf : a .from ≡ a .to → ⊥ = c .before .before .before .before .before .before .before .if1 .left in
-    let h : a .from < a .to = omega (arith, c .before .before .before .before .before .before .before .before .before .pre .0) in
-    let k : a .to ≤ length s = c .before .before .before .before .before .before .before .before .before .pre .1 in
-    sym (pieces.literal-plain s (a .from) (a .to) h k (c .before .before .before .before .before .if2 .left) ∙ rw (← c .before .before .before .before .figure-of2 .ensures, c .before .before .m .given .1, lt-ltb _ 2147483648 (c .if5 .taken)))
+    sym (pieces.literal-plain _ _ _ (c .before .before .before .before .before .before .before .before .before .pre) (c .before .before .before .before .before .before .before .if1 .left) (c .before .before .before .before .before .if2 .left) ∙ rw (← c .before .before .before .before .figure-of2 .ensures, c .before .before .m .given .1, lt-ltb _ 2147483648 (c .if5 .taken)))
 
 returns-8 : tie.Need-returns-8
 returns-8 c =
-    let a = c .before .before .before .before .before .before .before .before .before .args in
-    let s = now (a .s) in
-    let nf : a .from ≡ a .to → ⊥ = c .before .before .before .before .before .before .before .if1 .left in
-    let h : a .from < a .to = omega (arith, c .before .before .before .before .before .before .before .before .before .pre .0) in
-    let k : a .to ≤ length s = c .before .before .before .before .before .before .before .before .before .pre .1 in
-    sym (pieces.literal-plain s (a .from) (a .to) h k (c .before .before .before .before .before .if2 .left) ∙ rw (← c .before .before .before .before .figure-of2 .ensures, c .before .before .m .given .1, le-ltb _ 2147483648 (c .if5 .left)))
+    sym (pieces.literal-plain _ _ _ (c .before .before .before .before .before .before .before .before .before .pre) (c .before .before .before .before .before .before .before .if1 .left) (c .before .before .before .before .before .if2 .left) ∙ rw (← c .before .before .before .before .figure-of2 .ensures, c .before .before .m .given .1, le-ltb _ 2147483648 (c .if5 .left)))
 
 pub literal-of-spec : {M : Type 1} → statement M
 literal-of-spec =

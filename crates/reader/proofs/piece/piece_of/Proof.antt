@@ -36,12 +36,7 @@ enum-told c = search needs
 
 returns-2 : tie.Need-returns-2
 returns-2 c =
-    let a = c .before .before .before .before .before .before .before .args in
-    let s = now (a .s) in
-    let nf : a .from ≡ a .to → ⊥ = c .before .before .before .before .before .if1 .left in
-    let h : a .from < a .to = omega (arith, c .before .before .before .before .before .before .before .pre .0) in
-    let k : a .to ≤ length s = c .before .before .before .before .before .before .before .pre .1 in
-    sym (pieces.piece-mark s (a .from) (a .to) h k (c .before .before .before .match .keys2) ∙ rw (← c .before .before .figure-of .ensures, c .enum-told .given .1))
+    sym (pieces.piece-mark _ _ _ (c .before .before .before .before .before .before .before .pre) (c .before .before .before .before .before .if1 .left) (c .before .before .before .match .keys2) ∙ rw (← c .before .before .figure-of .ensures, c .enum-told .given .1))
 
 add-if-alone : tie.Need-add-if-alone
 add-if-alone c = search needs
@@ -78,77 +73,37 @@ enum-told-2 c = search needs
 
 returns-3 : tie.Need-returns-3
 returns-3 c =
-    let a = c .before .before .before .before .before .before .before .args in
-    let s = now (a .s) in
-    let nf : a .from ≡ a .to → ⊥ = c .before .before .before .before .before .if1 .left in
-    let h : a .from < a .to = omega (arith, c .before .before .before .before .before .before .before .pre .0) in
-    let k : a .to ≤ length s = c .before .before .before .before .before .before .before .pre .1 in
     let r = c .before .before .before .match .rest in
-    sym (pieces.piece-value s (a .from) (a .to) h k (r .0 .0 .0 .0 .0 .1) (r .0 .0 .0 .0 .1) (r .0 .0 .0 .1) (r .0 .0 .1) (r .0 .1) (r .1) ∙ rw (← c .before .before .figure-of2 .ensures, c .enum-told2 .given .1))
+    sym (pieces.piece-value _ _ _ (c .before .before .before .before .before .before .before .pre) (c .before .before .before .before .before .if1 .left) (r .0 .0 .0 .0 .0 .1) (r .0 .0 .0 .0 .1) (r .0 .0 .0 .1) (r .0 .0 .1) (r .0 .1) (r .1) ∙ rw (← c .before .before .figure-of2 .ensures, c .enum-told2 .given .1))
 
 returns-4 : tie.Need-returns-4
 returns-4 c =
-    let a = c .before .before .before .before .before .args in
-    let s = now (a .s) in
-    let nf : a .from ≡ a .to → ⊥ = c .before .before .before .if1 .left in
-    let h : a .from < a .to = omega (arith, c .before .before .before .before .before .pre .0) in
-    let k : a .to ≤ length s = c .before .before .before .before .before .pre .1 in
-    c .literal-of .ensures ∙ sym (pieces.piece-literal s (a .from) (a .to) h k (c .before .match .keys1))
+    c .literal-of .ensures ∙ sym (pieces.piece-literal _ _ _ (c .before .before .before .before .before .pre) (c .before .before .before .if1 .left) (c .before .match .keys1))
 
 returns-5 : tie.Need-returns-5
 returns-5 c =
-    let a = c .before .before .before .before .before .before .before .before .args in
-    let s = now (a .s) in
-    let nf : a .from ≡ a .to → ⊥ = c .before .before .before .before .before .before .if1 .left in
-    let h : a .from < a .to = omega (arith, c .before .before .before .before .before .before .before .before .pre .0) in
-    let k : a .to ≤ length s = c .before .before .before .before .before .before .before .before .pre .1 in
-    sym (pieces.piece-mark s (a .from) (a .to) h k (c .before .before .before .before .match .keys2) ∙ rw (← c .before .before .before .figure-of .ensures, c .before .n .given .1))
+    sym (pieces.piece-mark _ _ _ (c .before .before .before .before .before .before .before .before .pre) (c .before .before .before .before .before .before .if1 .left) (c .before .before .before .before .match .keys2) ∙ rw (← c .before .before .before .figure-of .ensures, c .before .n .given .1))
 
 returns-6 : tie.Need-returns-6
 returns-6 c =
-    let a = c .before .before .before .before .before .args in
-    let s = now (a .s) in
-    let nf : a .from ≡ a .to → ⊥ = c .before .before .before .if1 .left in
-    let h : a .from < a .to = omega (arith, c .before .before .before .before .before .pre .0) in
-    let k : a .to ≤ length s = c .before .before .before .before .before .pre .1 in
-    c .if-alone .ensures ∙ sym (pieces.piece-plus s (a .from) (a .to) h k (c .before .match .keys3))
+    c .if-alone .ensures ∙ sym (pieces.piece-plus _ _ _ (c .before .before .before .before .before .pre) (c .before .before .before .if1 .left) (c .before .match .keys3))
 
 returns-7 : tie.Need-returns-7
 returns-7 c =
-    let a = c .before .before .before .before .before .args in
-    let s = now (a .s) in
-    let nf : a .from ≡ a .to → ⊥ = c .before .before .before .if1 .left in
-    let h : a .from < a .to = omega (arith, c .before .before .before .before .before .pre .0) in
-    let k : a .to ≤ length s = c .before .before .before .before .before .pre .1 in
-    c .if-alone2 .ensures ∙ sym (pieces.piece-minus s (a .from) (a .to) h k (c .before .match .keys4))
+    c .if-alone2 .ensures ∙ sym (pieces.piece-minus _ _ _ (c .before .before .before .before .before .pre) (c .before .before .before .if1 .left) (c .before .match .keys4))
 
 returns-8 : tie.Need-returns-8
 returns-8 c =
-    let a = c .before .before .before .before .before .args in
-    let s = now (a .s) in
-    let nf : a .from ≡ a .to → ⊥ = c .before .before .before .if1 .left in
-    let h : a .from < a .to = omega (arith, c .before .before .before .before .before .pre .0) in
-    let k : a .to ≤ length s = c .before .before .before .before .before .pre .1 in
-    c .if-alone3 .ensures ∙ sym (pieces.piece-times s (a .from) (a .to) h k (c .before .match .keys5))
+    c .if-alone3 .ensures ∙ sym (pieces.piece-times _ _ _ (c .before .before .before .before .before .pre) (c .before .before .before .if1 .left) (c .before .match .keys5))
 
 returns-9 : tie.Need-returns-9
 returns-9 c =
-    let a = c .before .before .before .before .before .args in
-    let s = now (a .s) in
-    let nf : a .from ≡ a .to → ⊥ = c .before .before .before .if1 .left in
-    let h : a .from < a .to = omega (arith, c .before .before .before .before .before .pre .0) in
-    let k : a .to ≤ length s = c .before .before .before .before .before .pre .1 in
-    c .if-alone4 .ensures ∙ sym (pieces.piece-less s (a .from) (a .to) h k (c .before .match .keys6))
+    c .if-alone4 .ensures ∙ sym (pieces.piece-less _ _ _ (c .before .before .before .before .before .pre) (c .before .before .before .if1 .left) (c .before .match .keys6))
 
 returns-10 : tie.Need-returns-10
 returns-10 c =
-    let a = c .before .before .before .before .before .before .before .before .args in
-    let s = now (a .s) in
-    let nf : a .from ≡ a .to → ⊥ = c .before .before .before .before .before .before .if1 .left in
-    let h : a .from < a .to = omega (arith, c .before .before .before .before .before .before .before .before .pre .0) in
-    let k : a .to ≤ length s = c .before .before .before .before .before .before .before .before .pre .1 in
     let r = c .before .before .before .before .match .rest in
-    sym (pieces.piece-value s (a .from) (a .to) h k (r .0 .0 .0 .0 .0 .1) (r .0 .0 .0 .0 .1) (r .0 .0 .0 .1) (r .0 .0 .1) (r .0 .1) (r .1) ∙ rw (← c .before .before .before .figure-of2 .ensures, c .before .n2 .given .1))
+    sym (pieces.piece-value _ _ _ (c .before .before .before .before .before .before .before .before .pre) (c .before .before .before .before .before .before .if1 .left) (r .0 .0 .0 .0 .0 .1) (r .0 .0 .0 .0 .1) (r .0 .0 .0 .1) (r .0 .0 .1) (r .0 .1) (r .1) ∙ rw (← c .before .before .before .figure-of2 .ensures, c .before .n2 .given .1))
 
 pub piece-of-spec : {M : Type 1} → statement M
 piece-of-spec =

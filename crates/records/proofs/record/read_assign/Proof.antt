@@ -24,14 +24,12 @@ returns : tie.Need-returns
 returns c =
     let a = c .before .before .before .before .args in
     let s = now (a .s) in
-    let small : a .scope .names ≤ cap = omega (arith, c .before .before .before .before .good) in
     λ routines. chain.rest-bad routines (a .scope) _ _ _ (chain.number-none s (a .place) (a .stop) (c .before .before .before .before .pre) (sym (c .enum-told .given .1) ∙ c .before .before .number-field .ensures) _)
 
 expression-field-requires : tie.Need-expression-field-requires
 expression-field-requires c κs =
     let a = c .before .before .before .before .before .args in
     let s = now (a .s) in
-    let small : a .scope .names ≤ cap = omega (arith, c .before .before .before .before .before .good) in
     let g1 = chain.number-got s (a .place) (a .stop) (c .before .before .before .before .before .pre) _ _ _ (sym (c .before .n .given .1) ∙ c .before .before .before .number-field .ensures) in
     g1 .1 .within
 
@@ -45,7 +43,6 @@ returns-2 : tie.Need-returns-2
 returns-2 c =
     let a = c .before .before .before .before .before .before .before .before .args in
     let s = now (a .s) in
-    let small : a .scope .names ≤ cap = omega (arith, c .before .before .before .before .before .before .before .before .good) in
     let g1 = chain.number-got s (a .place) (a .stop) (c .before .before .before .before .before .before .before .before .pre) _ _ _ (sym (c .before .before .before .before .n .given .1) ∙ c .before .before .before .before .before .before .number-field .ensures) in
     λ routines. chain.rest-bad routines (a .scope) _ _ _ (g1 .1 .on _ ∙ chain.expression-none s _ _ (g1 .1 .within) (a .scope .names) (sym (c .enum-told2 .given .1) ∙ c .before .before .expression-field .ensures) _)
 
@@ -53,7 +50,6 @@ returns-3 : tie.Need-returns-3
 returns-3 c =
     let a = c .before .before .before .before .before .before .before .before .before .before .args in
     let s = now (a .s) in
-    let small : a .scope .names ≤ cap = omega (arith, c .before .before .before .before .before .before .before .before .before .before .good) in
     let g1 = chain.number-got s (a .place) (a .stop) (c .before .before .before .before .before .before .before .before .before .before .pre) _ _ _ (sym (c .before .before .before .before .before .before .n .given .1) ∙ c .before .before .before .before .before .before .before .before .number-field .ensures) in
     let g2 = chain.expression-got s _ _ (g1 .1 .within) (a .scope .names) _ _ _ _ (sym (c .before .before .k .given .1) ∙ c .before .before .before .before .expression-field .ensures) in
     λ routines. chain.rest-bad routines (a .scope) _ _ _ (g1 .1 .on _ ∙ g2 .1 .on _ ∙ chain.end-open s (c .before .before .k .given .0 .1 .1 .1 .0 .offset) _ (L.Line.instruction (L.Instruction.assign (g1 .0) (g2 .0))) (c .if1 .taken))

@@ -24,14 +24,12 @@ returns : tie.Need-returns
 returns c =
     let a = c .before .before .before .before .args in
     let s = now (a .s) in
-    let small : a .scope .names ≤ cap = omega (arith, c .before .before .before .before .good) in
     λ routines. chain.rest-bad routines (a .scope) _ _ _ (chain.expression-none s (a .place) (a .stop) (c .before .before .before .before .pre) (a .scope .names) (sym (c .enum-told .given .1) ∙ c .before .before .expression-field .ensures) _)
 
 number-field-requires : tie.Need-number-field-requires
 number-field-requires c κs =
     let a = c .before .before .before .before .before .args in
     let s = now (a .s) in
-    let small : a .scope .names ≤ cap = omega (arith, c .before .before .before .before .before .good) in
     let g1 = chain.expression-got s (a .place) (a .stop) (c .before .before .before .before .before .pre) (a .scope .names) _ _ _ _ (sym (c .before .k .given .1) ∙ c .before .before .before .expression-field .ensures) in
     g1 .1 .within
 
@@ -45,7 +43,6 @@ returns-2 : tie.Need-returns-2
 returns-2 c =
     let a = c .before .before .before .before .before .before .before .before .args in
     let s = now (a .s) in
-    let small : a .scope .names ≤ cap = omega (arith, c .before .before .before .before .before .before .before .before .good) in
     let g1 = chain.expression-got s (a .place) (a .stop) (c .before .before .before .before .before .before .before .before .pre) (a .scope .names) _ _ _ _ (sym (c .before .before .before .before .k .given .1) ∙ c .before .before .before .before .before .before .expression-field .ensures) in
     λ routines. chain.rest-bad routines (a .scope) _ _ _ (g1 .1 .on _ ∙ chain.number-none s _ _ (g1 .1 .within) (sym (c .enum-told2 .given .1) ∙ c .before .before .number-field .ensures) _)
 
@@ -53,7 +50,6 @@ returns-3 : tie.Need-returns-3
 returns-3 c =
     let a = c .before .before .before .before .before .before .before .before .before .before .args in
     let s = now (a .s) in
-    let small : a .scope .names ≤ cap = omega (arith, c .before .before .before .before .before .before .before .before .before .before .good) in
     let g1 = chain.expression-got s (a .place) (a .stop) (c .before .before .before .before .before .before .before .before .before .before .pre) (a .scope .names) _ _ _ _ (sym (c .before .before .before .before .before .before .k .given .1) ∙ c .before .before .before .before .before .before .before .before .expression-field .ensures) in
     let g2 = chain.number-got s _ _ (g1 .1 .within) _ _ _ (sym (c .before .before .j .given .1) ∙ c .before .before .before .before .number-field .ensures) in
     λ routines. chain.rest-bad routines (a .scope) _ _ _ (g1 .1 .on _ ∙ g2 .1 .on _ ∙ chain.end-open s (c .before .before .j .given .0 .1 .1 .0 .offset) _ (L.Line.instruction (L.Instruction.branch (g1 .0) (g2 .0))) (c .if1 .taken))

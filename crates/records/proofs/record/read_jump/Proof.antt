@@ -24,14 +24,12 @@ returns : tie.Need-returns
 returns c =
     let a = c .before .before .before .before .args in
     let s = now (a .s) in
-    let small : a .scope .names ≤ cap = omega (arith, c .before .before .before .before .good) in
     λ routines. chain.rest-bad routines (a .scope) _ _ _ (chain.number-none s (a .place) (a .stop) (c .before .before .before .before .pre) (sym (c .enum-told .given .1) ∙ c .before .before .number-field .ensures) _)
 
 returns-2 : tie.Need-returns-2
 returns-2 c =
     let a = c .before .before .before .before .before .before .args in
     let s = now (a .s) in
-    let small : a .scope .names ≤ cap = omega (arith, c .before .before .before .before .before .before .good) in
     let g1 = chain.number-got s (a .place) (a .stop) (c .before .before .before .before .before .before .pre) _ _ _ (sym (c .before .before .j .given .1) ∙ c .before .before .before .before .number-field .ensures) in
     λ routines. chain.rest-bad routines (a .scope) _ _ _ (g1 .1 .on _ ∙ chain.end-open s (c .before .before .j .given .0 .1 .1 .0 .offset) _ (L.Line.instruction (L.Instruction.jump (g1 .0))) (c .if1 .taken))
 

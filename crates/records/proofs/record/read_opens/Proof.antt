@@ -1,10 +1,7 @@
 -- `records::read_opens` meets its contract.
 use denote.Ref.{now}
 use mathlib.Core.Path.{sym, _∙_}
-use Prim.Native.Nat.{_≤_}
-use native.Mathlib.Omega.{arith}
 use Rattle.listing.specs.Listing as L
-use Rattle.reader.specs.Answers.{cap}
 use Rattle.records.proofs.Chain as chain
 use Rattle.records.proofs.Summaries as summaries
 use borrow.Author.Needs.{needs}
@@ -24,14 +21,12 @@ returns : tie.Need-returns
 returns c =
     let a = c .before .before .before .before .args in
     let s = now (a .s) in
-    let small : a .scope .names ≤ cap = omega (arith, c .before .before .before .before .good) in
     λ routines. chain.rest-bad routines (a .scope) _ _ _ (chain.kinds-none s (a .place) (a .stop) (c .before .before .before .before .pre) (sym (c .enum-told .given .1) ∙ c .before .before .kinds-field .ensures) _)
 
 number-field-requires : tie.Need-number-field-requires
 number-field-requires c κs =
     let a = c .before .before .before .before .before .args in
     let s = now (a .s) in
-    let small : a .scope .names ≤ cap = omega (arith, c .before .before .before .before .before .good) in
     let g1 = chain.kinds-got s (a .place) (a .stop) (c .before .before .before .before .before .pre) _ _ _ _ (sym (c .before .n .given .1) ∙ c .before .before .before .kinds-field .ensures) in
     g1 .1 .within
 
@@ -45,7 +40,6 @@ returns-2 : tie.Need-returns-2
 returns-2 c =
     let a = c .before .before .before .before .before .before .before .before .args in
     let s = now (a .s) in
-    let small : a .scope .names ≤ cap = omega (arith, c .before .before .before .before .before .before .before .before .good) in
     let g1 = chain.kinds-got s (a .place) (a .stop) (c .before .before .before .before .before .before .before .before .pre) _ _ _ _ (sym (c .before .before .before .before .n .given .1) ∙ c .before .before .before .before .before .before .kinds-field .ensures) in
     λ routines. chain.rest-bad routines (a .scope) _ _ _ (g1 .1 .on _ ∙ chain.number-none s _ _ (g1 .1 .within) (sym (c .enum-told2 .given .1) ∙ c .before .before .number-field .ensures) _)
 
@@ -53,7 +47,6 @@ returns-3 : tie.Need-returns-3
 returns-3 c =
     let a = c .before .before .before .before .before .before .before .before .before .before .args in
     let s = now (a .s) in
-    let small : a .scope .names ≤ cap = omega (arith, c .before .before .before .before .before .before .before .before .before .before .good) in
     let g1 = chain.kinds-got s (a .place) (a .stop) (c .before .before .before .before .before .before .before .before .before .before .pre) _ _ _ _ (sym (c .before .before .before .before .before .before .n .given .1) ∙ c .before .before .before .before .before .before .before .before .kinds-field .ensures) in
     let g2 = chain.number-got s _ _ (g1 .1 .within) _ _ _ (sym (c .before .before .locals .given .1) ∙ c .before .before .before .before .number-field .ensures) in
     λ routines. chain.rest-bad routines (a .scope) _ _ _ (g1 .1 .on _ ∙ g2 .1 .on _ ∙ chain.end-open s (c .before .before .locals .given .0 .1 .1 .0 .offset) _ (L.Line.opens (g1 .0) (g2 .0)) (c .if1 .taken))
@@ -62,7 +55,6 @@ returns-4 : tie.Need-returns-4
 returns-4 c =
     let a = c .before .before .before .before .before .before .before .before .before .before .args in
     let s = now (a .s) in
-    let small : a .scope .names ≤ cap = omega (arith, c .before .before .before .before .before .before .before .before .before .before .good) in
     let g1 = chain.kinds-got s (a .place) (a .stop) (c .before .before .before .before .before .before .before .before .before .before .pre) _ _ _ _ (sym (c .before .before .before .before .before .before .n .given .1) ∙ c .before .before .before .before .before .before .before .before .kinds-field .ensures) in
     let g2 = chain.number-got s _ _ (g1 .1 .within) _ _ _ (sym (c .before .before .locals .given .1) ∙ c .before .before .before .before .number-field .ensures) in
     λ routines. chain.rest-is routines (a .scope) s (a .place) (a .stop) _ (L.Line.opens (g1 .0) (g2 .0)) _ _ _

@@ -1,10 +1,6 @@
 -- `records::read_rest` meets its contract.
-use denote.Ref.{now}
-use mathlib.Core.Path.{_∙_}
-use lib.ListN.{take}
 use borrow.Author.Tests.{ne-eqb}
 use Rattle.listing.specs.Form.{readByLetter}
-use Rattle.records.specs.Records.{standIns}
 use borrow.Author.Needs.{needs}
 use Rattle.records.proofs.record.read_rest.Statement.{statement}
 use Rattle.records.proofs.record.read_rest.Tie as tie
@@ -38,56 +34,39 @@ read-end-requires c κs = search needs
 
 returns : tie.Need-returns
 unfolding readByLetter
-returns c =
-    let a = c .before .before .before .args in
-    c .read-ports .ensures (standIns (take (a .scope .routines) (now (a .arguments)))) ∙ rw (c .before .match .keys1)
+returns c = rw (c .before .match .keys1) (c .read-ports .ensures _)
 
 returns-2 : tie.Need-returns-2
 unfolding readByLetter
-returns-2 c =
-    let a = c .before .before .before .args in
-    c .read-opens .ensures (standIns (take (a .scope .routines) (now (a .arguments)))) ∙ rw (c .before .match .keys2)
+returns-2 c = rw (c .before .match .keys2) (c .read-opens .ensures _)
 
 returns-3 : tie.Need-returns-3
 unfolding readByLetter
-returns-3 c =
-    let a = c .before .before .before .args in
-    c .read-assign .ensures (standIns (take (a .scope .routines) (now (a .arguments)))) ∙ rw (c .before .match .keys3)
+returns-3 c = rw (c .before .match .keys3) (c .read-assign .ensures _)
 
 returns-4 : tie.Need-returns-4
 unfolding readByLetter
-returns-4 c =
-    let a = c .before .before .before .args in
-    c .read-schedule .ensures (standIns (take (a .scope .routines) (now (a .arguments)))) ∙ rw (c .before .match .keys4)
+returns-4 c = rw (c .before .match .keys4) (c .read-schedule .ensures _)
 
 returns-5 : tie.Need-returns-5
 unfolding readByLetter
-returns-5 c =
-    let a = c .before .before .before .args in
-    c .read-branch .ensures (standIns (take (a .scope .routines) (now (a .arguments)))) ∙ rw (c .before .match .keys5)
+returns-5 c = rw (c .before .match .keys5) (c .read-branch .ensures _)
 
 returns-6 : tie.Need-returns-6
 unfolding readByLetter
-returns-6 c =
-    let a = c .before .before .before .args in
-    c .read-jump .ensures (standIns (take (a .scope .routines) (now (a .arguments)))) ∙ rw (c .before .match .keys6)
+returns-6 c = rw (c .before .match .keys6) (c .read-jump .ensures _)
 
 returns-7 : tie.Need-returns-7
 unfolding readByLetter
-returns-7 c =
-    let a = c .before .before .before .args in
-    c .read-wait .ensures (standIns (take (a .scope .routines) (now (a .arguments)))) ∙ rw (c .before .match .keys7)
+returns-7 c = rw (c .before .match .keys7) (c .read-wait .ensures _)
 
 returns-8 : tie.Need-returns-8
 unfolding readByLetter
-returns-8 c =
-    c .read-fork .ensures ∙ rw (c .before .match .keys8)
+returns-8 c = rw (c .before .match .keys8) (c .read-fork .ensures)
 
 returns-9 : tie.Need-returns-9
 unfolding readByLetter
-returns-9 c =
-    let a = c .before .before .before .args in
-    c .read-end .ensures (now (a .s)) (standIns (take (a .scope .routines) (now (a .arguments)))) ∙ rw (c .before .match .keys9)
+returns-9 c = rw (c .before .match .keys9) (c .read-end .ensures _ _)
 
 returns-10 : tie.Need-returns-10
 unfolding readByLetter

@@ -1,10 +1,21 @@
 -- `replay::calls::make_instant` meets its contract.
+use mathlib.Core.Path.{sym, _∙_}
 use native.Mathlib.Omega.{arith}
+use denote.Ref.{now}
+use lib.Seq.{length-take-le}
 use Rattle.replay.proofs.Promised.{listed-few}
 use Rattle.engine.specs.Answers.{resultOf}
 use borrow.Author.Needs.{needs}
 use Rattle.replay.proofs.calls.make_instant.Statement.{statement}
 use Rattle.replay.proofs.calls.make_instant.Tie as tie
+
+slice-aggregate-instant : tie.Need-slice-aggregate-instant
+slice-aggregate-instant c =
+    let a = c .before .before .before .before .before .before .before .before .before .args in sym (length-take-le (a .count) (now (a .numbers)) (c .before .before .before .before .before .before .before .before .before .pre .2))
+
+slice-aggregate-instant-2 : tie.Need-slice-aggregate-instant-2
+slice-aggregate-instant-2 c =
+    let a = c .before .before .before .before .before .before .before .before .before .before .args in sym (length-take-le (a .count) (now (a .values)) (c .before .before .before .before .before .before .before .before .before .before .pre .3))
 
 instant-requires : tie.Need-instant-requires
 instant-requires c κs = search needs
@@ -40,6 +51,8 @@ pub make-instant-spec : {M : Type 1} → statement M
 make-instant-spec =
     tie.close
     (tie.spec
+    slice-aggregate-instant
+    slice-aggregate-instant-2
     instant-requires
     print-answer-requires
     same-length

@@ -1,0 +1,33 @@
+-- `replay::calls::step_after` meets its contract.
+use mathlib.Core.Path.{sym, ap}
+use Rattle.replay.specs.declared.calls.Made.{Made}
+use Rattle.replay.specs.Made.{stepAfter, onward}
+use borrow.Author.Needs.{needs}
+use Rattle.replay.proofs.calls.step_after.Statement.{statement}
+use Rattle.replay.proofs.calls.step_after.Tie as tie
+
+enum-known-made : tie.Need-enum-known-made
+enum-known-made c = search needs
+
+enum-known-made-2 : tie.Need-enum-known-made-2
+enum-known-made-2 c = search needs
+
+go-on-requires : tie.Need-go-on-requires
+go-on-requires c κs = search needs
+
+returns : tie.Need-returns
+returns c = sym (ap (λ (x : Made). stepAfter x (onward (c .before .before .before .args .then))) (c .before .made .given .1))
+
+returns-2 : tie.Need-returns-2
+returns-2 c =
+    rw (c .go-on .ensures) (sym (ap (λ (x : Made). stepAfter x (onward (c .before .before .before .before .args .then))) (c .before .before .made2 .given .1)))
+
+pub step-after-spec : {M : Type 1} → statement M
+step-after-spec =
+    tie.close
+    (tie.spec
+    enum-known-made
+    enum-known-made-2
+    go-on-requires
+    returns
+    returns-2)

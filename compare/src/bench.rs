@@ -234,10 +234,35 @@ fn waking_instants() -> [(u32, f64); 5] {
     std::array::from_fn(|k| (steps[k] / 3, times[k]))
 }
 
-/// 784 waiting writes: each of 56 routines has one on each of its 14 locals, at 14 moments.
-fn waiting() -> String {
-    let writes: String = (2..16).map(|name| format!("A\t{name}\t#{}\t#1\n", 2_000 - 97 * name)).collect();
-    sleepers(&format!("R\trr\t14\n{writes}W\t0\nG\t14\n"))
+/// 48 sleepers with so many variables each, and a routine that writes its own variable one
+/// millisecond after each instant, or never.
+fn ticking(locals: usize, ticks: bool) -> String {
+    let middles = "\t1 0 1".repeat(6);
+    let leaves = "\t2 0 1".repeat(8);
+    let tick = if ticks { "A\t2\t#1\t#1\n" } else { "" };
+    let sleeper = format!("R\trr\t{locals}\nW\t0\nG\t0\n");
+    format!("P\t1\t1\nR\trr\t0\nF{middles}\t3 0 1\nE\nR\trr\t0\nF{leaves}\nE\n{sleeper}R\trr\t1\n{tick}W\t2\nG\t0\n")
+}
+
+/// An instant with nothing due and one in which a write is due, which wakes one routine for three steps.
+fn due_instants(locals: usize) -> (f64, f64) {
+    let mut works = [false, true].map(|ticks| {
+        let mut lent = started(ticking(locals, ticks).as_bytes());
+        let mut t = 0;
+        move || {
+            t += 1;
+            assert_eq!(instant(&mut lent, t, (&[], &[]), 10_000).steps, if ticks { 3 } else { 0 });
+        }
+    });
+    let [idle, due] = &mut works;
+    let [idle, due] = beside([idle, due]);
+    (idle, due)
+}
+
+/// Each of 56 routines has a waiting write on so many of its 14 locals, at as many moments.
+fn waiting(writes: usize) -> String {
+    let lines: String = (2..2 + writes).map(|name| format!("A\t{name}\t#{}\t#1\n", 2_000 - 97 * name)).collect();
+    sleepers(&format!("R\trr\t14\n{lines}W\t0\nG\t{writes}\n"))
 }
 
 /// The moments of the waiting writes in a machine's words, block by block (docs/LAYOUT.md).
@@ -247,22 +272,25 @@ fn moments_due(machine: &[u32]) -> impl Iterator<Item = u64> + '_ {
     variables.map(|v| u64::from(v[2]) + (u64::from(v[3]) << 32)).filter(|&due| due != 0)
 }
 
-/// The soonest moment due, by a pass that keeps the least; and by one that puts every waiting write
-/// into a queue by moment, of which the first is taken.
-fn due_times() -> (f64, f64) {
-    let machine = started(waiting().as_bytes()).machine;
+/// What is due at the soonest moment, by a pass that keeps the least and one that takes those due at
+/// it; and by one that puts every waiting write into a queue by moment, from which those are taken.
+fn due_times(text: &str) -> (f64, f64) {
+    let machine = started(text.as_bytes()).machine;
     let mut room = Vec::with_capacity(1_024);
-    let mut least = || {
-        black_box(moments_due(black_box(&machine)).min());
+    let mut passes = || {
+        let soonest = moments_due(black_box(&machine)).min();
+        black_box(moments_due(black_box(&machine)).filter(|&due| Some(due) == soonest).count());
     };
     let mut queued = || {
         room.clear();
         room.extend(moments_due(black_box(&machine)).map(Reverse));
-        let queue = BinaryHeap::from(std::mem::take(&mut room));
+        let mut queue = BinaryHeap::from(std::mem::take(&mut room));
+        let soonest = queue.peek().copied();
+        while queue.peek().copied() == soonest && queue.pop().is_some() {}
         black_box(queue.peek());
         room = queue.into_vec();
     };
-    let [pass, queue] = beside([&mut least, &mut queued]);
+    let [pass, queue] = beside([&mut passes, &mut queued]);
     (pass, queue)
 }
 
@@ -347,9 +375,16 @@ fn woken() {
 }
 
 fn due_found() {
-    println!("\n| finding what is due, of 784 waiting writes | a pass | a queue made by that pass | ratio |\n|---|---|---|---|");
-    let (pass, queue) = due_times();
-    println!("| the soonest moment | {pass:.1} | {queue:.1} | {:.2} |", pass / queue);
+    println!("\n| a write due, beside 48 sleepers | nothing due | one write due, three steps | over |\n|---|---|---|---|");
+    for locals in [0, 14] {
+        let (idle, due) = due_instants(locals);
+        println!("| of {locals} variables each | {idle:.1} | {due:.1} | {:.1} |", due - idle);
+    }
+    println!("\n| finding what is due | two passes | a queue made by one pass | ratio |\n|---|---|---|---|");
+    for (count, text) in [(1, ticking(14, true)), (56, waiting(1)), (784, waiting(14))] {
+        let (pass, queue) = due_times(&text);
+        println!("| of {count} waiting writes | {pass:.1} | {queue:.1} | {:.2} |", pass / queue);
+    }
 }
 
 fn stack_used() {

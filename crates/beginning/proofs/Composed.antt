@@ -119,10 +119,10 @@ abbrev ListsOf : Listing → List ℕ → List ℕ → Type 0
 ListsOf listing m m′ = (q index : ℕ) → q ≤ 64 → index < 16 → triggersAt m′ q index ≡ triggersOf listing (rowsOf m) (ownerAt q index)
 
 -- Nobody is ready where nothing is written.
-first-ready : (listing : Listing) (n : ℕ) (m : List ℕ) → ((s : ℕ) → wakesNow listing (rowsOf m) (environmentOf n m) s ≡ false) →
+none-ready-yet : (listing : Listing) (n : ℕ) (m : List ℕ) → ((s : ℕ) → wakesNow listing (rowsOf m) (environmentOf n m) s ≡ false) →
     ListsOf listing m m → ReadySoFar listing n m []
 unfolding insertAll
-first-ready listing n m none lists =
+none-ready-yet listing n m none lists =
     record { woken = []; made = refl; sound = λ s i. elim i [ ]; full = λ s w. false-not (sym (none s) ∙ w); lists = lists }
 
 -- ── the parts, for a state that m₀ is read as ─────────────────────────────────────────────────────
@@ -185,7 +185,7 @@ module _ (t m₀ : List ℕ) (table : isTable t ≡ true) (small : Words32 m₀)
 
       nobody-ready : ListsOf listing m₁ m₂ → ReadySoFar listing n m₂ []
       nobody-ready lists =
-          first-ready listing n m₂
+          none-ready-yet listing n m₂
           (none-wakes listing (rowsOf m₂) (environmentOf n m₂) (words-unwritten listing n m₂ filled s held state (listed .rows) (listed .outer) (listed .tidy)))
           (λ q i h l. lists q i h l ∙ ap (λ (σ : Rows). triggersOf listing σ (ownerAt q i)) (sym (rows-of-same (O .rows))))
 

@@ -13,7 +13,7 @@ ghost use Rattle.instants.specs.Beginnings.{DueMade, NothingDue};
 ghost use Rattle.instants.specs.Reaching.{Unwritten, NothingWritten, ReachesOne, Reaches};
 use ready::ReadyList;
 
-// Those who await variable `index` of block s are ready, if it is written.
+// Those who await variable `index` of block s are ready, if it is written. Nothing is written before the due writes, so that a mark is theirs.
 fn wake_if_written(m: &[u32], ready: ReadyList, s: usize, index: usize) -> ReadyList
     requires { ⌜ (12288 ≤ length (now m)) × (s ≤ 64) × (index < 16) × (Ordered (rowsOf (now m)) (slotsOf ready)) ⌝ }
     ensures { λ r. ⌜ ReachesOne (now (m .entry)) s index (slotsOf ready) (slotsOf r) ⌝ }
@@ -25,7 +25,7 @@ fn wake_if_written(m: &[u32], ready: ReadyList, s: usize, index: usize) -> Ready
 }
 
 // The first `count` variables of block s.
-pub fn make_due_in(m: &mut [u32], ready: ReadyList, s: usize, count: usize, t: u64) -> ReadyList
+fn make_due_in(m: &mut [u32], ready: ReadyList, s: usize, count: usize, t: u64) -> ReadyList
     requires { ⌜ (12288 ≤ length (now m)) × (s ≤ 64) × (count ≤ 16) × (0 < t) × (Ordered (rowsOf (now m)) (slotsOf ready)) ⌝ }
     ensures { λ r. ⌜ (InBlock s (now (m .entry)) (now (m .exit)) (dueFirst count t (block (now (m .entry)) s)))
         × (Ordered (rowsOf (now (m .exit))) (slotsOf r))
@@ -43,7 +43,7 @@ pub fn make_due_in(m: &mut [u32], ready: ReadyList, s: usize, count: usize, t: u
 }
 
 // The own variables of the routine in slot s, if one sits there.
-pub fn make_due_slot(m: &mut [u32], ready: ReadyList, s: usize, t: u64) -> ReadyList
+fn make_due_slot(m: &mut [u32], ready: ReadyList, s: usize, t: u64) -> ReadyList
     requires { ⌜ (12288 ≤ length (now m)) × (s < 64) × (0 < t) × (Ordered (rowsOf (now m)) (slotsOf ready)) ⌝ }
     ensures { λ r. ⌜ (InBlock s (now (m .entry)) (now (m .exit)) (dueSlot t (block (now (m .entry)) s)))
         × (Ordered (rowsOf (now (m .exit))) (slotsOf r))
@@ -70,7 +70,7 @@ pub fn at_most_16(n: u32) -> usize
 }
 
 // All slots.
-pub fn make_due_slots(m: &mut [u32], ready: ReadyList, t: u64) -> ReadyList
+fn make_due_slots(m: &mut [u32], ready: ReadyList, t: u64) -> ReadyList
     requires { ⌜ (12288 ≤ length (now m)) × (0 < t) × (Ordered (rowsOf (now m)) (slotsOf ready)) ⌝ }
     ensures { λ r. ⌜ (Mapped 64 (dueSlot t) (now (m .entry)) (now (m .exit)))
         × (Ordered (rowsOf (now (m .exit))) (slotsOf r))
@@ -86,7 +86,7 @@ pub fn make_due_slots(m: &mut [u32], ready: ReadyList, t: u64) -> ReadyList
 }
 
 // All slots, and the n variables of the environment.
-pub fn make_due_all(m: &mut [u32], ready: ReadyList, n: usize, t: u64) -> ReadyList
+fn make_due_all(m: &mut [u32], ready: ReadyList, n: usize, t: u64) -> ReadyList
     requires { ⌜ (12288 ≤ length (now m)) × (n ≤ 16) × (0 < t) × (Ordered (rowsOf (now m)) (slotsOf ready)) ⌝ }
     ensures { λ r. ⌜ (DueMade n t (now (m .entry)) (now (m .exit)))
         × (Ordered (rowsOf (now (m .exit))) (slotsOf r))

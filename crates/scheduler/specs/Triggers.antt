@@ -1,5 +1,7 @@
 -- The trigger lists: for each variable, the slots of those who await it. They are made once, at the beginning of an instant, and stay:
--- a wait reached in this instant cannot be passed in it. A write triggers those listed who are still asleep and come later than the writer.
+-- a wait reached in this instant cannot be passed in it. A write of the run triggers those listed who are still asleep and come later than the writer;
+-- a due write or an input, before the run, all who are listed. The ready list at the beginning is said by asking each slot, and is the same however it is made
+-- (proofs AnyOrder).
 use mathlib.Core.Bool.{Bool, true, false, _&&_, _||_}
 use mathlib.Core.List.{List, [], _∷_}
 use Prim.Native.Nat.{ℕ, zero, suc}

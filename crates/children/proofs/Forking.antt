@@ -102,7 +102,7 @@ module _ {t before : List ℕ} {me cells n : ℕ} (F : MayFork t before me cells
   module _ {m places : List ℕ} {head i : ℕ} (G : Forking t before me cells n m places head i) where
     module _ (more : i < n) where
       free : ((rowsOf m (freeSlot (rowsOf m) 64)) .used ≡ false) × (freeSlot (rowsOf m) 64 < 64)
-      free = freeSlot-free (rowsOf m) 64 (omega (arith, G .room))
+      free = freeSlot-free (rowsOf m) (omega (arith, G .room))
 
       blank : (k : ℕ) → k < 144 → block m (freeSlot (rowsOf m) 64) k ≡ 0
       blank = free-blank (G .tidy (F .variables) (F .tidy)) (freeSlot (rowsOf m) 64) (free .1) (free .0)

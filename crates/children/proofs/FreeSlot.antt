@@ -1,24 +1,25 @@
--- The search for the highest free slot, one slot down.
-use mathlib.Core.Path.{_≡_, refl}
+-- The search for the lowest free slot, one slot up.
+use mathlib.Core.Path.{_≡_, refl, ap, _∙_}
 use mathlib.Core.Bool.{true, false}
-use Prim.Native.Nat.{ℕ, zero, suc, _-_, _<_}
+use Prim.Native.Nat.{ℕ, suc, _-_, _<_}
 use native.Mathlib.Omega.{arith}
-use Rattle.scheduler.specs.Rows.{Rows}
+use Rattle.scheduler.specs.Rows.{Row, Rows}
 use Rattle.scheduler.specs.Engine.{freeElse, freeSlot}
 
-pub free-slot-found : (rows : Rows) (n : ℕ) → 0 < n → (rows (n - 1)) .used ≡ false → freeSlot rows n ≡ n - 1
-unfolding freeSlot freeElse
-free-slot-found rows zero h e = absurd (omega arith)
-free-slot-found rows (suc n) h e =
-    let z : suc n - 1 ≡ n = omega arith in
-    let u : (rows n) .used ≡ false = rw z at e in rw (u, z)
+module _ (rows : Rows) (n : ℕ) (h : n < 64) where
+  here : 63 - (63 - n) ≡ n
+  here = omega arith
 
-pub free-slot-lower : (rows : Rows) (n : ℕ) → 0 < n → (rows (n - 1)) .used ≡ true → freeSlot rows n ≡ freeSlot rows (n - 1)
-unfolding freeSlot freeElse
-free-slot-lower rows zero h e = absurd (omega arith)
-free-slot-lower rows (suc n) h e =
-    let z : suc n - 1 ≡ n = omega arith in
-    let u : (rows n) .used ≡ true = rw z at e in rw (u, z)
+  left : 64 - n ≡ suc (63 - n)
+  left = omega arith
+
+  pub free-slot-found : (rows n) .used ≡ false → freeSlot rows (64 - n) ≡ n
+  unfolding freeSlot freeElse
+  free-slot-found e = ap (freeSlot rows) left ∙ rw (here, e)
+
+  pub free-slot-higher : (rows n) .used ≡ true → freeSlot rows (64 - n) ≡ freeSlot rows (63 - n)
+  unfolding freeSlot freeElse
+  free-slot-higher e = ap (freeSlot rows) left ∙ rw (here, e)
 
 pub free-slot-none : (rows : Rows) → freeSlot rows 0 ≡ 0
 unfolding freeSlot

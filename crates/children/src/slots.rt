@@ -6,17 +6,18 @@ ghost use Rattle.scheduler.specs.Engine.{freeSlot};
 ghost use Rattle.blocks.specs.Blocks.{rowsOf};
 use blocks::used;
 
-// The highest free slot, 0 if there is none.
+// The lowest free slot, 0 if there is none. A fork's first child so comes lowest: along a trigger list, which falls by slot, priorities fall too,
+// which is the cheapest order in which to put slots into the ready list.
 pub fn free_slot(m: &[u32]) -> usize
     requires { ⌜ 12288 ≤ length (now m) ⌝ }
     ensures { λ r. ⌜ r ≡ freeSlot (rowsOf (now (m .entry))) 64 ⌝ }
 {
-    let mut n: usize = 64;
-    while n > 0 {
-        n -= 1;
+    let mut n: usize = 0;
+    while n < 64 {
         if !used(m, n) {
             return n;
         }
+        n += 1;
     }
     0
 }

@@ -2,7 +2,7 @@
 use mathlib.Core.Path.{_≡_, refl, sym, ap, _∙_}
 use mathlib.Core.Bool.{Bool, true, false}
 use mathlib.Core.List.{List, [], _∷_, _++_}
-use Prim.Native.Nat.{ℕ, zero, suc, _+_, _≤_, _<_}
+use Prim.Native.Nat.{ℕ, zero, suc, _+_, _-_, _≤_, _<_}
 use native.Mathlib.Decide.{ℕ-discrete}
 use native.Mathlib.Omega.{arith}
 use lib.ListN.{getD}
@@ -20,24 +20,20 @@ unfolding callsAt childCount
 count-calls w zero a = refl
 count-calls w (suc n) a = ap suc (count-calls w n (afterCall w a))
 
-free-small : (rows : Rows) (n : ℕ) → freeSlot rows (suc n) < suc n
+free-small : (rows : Rows) (n : ℕ) → freeSlot rows n < 64
 unfolding freeSlot freeElse
-free-small rows zero = go ((rows 0) .used)
+free-small rows zero = omega arith
+free-small rows (suc n) = go ((rows (63 - n)) .used) (free-small rows n)
   where
-    go : (b : Bool) → freeElse b 0 0 < 1
-    go true = omega arith
-    go false = omega arith
-free-small rows (suc n) = go ((rows (suc n)) .used) (free-small rows n)
-  where
-    go : (b : Bool) → freeSlot rows (suc n) < suc n → freeElse b (suc n) (freeSlot rows (suc n)) < suc (suc n)
-    go true l = omega arith
+    go : (b : Bool) → freeSlot rows n < 64 → freeElse b (63 - n) (freeSlot rows n) < 64
+    go true l = l
     go false l = omega arith
 
 module _ (listing : Listing) (environment : List Variable) (me n : ℕ) where
   pub new-small : (rows : Rows) (cs : List Call) (i k : ℕ) → getD (newSlots listing rows environment me n cs i) k 0 < 64
   unfolding newSlots
   new-small rows [] i k = omega arith
-  new-small rows (c ∷ cs) i zero = free-small rows 63
+  new-small rows (c ∷ cs) i zero = free-small rows 64
   new-small rows (c ∷ cs) i (suc k) = new-small (rowsWithChild listing rows environment me n c i) cs (suc i) k
 
   -- A sleeper among the rows with new children slept before, at its place.

@@ -101,17 +101,35 @@ unfolding one
 one-le true = omega arith
 one-le false = omega arith
 
-pub freeSlot-free : (σ : Rows) (n : ℕ) → usedBelow σ n < n → ((σ (freeSlot σ n)) .used ≡ false) × (freeSlot σ n < n)
-unfolding freeSlot freeElse usedBelow one
-freeSlot-free σ zero h = absurd (omega arith)
-freeSlot-free σ (suc n) h = go ((σ n) .used) refl (freeSlot-free σ n)
+-- one slot of the first n is free
+some-free : (σ : Rows) (n : ℕ) → usedBelow σ n < n → (s : ℕ) × ((σ s) .used ≡ false) × (s < n)
+unfolding usedBelow one
+some-free σ zero h = absurd (omega arith)
+some-free σ (suc n) h = go ((σ n) .used) refl (some-free σ n)
   where
-    go : (b : Bool) → (σ n) .used ≡ b → (usedBelow σ n < n → ((σ (freeSlot σ n)) .used ≡ false) × (freeSlot σ n < n)) →
-        ((σ (freeElse b n (freeSlot σ n))) .used ≡ false) × (freeElse b n (freeSlot σ n) < suc n)
+    go : (b : Bool) → (σ n) .used ≡ b → (usedBelow σ n < n → (s : ℕ) × ((σ s) .used ≡ false) × (s < n)) → (s : ℕ) × ((σ s) .used ≡ false) × (s < suc n)
     go true p deep =
         let q : one ((σ n) .used) ≡ 1 = ap one p in
-        let d = deep (omega arith) in (d .0, omega (arith, d .1))
-    go false p deep = (p, le-refl (suc n))
+        let d = deep (omega arith) in (d .0, d .1, omega (arith, d .2))
+    go false p deep = (n, p, le-refl (suc n))
+
+-- the search finds one, if there is one from where it begins
+found-free : (σ : Rows) (n s : ℕ) → n ≤ 64 → (σ s) .used ≡ false → 64 - n ≤ s → s < 64 → ((σ (freeSlot σ n)) .used ≡ false) × (freeSlot σ n < 64)
+unfolding freeSlot freeElse
+found-free σ zero s l u a b = absurd (omega arith)
+found-free σ (suc n) s l u a b = go ((σ (63 - n)) .used) refl (found-free σ n s (omega arith) u)
+  where
+    go : (w : Bool) → (σ (63 - n)) .used ≡ w → (64 - n ≤ s → s < 64 → ((σ (freeSlot σ n)) .used ≡ false) × (freeSlot σ n < 64)) →
+        ((σ (freeElse w (63 - n) (freeSlot σ n))) .used ≡ false) × (freeElse w (63 - n) (freeSlot σ n) < 64)
+    go true p deep = deep (past (ℕ-discrete s (63 - n))) b
+      where
+        past : Dec (s ≡ 63 - n) → 64 - n ≤ s
+        past (yes e) = let z : _≡_ {A = Bool} true false = sym p ∙ (ap (λ (k : ℕ). (σ k) .used) (sym e) ∙ u) in let w : _≡_ {A = ℕ} 0 1 = cc in absurd (let v : ⊥ = omega arith in v)
+        past (no e) = omega (arith, e)
+    go false p deep = (p, omega arith)
+
+pub freeSlot-free : (σ : Rows) → usedBelow σ 64 < 64 → ((σ (freeSlot σ 64)) .used ≡ false) × (freeSlot σ 64 < 64)
+freeSlot-free σ h = let d = some-free σ 64 h in found-free σ 64 (d .0) (le-refl 64) (d .1) (omega arith) (d .2)
 
 used-other : (σ : Rows) (s : ℕ) (r : Row) (n : ℕ) → n ≤ s → usedBelow (withRow σ s r) n ≡ usedBelow σ n
 unfolding usedBelow

@@ -129,7 +129,7 @@ module _ (listing : Listing) (m : List Variable) (ns : List ℕ) (P : List Entry
       let e : row ≡ rowFor false P (length m) 0 x =
       ap (λ z. childRow listing z c i s) (caller σ (k me sits)) ∙
       child-row listing m ns c i s low b P (named σ environment (ownersAt P ns)) (reads σ k) near g in
-      let free = freeSlot-free σ 64 (omega arith) in
+      let free = freeSlot-free σ (omega arith) in
       let u : usedBelow (withRow σ s row) 64 + one ((σ s) .used) ≡ usedBelow σ 64 + one (row .used) = used-withRow σ s row 64 (free .1) in
       let u₁ : one ((σ s) .used) ≡ 0 = ap one (free .0) in
       let u₂ : one (row .used) ≡ 1 = ap one (childRow-used (callerAt σ environment me n) c i s) in

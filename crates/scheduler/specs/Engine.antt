@@ -79,14 +79,14 @@ chooseBits true true true = 3
 unfoldable pub fewestBits : ℕ → ℕ
 fewestBits n = chooseBits (ltb 1 n) (ltb 2 n) (ltb 4 n)
 
--- The highest free slot below n.
+-- The lowest free slot of the last n.
 unfoldable pub freeElse : Bool → ℕ → ℕ → ℕ
-freeElse true n below = below
-freeElse false n below = n
+freeElse true s later = later
+freeElse false s later = s
 
 unfoldable pub freeSlot : Rows → ℕ → ℕ
 freeSlot rows zero = 0
-freeSlot rows (suc n) = freeElse ((rows n) .used) n (freeSlot rows n)
+freeSlot rows (suc n) = freeElse ((rows (63 - n)) .used) (63 - n) (freeSlot rows n)
 
 -- k of slot s's own variables, from the i-th on
 unfoldable pub ownBindings : ℕ → ℕ → ℕ → List Owner
@@ -155,7 +155,7 @@ module _ (listing : Listing) where
         own = childVariables (called .kinds) (c .arguments) (called .locals) (caller .name);
       }
 
-  -- The rows with one new child of `me`, one of n, in the highest free slot.
+  -- The rows with one new child of `me`, one of n, in the lowest free slot.
   unfoldable pub rowsWithChild : Rows → List Variable → ℕ → ℕ → Call → ℕ → Rows
   rowsWithChild rows environment me n c i = withRow rows (freeSlot rows 64) (childRow (callerAt rows environment me n) c i (freeSlot rows 64))
 

@@ -28,11 +28,20 @@ enum Spoil {
     Machine = 7,
 }
 
+/// How a comparison with the kept copy is spoiled: the kind of its item.
+#[derive(Clone, Copy)]
+enum Beside {
+    Nothing = 3,
+    ShortCopy = 4,
+    Table = 6,
+    Machine = 7,
+}
+
 /// One line of a call list.
 enum Item {
     Call(Spoil, Call, Answer),
     Keep,
-    Compare { number: u32, alike: u32 },
+    Compare(Beside, u32, u32),
 }
 
 fn word(out: &mut Vec<u8>, value: u32) {
@@ -52,7 +61,9 @@ fn part(out: &mut Vec<u8>, bytes: &[u8]) {
 fn item(out: &mut Vec<u8>, item: &Item) {
     match item {
         Item::Keep => word(out, 2),
-        Item::Compare { number, alike } => [3, *number, *alike].into_iter().for_each(|w| word(out, w)),
+        Item::Compare(beside, number, alike) => {
+            [*beside as u32, *number, *alike].into_iter().for_each(|w| word(out, w))
+        }
         Item::Call(spoil, call, answer) => {
             word(out, call.t.is_some() as u32);
             word(out, *spoil as u32);
@@ -213,7 +224,18 @@ fn boundary() -> Vec<u8> {
     call_list(BOUNDARY, LISTING_A.as_bytes(), &items)
 }
 
-/// A machine beside its kept copy: alike, then not, then stopped.
+/// A comparison as it is, with its number and its word.
+fn compared(number: u32, alike: u32) -> Item {
+    Item::Compare(Beside::Nothing, number, alike)
+}
+
+/// The comparisons that are refused before it is asked whether the machines run.
+fn spoiled() -> [Item; 3] {
+    [(Beside::ShortCopy, 1), (Beside::Table, 6), (Beside::Machine, 7)]
+        .map(|(beside, number)| Item::Compare(beside, number, 0))
+}
+
+/// A machine beside its kept copy: alike, spoiled, alike again, then not, then stopped.
 fn alike() -> Vec<u8> {
     let mut calls = followed(LISTING_A, vec![start(10), instant(5_000, &[(0, 1)], 10), instant(5_001, &[(0, 1)], 10)]);
     calls.extend(followed(LISTING_A, vec![start(10), instant(1, &[(0, 1)], 1)]));
@@ -221,13 +243,16 @@ fn alike() -> Vec<u8> {
     for (k, call) in calls.into_iter().enumerate() {
         items.push(call);
         match k {
-            0 => items.extend([Item::Keep, Item::Compare { number: 0, alike: 1 }]),
-            1 => {
-                items.extend([Item::Compare { number: 0, alike: 0 }, Item::Keep, Item::Compare { number: 0, alike: 1 }])
+            0 => {
+                items.extend([Item::Keep, compared(0, 1)]);
+                items.extend(spoiled());
+                items.push(compared(0, 1));
             }
-            2 => items.push(Item::Compare { number: 0, alike: 0 }),
+            1 => items.extend([compared(0, 0), Item::Keep, compared(0, 1)]),
+            2 => items.push(compared(0, 0)),
             4 => {
-                items.extend([Item::Compare { number: 8, alike: 0 }, Item::Keep, Item::Compare { number: 8, alike: 0 }])
+                items.extend([compared(8, 0), Item::Keep, compared(8, 0)]);
+                items.extend(spoiled());
             }
             _ => {}
         }

@@ -8,16 +8,14 @@ use lib.Dec.{eqb, ltb}
 use lib.ListN.{length, getD, set}
 use lib.Seq.{ext-getD}
 use borrow.Author.Tests.{eqb-true, eq-eqb, ne-eqb, lt-ltb, le-ltb}
-use Rattle.walk.specs.Comparison.{Compared, comparedNumber, comparedAlike}
-use Rattle.comparison.specs.Compared.{comparedOf}
-use Rattle.comparison.specs.declared.Comparison.{Comparison}
-use Rattle.comparison.specs.declared.Comparison.the-variants as CV
+use Rattle.walk.specs.Comparison.{Compared, comparedNumber, comparedPlace, comparedAlike}
+use Rattle.fabrwent.specs.Figures.{bit}
 use Rattle.cases.specs.Frame.{wordAt, onward}
 use Rattle.cases.specs.Words.{Tells}
 use Rattle.cases.proofs.Telling.{tells-yes, tells-no, tells-same, tells-else}
 use Rattle.call_tests.specs.Calls.{AnswerAt}
 use Rattle.call_tests.specs.Cases.{afterCall, afterItem}
-use Rattle.call_tests.specs.Items.{unlisted, AnswerRight, bit, ComparedRight}
+use Rattle.call_tests.specs.Items.{unlisted, AnswerRight, ComparedRight}
 use Rattle.call_tests.specs.Pairs.{fitting, PairsPut}
 use Rattle.call_tests.specs.declared.reports.Report.{Report}
 use Rattle.call_tests.proofs.Reporting.{same-parts}
@@ -61,13 +59,10 @@ by-alike number alike n a e w h = record {
   whenever = λ c. eq-eqb w alike (h ∙ (c .alikeIs ∙ sym a));
 }
 
-pub refused-figures : (a : Comparison) (k : ℕ) → a ≡ CV.Refused k → (k ≡ comparedNumber (comparedOf a)) × (0 ≡ bit (comparedAlike (comparedOf a)))
-unfolding comparedOf comparedNumber comparedAlike
-refused-figures a k e = subst (λ (x : Comparison). (k ≡ comparedNumber (comparedOf x)) × (0 ≡ bit (comparedAlike (comparedOf x)))) (sym e) (refl, refl)
-
-pub alike-figures : (a : Comparison) (b : Bool) (w : ℕ) → a ≡ CV.Alike b → w ≡ bit b → (0 ≡ comparedNumber (comparedOf a)) × (w ≡ bit (comparedAlike (comparedOf a)))
-unfolding comparedOf comparedNumber comparedAlike
-alike-figures a b w e h = subst (λ (x : Comparison). (0 ≡ comparedNumber (comparedOf x)) × (w ≡ bit (comparedAlike (comparedOf x)))) (sym e) (refl, h)
+-- "place 0 from here on"
+pub no-place : (o : Compared) (place : ℕ) → place ≡ comparedPlace o → place ≡ 0
+unfolding comparedPlace
+no-place o place e = e
 
 -- a memory without a first word
 pub no-first : (l : List ℕ) (w : ℕ) → length l ≡ 0 → (0 ≡ getD l 0 0) × (l ≡ set l 0 w)

@@ -1,6 +1,6 @@
 -- The items of a case, and what one that agrees shows.
 use mathlib.Core.Path.{_≡_}
-use mathlib.Core.Bool.{Bool, true, false, cond}
+use mathlib.Core.Bool.{Bool, true, cond}
 use mathlib.Core.List.{List}
 use Prim.Native.Nat.{ℕ, _≤_, _<_, min}
 use lib.Dec.{eqb}
@@ -8,10 +8,11 @@ use lib.ListN.{length, set, replicate}
 use Rattle.walk.specs.Calls.{Outcome}
 use Rattle.walk.specs.Comparison.{Compared, comparedNumber, comparedAlike, alikeCall}
 use Rattle.layout.specs.Layout.{layout}
+use Rattle.fabrwent.specs.Figures.{bit}
 use Rattle.cases.specs.Frame.{wordAt, onward}
-use Rattle.cases.specs.Words.{copied}
+use Rattle.cases.specs.Words.{Tells, copied}
 use Rattle.call_tests.specs.Pairs.{numbersAt, valuesAt, fitting, PairsPut}
-use Rattle.call_tests.specs.Calls.{CallAt, AnswerAt, answerPlace, madeOutcome, Made}
+use Rattle.call_tests.specs.Calls.{CallAt, AnswerAt, answerPlace, lentPart, madeOutcome, Made}
 use Rattle.call_tests.specs.Memories.{pattern}
 use Rattle.call_tests.specs.declared.calls.Call.{Call}
 use Rattle.call_tests.specs.declared.reports.Report.{Report}
@@ -46,17 +47,17 @@ pub record RanCall (s : List ℕ) (c : Call) (table machine before machine′ be
   pub agrees : r ≡ true → CallAgrees s c table machine machine′
 
 -- "spoil" 6 and 7: a first word that no table and no machine has
-abbrev pub spoiltTable : Call → List ℕ → List ℕ
-spoiltTable c table = cond (eqb (c .spoil) 6) (set table 0 2147483648) table
+abbrev pub spoiltTable : ℕ → List ℕ → List ℕ
+spoiltTable spoil table = cond (eqb spoil 6) (set table 0 2147483648) table
 
-abbrev pub spoiltMachine : Call → List ℕ → List ℕ
-spoiltMachine c machine = cond (eqb (c .spoil) 7) (set machine 0 5) machine
+abbrev pub spoiltMachine : ℕ → List ℕ → List ℕ
+spoiltMachine spoil machine = cond (eqb spoil 7) (set machine 0 5) machine
 
 pub record CallItem (s : List ℕ) (at : ℕ) (table machine : List ℕ) : Type 0 where
   pub call : Call
   pub is : CallAt s at call
   pub machine′ : List ℕ
-  pub agrees : CallAgrees s call (spoiltTable call table) (spoiltMachine call machine) machine′
+  pub agrees : CallAgrees s call (spoiltTable (call .spoil) table) (spoiltMachine (call .spoil) machine) machine′
 
 pub record RanSpoilt (s : List ℕ) (at : ℕ) (table machine before table′ machine′ before′ : List ℕ) (r : Bool) : Type 0 where
   pub tableIs : table′ ≡ table
@@ -65,21 +66,31 @@ pub record RanSpoilt (s : List ℕ) (at : ℕ) (table machine before table′ ma
   pub agrees : r ≡ true → CallItem s at table machine
 
 -- ── a comparison ──────────────────────────────────────────────────────────────────────────────────
--- "alike" as a word
-abbrev pub bit : Bool → ℕ
-bit true = 1
-bit false = 0
-
 -- number and word stored at a place
 pub record ComparedRight (s : List ℕ) (at : ℕ) (o : Compared) : Type 0 where
   pub numberIs : wordAt s at ≡ comparedNumber o
   pub alikeIs : wordAt s (onward s at 4) ≡ bit (comparedAlike o)
 
+-- The defined outcome of a comparison of this kind: of the copy at most 12,287 words are lent (4), or a first word is spoilt as for a call
+-- (6 the table's, 7 the machine's).
+abbrev pub comparisonOutcome : ℕ → List ℕ → List ℕ → List ℕ → Compared
+comparisonOutcome kind table machine kept =
+    alikeCall layout (spoiltTable kind table) (spoiltMachine kind machine) (lentPart kind 4 12287 kept)
+
+-- The number and the word stored after a comparison's kind are those of its defined outcome.
+abbrev pub ComparisonAgrees : List ℕ → ℕ → List ℕ → List ℕ → List ℕ → Type 0
+ComparisonAgrees s at table machine kept = ComparedRight s (onward s at 4) (comparisonOutcome (wordAt s at) table machine kept)
+
+pub record RanComparison (s : List ℕ) (at : ℕ) (table machine kept table′ machine′ : List ℕ) (r : Bool) : Type 0 where
+  pub tableIs : table′ ≡ table
+  pub machineIs : machine′ ≡ machine
+  pub tells : Tells r (ComparisonAgrees s at table machine kept)
+
 -- ── any item ──────────────────────────────────────────────────────────────────────────────────────
 pub data ItemAgrees (s : List ℕ) (at : ℕ) (table machine kept : List ℕ) : Type 0 where
   call : wordAt s at < 2 → CallItem s at table machine → ItemAgrees s at table machine kept
   copy : wordAt s at ≡ 2 → ItemAgrees s at table machine kept
-  comparison : 2 < wordAt s at → ComparedRight s (onward s at 4) (alikeCall layout table machine kept) → ItemAgrees s at table machine kept
+  comparison : 2 < wordAt s at → ComparisonAgrees s at table machine kept → ItemAgrees s at table machine kept
 
 -- An item, or several, were run: the table is as it was, and the other memories are as long.
 pub record Kept (table machine before kept table′ machine′ before′ kept′ : List ℕ) : Type 0 where

@@ -67,7 +67,7 @@ pub fn answer_at(s: &[u8], at: usize) -> Report
 }
 
 // How much of a memory is lent: all, or only so many places if this is what is spoilt.
-fn lent(m: &[u32], spoil: u32, which: u32, places: usize) -> usize
+pub fn lent(m: &[u32], spoil: u32, which: u32, places: usize) -> usize
     ensures { λ r. ⌜ Counts r (now (m .entry)) × (r ≡ lentPlaces spoil which places (now (m .entry))) ⌝ }
 {
     if spoil != which {

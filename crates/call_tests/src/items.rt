@@ -1,19 +1,21 @@
 // The items of a case: a call (kind 0 the start, 1 an instant), a copy of the machine kept (2), or a comparison of the machine with that
-// copy (3), with the number and the word (1 alike, else 0) that it must answer.
+// copy (any other kind), with the number and the word (1 alike, else 0) that it must answer. The kind of a comparison says what is spoilt:
+// 4 the length of the copy, 6 the table's first word, 7 the machine's first word, any other nothing.
 ghost use mathlib.Core.Path.{_≡_};
 ghost use Prim.Native.Nat.{min};
 ghost use lib.ListN.{length};
 ghost use Rattle.io.specs.Counts.{Counts};
-ghost use Rattle.walk.specs.Comparison.{comparedNumber, comparedAlike};
-ghost use Rattle.comparison.specs.Compared.{comparedOf};
+ghost use Rattle.walk.specs.Comparison.{alikeCall};
+ghost use Rattle.layout.specs.Layout.{layout};
 ghost use Rattle.cases.specs.Words.{Tells};
 ghost use Rattle.call_tests.specs.Pairs.{fitting, PairsPut};
 ghost use Rattle.call_tests.specs.Cases.{afterCall, afterItem};
-ghost use Rattle.call_tests.specs.Items.{unlisted, AnswerRight, RanCall, RanSpoilt, bit, ComparedRight, RanItem};
+ghost use Rattle.call_tests.specs.Items.{unlisted, AnswerRight, RanCall, RanSpoilt, ComparedRight, RanComparison, RanItem};
 use crate::calls::Call;
 use crate::calls::answer_at;
 use crate::calls::answer_place;
 use crate::calls::call_at;
+use crate::calls::lent;
 use crate::calls::make_call;
 use crate::inputs::read_pairs;
 use crate::memory::PATTERN;
@@ -27,7 +29,6 @@ use cases::frame::word_at;
 use cases::report::say;
 use cases::words::copy;
 use cases::words::same;
-use comparison::Comparison;
 
 // The words of an answer before its outputs.
 const ANSWER: usize = 24;
@@ -156,41 +157,41 @@ fn run_spoilt(
     run_call(s, call, table, machine, before)
 }
 
-// A comparison's number, and 1 if the machines are alike, else 0.
-pub struct Compared {
-    pub number: u32,
-    pub alike: u32,
-}
-
-fn compared_figures(answer: Comparison) -> Compared
-    ensures { λ r. ⌜ (r .number ≡ comparedNumber (comparedOf answer)) × (r .alike ≡ bit (comparedAlike (comparedOf answer))) ⌝ }
+// A comparison by the library as firmware links it: does it answer the number and the word stored at a place, and place 0?
+fn compare(s: &[u8], at: usize, table: &[u32], machine: &[u32], kept: &[u32]) -> bool
+    ensures { λ r. ⌜ Tells r (ComparedRight (now (s .entry)) at (alikeCall layout (now (table .entry)) (now (machine .entry)) (now (kept .entry)))) ⌝ }
 {
-    match answer {
-        Comparison::Refused(number) => Compared { number, alike: 0 },
-        Comparison::Alike(same) => {
-            if same {
-                return Compared {
-                    number: 0,
-                    alike: 1,
-                };
-            }
-            Compared {
-                number: 0,
-                alike: 0,
-            }
-        }
+    let found = fabrwent::fabrwent_alike(table, machine, kept);
+    if found.place != 0 {
+        return false;
     }
-}
-
-// Is the comparison's answer the number and the word stored at a place?
-fn compared_right(s: &[u8], at: usize, answer: Comparison) -> bool
-    ensures { λ r. ⌜ Tells r (ComparedRight (now (s .entry)) at (comparedOf answer)) ⌝ }
-{
-    let found = compared_figures(answer);
     if word_at(s, at) != found.number {
         return false;
     }
     word_at(s, past(s, at, 4)) == found.alike
+}
+
+// A comparison with what its kind spoils: the copy's length (4), the table's first word (6), or the machine's first word (7).
+fn compare_spoilt(s: &[u8], at: usize, table: &mut [u32], machine: &mut [u32], kept: &[u32]) -> bool
+    ensures { λ r. ⌜ RanComparison (now (s .entry)) at (now (table .entry)) (now (machine .entry)) (now (kept .entry))
+        (now (table .exit)) (now (machine .exit)) r ⌝ }
+{
+    let kind = word_at(s, at);
+    let stored = past(s, at, 4);
+    let kept_lent = lent(kept, kind, 4, 12287);
+    if kind == 6 {
+        let first = swap_first(table, 2147483648);
+        let right = compare(s, stored, table, machine, &kept[..kept_lent]);
+        swap_first(table, first);
+        return right;
+    }
+    if kind == 7 {
+        let first = swap_first(machine, 5);
+        let right = compare(s, stored, table, machine, &kept[..kept_lent]);
+        swap_first(machine, first);
+        return right;
+    }
+    compare(s, stored, table, machine, &kept[..kept_lent])
 }
 
 // Runs the item at a place, and answers whether all was as stored.
@@ -213,6 +214,5 @@ pub fn run_item(
         copy(machine, kept);
         return true;
     }
-    let answer = comparison::alike(table, machine, kept);
-    compared_right(s, past(s, at, 4), answer)
+    compare_spoilt(s, at, table, machine, kept)
 }

@@ -1,9 +1,7 @@
 use mathlib.Core.Path.{refl, sym, ap, _∙_}
 use native.Mathlib.Omega.{arith}
-use denote.Ref.{now}
 use lib.ListN.{length}
-use Rattle.call_tests.specs.Items.{call, copy}
-use Rattle.call_tests.proofs.Agreeing.{compared-so}
+use Rattle.call_tests.specs.Items.{call, copy, comparison}
 use Rattle.call_tests.proofs.items.run_item.Statement.{statement}
 use Rattle.call_tests.proofs.items.run_item.Tie as tie
 
@@ -53,22 +51,16 @@ returns-2 c =
       agrees = λ e. copy (sym w ∙ c .before .before .before .before .before .if2 .taken);
     }
 
-alike-requires : tie.Need-alike-requires
-alike-requires c κs = tt
-
-past-requires : tie.Need-past-requires
-past-requires c κs = tt
-
-compared-right-requires : tie.Need-compared-right-requires
-compared-right-requires c κs = tt
+compare-spoilt-requires : tie.Need-compare-spoilt-requires
+compare-spoilt-requires c κs = tt
 
 same-length-6 : tie.Need-same-length-6
 same-length-6 c =
-    refl
+    ap length (c .before .before .before .before .compare-spoilt .ensures .tableIs)
 
 same-length-7 : tie.Need-same-length-7
 same-length-7 c =
-    refl
+    ap length (c .before .before .before .before .compare-spoilt .ensures .machineIs)
 
 same-length-8 : tie.Need-same-length-8
 same-length-8 c =
@@ -76,11 +68,11 @@ same-length-8 c =
 
 returns-3 : tie.Need-returns-3
 returns-3 c =
-    let a = c .before .before .before .before .before .before .before .before .before .before .before .before .before .before .args in
-    let w = c .before .before .before .before .before .before .before .before .word-at .ensures in
+    let r = c .before .before .before .before .compare-spoilt .ensures in
+    let w = c .before .before .before .before .before .before .before .before .before .before .word-at .ensures in
     record {
-      memories = record { tableIs = refl; as-long = refl; before-as-long = refl; kept-as-long = refl };
-      agrees = λ e. compared-so (now (a .table)) (now (a .machine)) (now (a .kept)) (omega arith) (c .before .past .ensures) (c .before .before .alike .ensures) (c .compared-right .ensures .means e);
+      memories = record { tableIs = r .tableIs; as-long = ap length (r .machineIs); before-as-long = refl; kept-as-long = refl };
+      agrees = λ e. comparison (omega arith) (r .tells .means e);
     }
 
 pub run-item-spec : {M : Type 1} → statement M
@@ -97,9 +89,7 @@ run-item-spec =
     same-length-4
     same-length-5
     returns-2
-    alike-requires
-    past-requires
-    compared-right-requires
+    compare-spoilt-requires
     same-length-6
     same-length-7
     same-length-8

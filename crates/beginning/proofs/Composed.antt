@@ -11,13 +11,13 @@ use lib.ListN.{length, take}
 use Rattle.listing.specs.Listing.{Listing}
 use Rattle.walk.specs.State.{Variable, State}
 use Rattle.walk.specs.Instant.{Write, environmentSize, dueWrites, applyInputs, nextDue}
-use Rattle.walk.specs.Calls.{Words32, running, inputsOf}
+use Rattle.walk.specs.Calls.{Words32, running, inputsOf, dueBefore}
 use Rattle.walk.specs.Question7.{IsState}
-use Rattle.walk_laws.proofs.NextDue.{DueOnlyAfter}
 use Rattle.table.specs.Decode.{tableListing}
 use Rattle.table.specs.Question6.{isTable}
 use Rattle.machine.specs.ReadMachine.{readMachine}
 use Rattle.machine.specs.Limits.{WithinLimits}
+use Rattle.machine_words.specs.Tests.{Dues}
 use Rattle.question7.proofs.FromQuestion6.{table-within-limits}
 use Rattle.scheduler.specs.Rows.{Rows}
 use Rattle.scheduler.specs.Ready.{insertAll}
@@ -38,13 +38,13 @@ use Rattle.ready.specs.Ordered.{Ordered, ordered-none}
 use Rattle.triggers.specs.Chains.{triggersAt, NoTriggers, OnlyTriggers}
 use Rattle.triggers.specs.Awaited.{Sleepers, NamesOf}
 use Rattle.filling.specs.Filling.{orderOf, portsOf, FillsRows, MayFillAll}
-use Rattle.instants.specs.Beginnings.{DueMade, NothingDue, InputsWritten, NumbersBelow}
+use Rattle.instants.specs.Beginnings.{DueMade, DuesTell, InputsWritten, NumbersBelow}
 use Rattle.instants.proofs.InputNumbers.{rising-numbers-below}
 use Rattle.instants.specs.Reaching.{ReadySoFar, Reaches, NothingWritten}
 use Rattle.beginning.specs.Begun.{MayBegin, BegunFrom, Begun}
 use Rattle.beginning.proofs.Found.{found-live, found-tidy, found-environment, found-no-triggers, false-not}
-use Rattle.beginning.proofs.Filled.{state-found, filledFrom, filled-from-holds, filled-rows, may-fill-all}
-use Rattle.beginning.proofs.NotDue.{only-after, rows-not-made, environment-not-made}
+use Rattle.beginning.proofs.Filled.{state-found, filledFrom, filled-from-holds, filled-own, filled-rows, may-fill-all}
+use Rattle.beginning.proofs.NotDue.{dues-tell}
 use Rattle.beginning.proofs.AtRest.{words-unwritten, nothing-written}
 use Rattle.beginning.proofs.Made.{own-as-it-is, own-after-due, made-placed, made-sleepers, made-names}
 
@@ -174,14 +174,14 @@ module _ (t m₀ : List ℕ) (table : isTable t ≡ true) (small : Words32 m₀)
       listed = listed-stand filled-stand O
 
       -- before due writes
-      not-due : (moment : ℕ) → DueOnlyAfter moment (nextDue s) → NothingDue n moment m₂
-      not-due moment after = record {
-        rows = rw (listed .rows) (rows-not-made listing moment filled s held state after);
-        environment = rw (listed .outer) (environment-not-made listing moment filled s held state after);
-      }
-
       unwritten : NothingWritten n m₂
       unwritten = nothing-written listing n m₂ filled s held state (listed .rows) (listed .outer) (listed .tidy)
+
+      told : (moment : ℕ) (dues : List ℕ) → 0 < moment → dueBefore (nextDue s) moment ≡ false → Dues n (take 12288 m₀) dues → DuesTell n moment dues m₂
+      told moment dues pos quiet D =
+          dues-tell listing n moment m₀ m₂ dues filled s held pos quiet D (limits .ports) (filled-own t m₀ table small s e)
+          (λ q h. found-tidy listing limits m₀ small s e .slots q h .tidy .few) (found-environment listing limits m₀ small s e)
+          (listed .rows) (listed .outer) unwritten
 
       nobody-ready : ListsOf listing m₁ m₂ → ReadySoFar listing n m₂ []
       nobody-ready lists =
@@ -217,7 +217,7 @@ module _ (t m₀ : List ℕ) (table : isTable t ≡ true) (small : Words32 m₀)
             all-ready = rw (written .rows, written .outer) (λ woken sound full. ready-any-order s moment inputs woken held state sound full)
 
 -- ── the parts of `begin_instant` ──────────────────────────────────────────────────────────────────
-module _ (t m₀ : List ℕ) (moment soonest : ℕ) (numbers values : List ℕ) (P : MayBegin t m₀ moment soonest numbers values) where
+module _ (t m₀ : List ℕ) (moment : ℕ) (dues numbers values : List ℕ) (P : MayBegin t m₀ moment dues numbers values) where
   inputs-few : (tableListing t) .inputs ≤ environmentSize (tableListing t)
   unfolding environmentSize
   inputs-few = omega arith
@@ -249,17 +249,15 @@ module _ (t m₀ : List ℕ) (moment soonest : ℕ) (numbers values : List ℕ) 
 
       -- k is the number of ports as the code has it
       module _ (k : ℕ) (ports : (k ≡ environmentSize (tableListing t)) × (k ≤ 16)) (m₂ : List ℕ) (O : OnlyTriggers m₁ m₂) (q₀ : ReadyList) (none : slotsOf q₀ ≡ []) where
-        nothing-due-at : (soonest ≡ moment → ⊥) → NothingDue k moment m₂
-        nothing-due-at other =
-            rw (ports .0) (not-due t m₀ (P .table) small (P .state) (P .stands) m₁ F m₂ O moment
-            (only-after soonest moment (nextDue (P .state)) (P .next) (P .nothing-due) other))
+        dues-told : DuesTell k moment dues m₂
+        dues-told = rw (ports .0) (told t m₀ (P .table) small (P .state) (P .stands) m₁ F m₂ O moment dues (P .later) (P .nothing-due) (P .each))
 
-        pub may-make-due : (12288 ≤ length m₂) × (k ≤ 16) × (0 < moment) × ((soonest ≡ moment → ⊥) → NothingDue k moment m₂) × Ordered (rowsOf m₂) (slotsOf q₀)
+        pub may-make-due : (12288 ≤ length m₂) × (k ≤ 16) × (0 < moment) × (length dues ≡ 65) × DuesTell k moment dues m₂ × Ordered (rowsOf m₂) (slotsOf q₀)
         may-make-due =
             let a = F .outside .size in
             let b = O .outside .size in
             let long = P .size in
-            (omega arith, ports .1, P .later, nothing-due-at, rw none ordered-none)
+            (omega arith, ports .1, P .later, P .places, dues-told, rw none ordered-none)
 
         module _ (m₃ : List ℕ) (q₁ : ReadyList)
             (D : DueMade k moment m₂ m₃ × Ordered (rowsOf m₃) (slotsOf q₁) × (NothingWritten k m₂ → Reaches k m₂ m₃ (slotsOf q₀) (slotsOf q₁))) where

@@ -29,6 +29,7 @@ use Rattle.filling.specs.Filling.{orderOf, portsOf, Fillable, MayFillAll}
 use Rattle.beginning.proofs.Sitting.{holds-sits}
 use Rattle.beginning.proofs.AtInstructions.{used-goes-on}
 use Rattle.beginning.proofs.Passing.{fillable-all}
+use Rattle.beginning.proofs.NotDue.{own-kept}
 use Rattle.beginning.proofs.Found.{found-state, found-few, found-environment, found-keeps, found-used}
 
 pub table-fits : (t : List ℕ) → isTable t ≡ true → TableFits (tableListing t)
@@ -56,6 +57,10 @@ module _ (t words : List ℕ) (table : isTable t ≡ true) (small : Words32 word
   pub filled-from-holds : Holds true listing filledFrom (s .environment) s
   unfolding filledFrom
   filled-from-holds = pass-holds listing (table-fits t table) s state-found (rowsOf words) (orderOf words) (λ level. 64) keeps
+
+  pub filled-own : (q : ℕ) → (filledFrom q) .own ≡ (rowsOf words q) .own
+  unfolding filledFrom
+  filled-own q = own-kept listing (s .environment) (orderOf words) (rowsOf words) (λ level. 64) q
 
   ports : portsOf t words ≡ s .environment
   ports = found-environment listing limits words small s e

@@ -1,52 +1,60 @@
--- Where the next moment due is none or after t, making the writes due at t changes nothing: no variable of a state at rest is marked.
--- Letters: σ rows, q a slot, s the state, xs variables, x and y moments due or none, the tree's as in scheduler's Place and Held.
-use mathlib.Core.Path.{_≡_, refl, sym, ap₂, subst, _∙_, fun-ext}
-use mathlib.Core.Bool.{Bool, true, false}
-use mathlib.Core.List.{List, _∷_}
-use Prim.Native.Nat.{ℕ, zero, suc, _<_, _≤_}
-use native.Mathlib.Decide.{decLt}
+-- Nothing is due before t. So a block whose soonest moment due is known, and is not t, has nothing due at t: making the writes due at t would change nothing.
+-- Letters: σ rows, q a slot, s the state, x a moment due or none, d one as a number (0: none), m₀ and m the machine's words, the tree's as in
+-- scheduler's Place and Held.
+use mathlib.Core.Path.{_≡_, refl, sym, ap, subst, _∙_, fun-ext}
+use mathlib.Core.Bool.{Bool, true, false, cond}
+use mathlib.Core.List.{List, [], _∷_}
+use Prim.Native.Nat.{ℕ, zero, suc, _+_, _*_, _-_, _<_, _≤_}
+use native.Mathlib.Decide.{decLt, ℕ-discrete}
 use native.Mathlib.Omega.{arith}
-use lib.Dec.{leb}
-use borrow.Author.Tests.{leb-true, leb-false, ltb-false, ne-eqb}
+use lib.Dec.{ltb}
+use lib.ListN.{getD, take}
+use lib.Seq.{getD-take}
+use borrow.Author.Tests.{ltb-true, ltb-false}
 use Rattle.listing.specs.Listing.{Listing}
-use Rattle.walk.specs.State.{Waiting, idle, due, Variable, State}
-use Rattle.walk.specs.Instant.{NextDue, never, moment, earlierOf, earlier, dueOf, dueOfVariables, dueWrite, madeIfDue, dueWrites, nextDue}
+use Rattle.walk.specs.State.{Variable, State}
+use Rattle.walk.specs.Instant.{NextDue, never, moment, dueOfVariables, nextDue}
 use Rattle.walk.specs.Calls.{dueBefore}
 use Rattle.walk.specs.Question7.{IsState, allAtRest}
 use Rattle.walk_laws.proofs.NextDue.{DueOnlyAfter, never-due, due-later}
-use Rattle.walk_laws.proofs.Idle.{NoMarks, none-marked, first-unmarked, at-rest-no-marks}
+use Rattle.walk_laws.proofs.Idle.{NoMarks, at-rest-no-marks}
+use Rattle.machine.specs.Words as words
+use Rattle.machine.specs.Words.{blockAt, environmentBlock}
 use Rattle.machine.specs.Due.{dueAt}
-use Rattle.scheduler.specs.Rows.{Rows, withOwn}
-use Rattle.scheduler.specs.Beginning.{ownIf, dueInRows, dueIf, dueBelow, nextDueOfRows}
+use Rattle.machine_words.specs.Tests.{slotDue, Dues}
+use Rattle.scheduler.specs.Rows.{Row, Rows, withRow, withChildren}
+use Rattle.scheduler.specs.Beginning.{dueIf, dueBelow, nextDueOfRows}
+use Rattle.scheduler.specs.Records.{filledRow, filledAt, filledRows}
 use Rattle.scheduler.proofs.Place.{Tree, nil, put, erase}
 use Rattle.scheduler.proofs.Sorted.{In, here, there, in-cases, Either, this, that}
-use Rattle.scheduler.proofs.Held.{Entry, rowFor, Held, held-put}
+use Rattle.scheduler.proofs.Held.{Entry, rowFor, Held, held-put, withRow-same, withRow-other}
 use Rattle.scheduler.proofs.Kept.{slotsOf}
 use Rattle.scheduler.proofs.Begun.{Settled, at-wait, at-fork, state-settled}
-use Rattle.scheduler.proofs.Holds.{Holds, slot-below, holds-due}
+use Rattle.scheduler.proofs.Holds.{Holds, holds-due}
+use Rattle.blocks.specs.Blocks.{block, nonzero, variablesIn, rowAt, rowsOf, environmentOf}
+use Rattle.blocks.proofs.RowChanges.{row-of}
+use Rattle.finishing.proofs.DueSlots.{block-due}
+use Rattle.finishing.proofs.EndedIsRead.{first-block}
+use Rattle.instants.specs.Beginnings.{DuesTell}
+use Rattle.instants.specs.Reaching.{NothingWritten}
+use Rattle.instants.proofs.PassedOver.{both-after, variables-passed-over, slot-passed-over}
 
--- ── the next moment due is after t ────────────────────────────────────────────────────────────────
--- Nothing is due before t, and the next moment due is not t.
-pub only-after : (soonest t : ℕ) (x : NextDue) → dueAt soonest ≡ x → dueBefore x t ≡ false → (soonest ≡ t → ⊥) → DueOnlyAfter t x
-unfolding dueAt dueBefore
-only-after zero t x e f n = subst (DueOnlyAfter t) e never-due
-only-after (suc d) t x e f n =
-    let g : dueBefore (moment (suc d)) t ≡ false = rw (← e) at f in
-    let l : t ≤ suc d = ltb-false _ _ g in
+-- ── moments ───────────────────────────────────────────────────────────────────────────────────────
+not-before : (t : ℕ) (x : NextDue) → 0 < t → dueBefore x t ≡ false → DueOnlyAfter (t - 1) x
+unfolding dueBefore
+not-before t never pos e = never-due
+not-before t (moment d) pos e = let l : t ≤ d = ltb-false _ _ e in due-later {m = d} (omega arith)
+
+-- due at t or later, and known not to be due at t
+after-unless : (t d : ℕ) (x : NextDue) → 0 < t → DueOnlyAfter (t - 1) x → dueAt d ≡ x → (d ≡ t → ⊥) → DueOnlyAfter t x
+unfolding dueAt
+after-unless t zero x pos h e n = subst (DueOnlyAfter t) e never-due
+after-unless t (suc d) x pos h e n =
+    let l = later (subst (DueOnlyAfter (t - 1)) (sym e) h) in
     subst (DueOnlyAfter t) e (due-later (omega (arith, n)))
-
-both-after : (t : ℕ) (x y : NextDue) → DueOnlyAfter t (earlier x y) → DueOnlyAfter t x × DueOnlyAfter t y
-unfolding earlier earlierOf
-both-after t never y h = (never-due, h)
-both-after t (moment a) never h = (h, never-due)
-both-after t (moment a) (moment b) h = go (leb a b) refl h
   where
-    later : {m : ℕ} → DueOnlyAfter t (moment m) → t < m
+    later : {m : ℕ} → DueOnlyAfter (t - 1) (moment m) → t - 1 < m
     later (due-later l) = l
-
-    go : (p : Bool) → leb a b ≡ p → DueOnlyAfter t (earlierOf p a b) → DueOnlyAfter t (moment a) × DueOnlyAfter t (moment b)
-    go true e k = let l = later k in let g : a ≤ b = leb-true _ _ e in (k, due-later {m = b} (omega arith))
-    go false e k = let l = later k in let g : b < a = leb-false _ _ e in (due-later {m = a} (omega arith), k)
 
 row-after : (t : ℕ) (σ : Rows) (x : NextDue) (n q : ℕ) → q < n → (σ q) .used ≡ true → DueOnlyAfter t (dueBelow σ n x) → DueOnlyAfter t (dueOfVariables ((σ q) .own))
 unfolding dueBelow dueIf
@@ -66,19 +74,6 @@ rest-after : (t : ℕ) (σ : Rows) (x : NextDue) (n : ℕ) → DueOnlyAfter t (d
 unfolding dueBelow
 rest-after t σ x zero k = k
 rest-after t σ x (suc n) k = rest-after t σ x n (both-after t _ _ k .1)
-
--- ── variables without marks ───────────────────────────────────────────────────────────────────────
-not-made : (t old : ℕ) (w : Waiting) → DueOnlyAfter t (dueOf w) → dueWrite t old w ≡ record { value = old; written = false; waiting = w }
-unfolding dueWrite madeIfDue dueOf
-not-made t old idle k = refl
-not-made t old (due m v) (due-later l) = rw (ne-eqb m t (λ e. omega arith))
-
-none-made : (t : ℕ) {xs : List Variable} → NoMarks xs → DueOnlyAfter t (dueOfVariables xs) → dueWrites t xs ≡ xs
-unfolding dueWrites dueOfVariables
-none-made t none-marked k = refl
-none-made t (first-unmarked {x = x} e h) k =
-    let p = both-after t _ _ k in
-    ap₂ _∷_ (not-made t (x .value) (x .waiting) (p .0) ∙ (λ i. record { value = x .value; written = sym e i; waiting = x .waiting })) (none-made t h (p .1))
 
 -- ── the rows that hold a state ────────────────────────────────────────────────────────────────────
 module _ (listing : Listing) (rest : List Variable → Bool) {σ : Rows} where
@@ -104,21 +99,89 @@ module _ (listing : Listing) (σ : Rows) (s : State) (H : Holds true listing σ 
       let settled = subst (λ f. Settled listing (allAtRest (s .now)) 0 f) (sym (H .tree-is)) (state-settled listing (allAtRest (s .now)) (I .tree)) in
       at-rest-no-marks (s .now) ((σ q) .own) (own-rests listing (allAtRest (s .now)) (H .tree) (H .held) settled q (H .whole q u))
 
-module _ (listing : Listing) (t : ℕ) (σ : Rows) (s : State) (H : Holds true listing σ (s .environment) s) (I : IsState listing s) (after : DueOnlyAfter t (nextDue s)) where
-  rows-after : DueOnlyAfter t (dueBelow σ 64 (dueOfVariables (s .environment)))
-  unfolding nextDueOfRows
-  rows-after = subst (DueOnlyAfter t) (sym (holds-due H)) after
-
-  used-not-made : (q : ℕ) → (σ q) .used ≡ true → dueWrites t ((σ q) .own) ≡ (σ q) .own
-  used-not-made q u = none-made t (used-no-marks listing σ s H I q u) (row-after t σ _ 64 q (slot-below H q (H .whole q u)) u rows-after)
-
-  pub rows-not-made : dueInRows t σ ≡ σ
-  unfolding dueInRows ownIf withOwn
-  rows-not-made = fun-ext λ q. go q ((σ q) .used) refl
+-- ── the pass over the walking order leaves own variables as they are ──────────────────────────────
+module _ (listing : Listing) (environment : List Variable) where
+  own-at : (σ : Rows) (latest : ℕ → ℕ) (l s q : ℕ) → (filledAt listing σ environment latest l s q) .own ≡ (σ q) .own
+  unfolding filledAt filledRow withChildren
+  own-at σ latest zero s q = go (ℕ-discrete q s)
     where
-      go : (q : ℕ) (u : Bool) → (σ q) .used ≡ u → dueInRows t σ q ≡ σ q
-      go q true e = rw (e, used-not-made q e)
-      go q false e = rw e
+      go : Dec (q ≡ s) → (filledAt listing σ environment latest zero s q) .own ≡ (σ q) .own
+      go (yes e) = rw e (ap (λ (r : Row). r .own) (withRow-same σ s _))
+      go (no n) = ap (λ (r : Row). r .own) (withRow-other σ s _ q n)
+  own-at σ latest (suc l) s q = go (ℕ-discrete q s)
+    where
+      p : ℕ
+      p = latest l
 
-  pub environment-not-made : dueWrites t (s .environment) ≡ s .environment
-  environment-not-made = none-made t (at-rest-no-marks (s .now) (s .environment) (I .resting)) (rest-after t σ _ 64 rows-after)
+      counted : Rows
+      counted = withRow σ p (withChildren (σ p) (suc ((σ p) .children)))
+
+      counted-own : Dec (q ≡ p) → (counted q) .own ≡ (σ q) .own
+      counted-own (yes e) = rw e (ap (λ (r : Row). r .own) (withRow-same σ p _))
+      counted-own (no n) = ap (λ (r : Row). r .own) (withRow-other σ p _ q n)
+
+      go : Dec (q ≡ s) → (filledAt listing σ environment latest (suc l) s q) .own ≡ (σ q) .own
+      go (yes e) = rw e (ap (λ (r : Row). r .own) (withRow-same counted s _))
+      go (no n) = ap (λ (r : Row). r .own) (withRow-other counted s _ q n) ∙ counted-own (ℕ-discrete q p)
+
+  pub own-kept : (ss : List ℕ) (σ : Rows) (latest : ℕ → ℕ) (q : ℕ) → (filledRows listing σ environment latest ss q) .own ≡ (σ q) .own
+  unfolding filledRows
+  own-kept [] σ latest q = refl
+  own-kept (s ∷ ss) σ latest q = own-kept ss _ _ q ∙ own-at σ latest ((σ s) .level) s q
+
+-- ── the soonest moment due of a block, as question 7's pass reads it, and as rows have it ─────────
+module _ (m : List ℕ) where
+  same-first : (q : ℕ) → q ≤ 64 → block (take 12288 m) q ≡ block m q
+  unfolding block
+  same-first q h = fun-ext λ k. go k (ltb k 184) refl
+    where
+      go : (k : ℕ) (p : Bool) → ltb k 184 ≡ p → cond p (getD (take 12288 m) (blockAt q + k) 0) 0 ≡ cond p (getD m (blockAt q + k) 0) 0
+      go k true e = let l : k < 184 = ltb-true _ _ e in getD-take 12288 m (blockAt q + k) 0 (omega arith)
+      go k false e = refl
+
+  variables-due : (q k : ℕ) → q ≤ 64 → k ≤ 16 → dueOfVariables (words.variablesIn (take 12288 m) (blockAt q + 8) k) ≡ dueOfVariables (variablesIn (block m q) k)
+  variables-due q k h few =
+      let e : blockAt q + 8 ≡ 336 + q * 184 = omega arith in
+      rw e (block-due (take 12288 m) q k few ∙ ap (λ b. dueOfVariables (variablesIn b k)) (same-first q h))
+
+  slot-due : (q : ℕ) → q < 64 → block m q 4 ≤ 16 → slotDue (take 12288 m) q ≡ dueOfVariables ((rowsOf m q) .own)
+  unfolding slotDue rowAt
+  slot-due q h few =
+      rw (first-block m q 4 (omega arith) (omega arith))
+      (variables-due q (block m q 4) (omega arith) few ∙ ap (λ (r : Row). dueOfVariables (r .own)) (sym (row-of m q h)))
+
+  environment-due : (n : ℕ) → n ≤ 16 → dueOfVariables (words.variablesIn (take 12288 m) (environmentBlock + 8) n) ≡ dueOfVariables (environmentOf n m)
+  unfolding environmentOf
+  environment-due n few = variables-due 64 n (omega arith) few
+
+-- ── the words before the due writes ───────────────────────────────────────────────────────────────
+-- m stands for rows that hold s, whose own variables are those of m₀; `dues` was kept of m₀.
+module _ (listing : Listing) (n t : ℕ) (m₀ m dues : List ℕ) (σ : Rows) (s : State) (H : Holds true listing σ (s .environment) s) (pos : 0 < t)
+    (quiet : dueBefore (nextDue s) t ≡ false) (D : Dues n (take 12288 m₀) dues) (few : n ≤ 16) (own : (q : ℕ) → (σ q) .own ≡ (rowsOf m₀ q) .own)
+    (counts : (q : ℕ) → q < 64 → block m₀ q 4 ≤ 16) (environment₀ : environmentOf n m₀ ≡ s .environment) (rows : rowsOf m ≡ σ)
+    (environment : environmentOf n m ≡ s .environment) (N : NothingWritten n m) where
+  rows-after : DueOnlyAfter (t - 1) (dueBelow σ 64 (dueOfVariables (s .environment)))
+  unfolding nextDueOfRows
+  rows-after = subst (DueOnlyAfter (t - 1)) (sym (holds-due H)) (not-before t (nextDue s) pos quiet)
+
+  slot-after : (q : ℕ) → q < 64 → (getD dues q 0 ≡ t → ⊥) → nonzero (block m q 0) ≡ true → DueOnlyAfter t (dueOfVariables (variablesIn (block m q) (block m q 4)))
+  unfolding rowAt
+  slot-after q h other u =
+      let same : σ q ≡ rowAt (block m q) = ap (λ (ρ : Rows). ρ q) (sym rows) ∙ row-of m q h in
+      let used : (σ q) .used ≡ true = ap (λ (r : Row). r .used) same ∙ u in
+      let known : dueAt (getD dues q 0) ≡ dueOfVariables ((σ q) .own) = D .slots q h ∙ (slot-due m₀ q h (counts q h) ∙ ap dueOfVariables (sym (own q))) in
+      subst (λ (r : Row). DueOnlyAfter t (dueOfVariables (r .own))) same
+      (after-unless t (getD dues q 0) _ pos (row-after (t - 1) σ _ 64 q h used rows-after) known other)
+
+  environment-after : (getD dues 64 0 ≡ t → ⊥) → DueOnlyAfter t (dueOfVariables (variablesIn (block m 64) n))
+  unfolding environmentOf
+  environment-after other =
+      let known : dueAt (getD dues 64 0) ≡ dueOfVariables (s .environment) = D .environment ∙ (environment-due m₀ n few ∙ ap dueOfVariables environment₀) in
+      subst (λ (xs : List Variable). DueOnlyAfter t (dueOfVariables xs)) (sym environment)
+      (after-unless t (getD dues 64 0) _ pos (rest-after (t - 1) σ _ 64 rows-after) known other)
+
+  pub dues-tell : DuesTell n t dues m
+  dues-tell = record {
+    slots = λ q h other. slot-passed-over (block m q) t pos (N .slots q h) (slot-after q h other);
+    environment = λ other. variables-passed-over (block m 64) t n few pos (N .environment) (environment-after other);
+  }

@@ -12,7 +12,7 @@ use Rattle.walk.specs.Calls.{running, inputsRise, inputsOf, dueBefore}
 use Rattle.table.specs.Decode.{tableListing}
 use Rattle.table.specs.Question6.{isTable}
 use Rattle.machine.specs.ReadMachine.{readMachine}
-use Rattle.machine.specs.Due.{dueAt}
+use Rattle.machine_words.specs.Tests.{Dues}
 use Rattle.scheduler.specs.Rows.{Rows, noRows, withRow}
 use Rattle.scheduler.specs.Triggers.{triggersOf, readyOf}
 use Rattle.scheduler.specs.Beginning.{dueInRows, mainRow, newEnvironment}
@@ -27,15 +27,16 @@ use Rattle.steps.specs.declared.running.Running.{Running}
 use Rattle.run.specs.Placed.{Placed}
 
 -- ── an instant ────────────────────────────────────────────────────────────────────────────────────
--- The words are read as a running state, whose next moment due is known (0: none); the moment is not the start's, and nothing is due before it;
--- questions 1 and 11 of document 01 are answered for the inputs.
-pub record MayBegin (t words : List ℕ) (moment soonest : ℕ) (numbers values : List ℕ) : Type 0 where
+-- The words are read as a running state, and the soonest moment due of each block is known; the moment is not the start's, and nothing is due before
+-- it; questions 1 and 11 of document 01 are answered for the inputs.
+pub record MayBegin (t words : List ℕ) (moment : ℕ) (dues numbers values : List ℕ) : Type 0 where
   pub table : isTable t ≡ true
   pub size : 12288 ≤ length words
   pub state : State
   pub stands : readMachine (tableListing t) (take 12288 words) ≡ some (running state)
   pub later : 0 < moment
-  pub next : dueAt soonest ≡ nextDue state
+  pub places : length dues ≡ 65
+  pub each : Dues (environmentSize (tableListing t)) (take 12288 words) dues
   pub nothing-due : dueBefore (nextDue state) moment ≡ false
   pub inputs : inputsRise ((tableListing t) .inputs) 0 (inputsOf numbers values) ≡ true
   pub same : length numbers ≡ length values

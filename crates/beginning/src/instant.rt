@@ -24,21 +24,21 @@ fn ports(t: &[u32]) -> usize
     inputs + outputs
 }
 
-// Rows filled in, sleepers listed, due writes and inputs made; the routines that are ready. Given the next moment due (0: none).
+// Rows filled in, sleepers listed, due writes and inputs made; the routines that are ready. Given the soonest moment due of each block.
 pub fn begin_instant(
     t: &[u32],
     m: &mut [u32],
     present: Moment,
-    soonest: u64,
+    dues: &[u64; 65],
     numbers: &[u32],
     values: &[u32],
 ) -> ReadyList
-    requires { ⌜ MayBegin (now t) (now m) (present .0) soonest (now numbers) (now values) ⌝ }
+    requires { ⌜ MayBegin (now t) (now m) (present .0) (now dues) (now numbers) (now values) ⌝ }
     ensures { λ r. ⌜ Begun (now (t .entry)) (now (m .entry)) (now (m .exit)) (present .0) (now (numbers .entry)) (now (values .entry)) r ⌝ }
 {
     let n = ports(t);
     fill_rows(t, m);
     list_sleepers(m, t);
-    let due = make_due_at(m, ready::empty(), n, present.0, soonest);
+    let due = make_due_at(m, ready::empty(), n, present.0, dues);
     write_inputs(m, due, numbers, values)
 }

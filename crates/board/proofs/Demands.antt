@@ -26,10 +26,10 @@ use Rattle.board_halves.proofs.Demand3 as Halves
 use Rattle.layout.specs.Layout.{layout}
 use Rattle.load.proofs.loading.load.Statement as Load
 use Rattle.load.proofs.loading.load.Met as load
-use Rattle.engine.proofs.calls.start.Statement as Start
-use Rattle.engine.proofs.calls.start.Met as start
-use Rattle.engine.proofs.calls.instant.Statement as Instant
-use Rattle.engine.proofs.calls.instant.Met as instant
+use Rattle.engine.proofs.start_call.start.Statement as Start
+use Rattle.engine.proofs.start_call.start.Met as start
+use Rattle.engine.proofs.instant_call.instant.Statement as Instant
+use Rattle.engine.proofs.instant_call.instant.Met as instant
 use Rattle.comparison.proofs.alike.Statement as Alike
 use Rattle.comparison.proofs.alike.Met as alike
 use Rattle.board.proofs.LayoutIsExact.{layout-is-exact}

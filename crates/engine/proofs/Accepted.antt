@@ -13,14 +13,13 @@ use lib.Seq.{getD-take}
 use Rattle.listing.specs.Listing.{Listing}
 use Rattle.walk.specs.State.{State}
 use Rattle.walk.specs.State as walk
-use Rattle.walk.specs.Instant.{Done, Write, nextDue, start, instant}
-use Rattle.walk.specs.Calls.{running, Outcome, refused, answered, outcomeNumber, outcomePlace, outcomeSteps, outcomeListed, outcomeDue, MachineAfter, untouched, halts, runs, numbersAfter, valuesAfter, dueBefore, inputsRise, inputsOf, allowed, startLongEnough, instantLongEnough, startCall, instantCall, firstWords}
+use Rattle.walk.specs.Instant.{Done, Write, environmentSize, nextDue, start, instant}
+use Rattle.walk.specs.Calls.{Outcome, refused, answered, outcomeNumber, outcomePlace, outcomeSteps, outcomeListed, outcomeDue, MachineAfter, untouched, halts, runs, numbersAfter, valuesAfter, dueBefore, inputsRise, inputsOf, allowed, startLongEnough, instantLongEnough, startCall, instantCall, firstWords}
 use Rattle.walk.specs.Promises.{Keeps}
 use Rattle.walk.specs.Promises as promises
 use Rattle.table.specs.Question6.{isTable, readTable}
 use Rattle.table.specs.Decode.{tableListing}
-use Rattle.machine.specs.Due.{dueAt}
-use Rattle.machine.specs.ReadMachine.{readMachine}
+use Rattle.machine_words.specs.Tests.{Dues}
 use Rattle.machine.proofs.Basics.{and-left, and-right}
 use Rattle.machine.proofs.MachineWords.{running-first-word-is-0}
 use Rattle.layout.specs.Layout.{layout}
@@ -28,9 +27,7 @@ use Rattle.engine.proofs.Ways.{StateWay, not-after, due-before, not-ris
 use Rattle.engine.proofs.Ways as ways
 use Rattle.engine.specs.declared.answers.Answer.{Answer}
 use Rattle.engine.specs.declared.answers.Answer.the-variants as answers
-use Rattle.questions.specs.declared.Questioned.{Questioned}
-use Rattle.questions.specs.declared.Questioned.the-variants.{Refused, Passed}
-use Rattle.questions.specs.Asked.{longEnough, asked, askedBy, InstantAsked, StartAsked}
+use Rattle.questions.specs.Asked.{longEnough, asked, InstantAsked, StartAsked}
 use Rattle.engine.specs.Answers.{resultOf}
 use Rattle.engine.specs.Conclusions.{Leaves, leaves-stopped, leaves-state, Concludes}
 use Rattle.engine.specs.Works.{MayInstant}
@@ -51,14 +48,6 @@ asked-passes : (r : ℕ) (next o : Outcome) → asked r next ≡ o → r ≡ 0 �
 unfolding asked
 asked-passes zero next o e z = sym e
 asked-passes (suc k) next o e z = absurd (omega arith)
-
-refused-by : (r : Questioned) (k : ℕ) (next o : Outcome) → askedBy r next ≡ o → r ≡ Refused k → o ≡ refused k
-unfolding askedBy
-refused-by r k next o e f = sym e ∙ ap (λ z. askedBy z next) f
-
-passed-by : (r : Questioned) (soonest : ℕ) (next o : Outcome) → askedBy r next ≡ o → r ≡ Passed soonest → o ≡ next
-unfolding askedBy
-passed-by r soonest next o e f = sym e ∙ ap (λ z. askedBy z next) f
 
 never-refused : {A : Type 0} (k : ℕ) (x : walk.Result Done) → refused k ≡ answered x → A
 unfolding answered
@@ -114,12 +103,12 @@ state-passes (walks a b c d) x e =
     not-false-is true e = sym e
     not-false-is false e = refl
 
-pub record Accepted (table machine : List ℕ) (t soonest : ℕ) (ns vs on ov : List ℕ) (allowance : ℕ) : Type 0 where
-  pub may : MayInstant (firstWords table) machine t soonest ns vs allowance
+pub record Accepted (table machine : List ℕ) (t : ℕ) (ns vs on ov : List ℕ) (allowance : ℕ) (dues : List ℕ) : Type 0 where
+  pub may : MayInstant (firstWords table) machine t dues ns vs allowance
   pub lengths : Long (length table) (length machine) (length on) (length ov)
   pub outcome : instantCall layout table machine t ns vs on ov allowance ≡ answered (instant (tableListing (firstWords table)) (may .state) t (inputsOf ns vs) allowance)
 
-module _ (table machine : List ℕ) (t : ℕ) (ns vs on ov : List ℕ) (allowance : ℕ) where
+module _ (table machine : List ℕ) (t : ℕ) (ns vs on ov : List ℕ) (allowance : ℕ) (dues : List ℕ) where
   lengths-of : instantLongEnough table machine ns vs on ov ≡ true → Long (length table) (length machine) (length on) (length ov) × (length ns ≡ length vs)
   unfolding instantLongEnough startLongEnough longEnough
   lengths-of e = (
@@ -127,15 +116,15 @@ module _ (table machine : List ℕ) (t : ℕ) (ns vs on ov : List ℕ) (allowanc
     eqb-true _ _ (and-right (longEnough (length table) (length machine) (length on) (length ov)) _ e),
   )
 
-  by-way : {o : Outcome} (soonest : ℕ) → ((s : State) → readMachine (tableListing (firstWords table)) (firstWords machine) ≡ some (running s) → dueAt soonest ≡ nextDue s) →
+  by-way : {o : Outcome} → length dues ≡ 65 → Dues (environmentSize (tableListing (firstWords table))) (firstWords machine) dues →
       InstantWay layout table machine t ns vs on ov allowance o → (x : walk.Result Done) → o ≡ answered x →
-      instantCall layout table machine t ns vs on ov allowance ≡ o → Accepted table machine t soonest ns vs on ov allowance
+      instantCall layout table machine t ns vs on ov allowance ≡ o → Accepted table machine t ns vs on ov allowance dues
   unfolding readTable
-  by-way d next (ways.InstantWay.too-short e) x f g = never-refused 1 x f
-  by-way d next (ways.InstantWay.no-table e h) x f g = never-refused 6 x f
-  by-way d next (no-state e h i) x f g = never-refused 7 x f
-  by-way d next (stopped-before e h i) x f g = never-refused 8 x f
-  by-way d next (from-state {l = l} {s = s} e h i c) x f g =
+  by-way places each (ways.InstantWay.too-short e) x f g = never-refused 1 x f
+  by-way places each (ways.InstantWay.no-table e h) x f g = never-refused 6 x f
+  by-way places each (no-state e h i) x f g = never-refused 7 x f
+  by-way places each (stopped-before e h i) x f g = never-refused 8 x f
+  by-way places each (from-state {l = l} {s = s} e h i c) x f g =
       let p = state-passes c x f in
       let (q, q′) = lengths-of e in
       let (a, b) = table-read (isTable (firstWords table)) (tableListing (firstWords table)) l h in
@@ -147,7 +136,8 @@ module _ (table machine : List ℕ) (t : ℕ) (ns vs on ov : List ℕ) (allowanc
           state = s;
           stands = rw b i;
           later = p .later;
-          next = next s (rw b i);
+          places = places;
+          each = each;
           nothing-due = p .nothing-due;
           inputs = rw b (p .rise);
           most = p .most;
@@ -156,15 +146,14 @@ module _ (table machine : List ℕ) (t : ℕ) (ns vs on ov : List ℕ) (allowanc
         outcome = g ∙ (p .is ∙ ap (λ (z : Listing). answered (instant z s t (inputsOf ns vs) allowance)) (sym b));
       }
 
-  pub instant-refused : (r : Questioned) (k : ℕ) → InstantAsked table machine t ns vs on ov allowance r → r ≡ Refused k →
-      Keeps layout table machine on ov machine on ov (instantCall layout table machine t ns vs on ov allowance) (resultOf (answers.Refused k))
-  instant-refused r k A e = refusal-keeps table machine on ov _ k (refused-by r k _ _ (A .outcome) e)
+  pub instant-refused : (r : ℕ) → InstantAsked table machine t ns vs on ov allowance dues r → (r ≡ 0 → ⊥) →
+      Keeps layout table machine on ov machine on ov (instantCall layout table machine t ns vs on ov allowance) (resultOf (answers.Refused r))
+  instant-refused r A h = refusal-keeps table machine on ov _ r (asked-refuses r _ _ (A .outcome) h)
 
-  pub instant-accepted : (r : Questioned) (soonest : ℕ) → InstantAsked table machine t ns vs on ov allowance r → r ≡ Passed soonest →
-      Accepted table machine t soonest ns vs on ov allowance
-  instant-accepted r soonest A e =
-      let f = passed-by r soonest _ _ (A .outcome) e in
-      by-way soonest (A .next soonest e) (instant-way layout table machine t ns vs on ov allowance) _ f refl
+  pub instant-accepted : (r : ℕ) → InstantAsked table machine t ns vs on ov allowance dues r → r ≡ 0 → Accepted table machine t ns vs on ov allowance dues
+  instant-accepted r A z =
+      let e = asked-passes r _ _ (A .outcome) z in
+      by-way (A .places) (A .each z) (instant-way layout table machine t ns vs on ov allowance) _ e refl
 
 -- ── the start ─────────────────────────────────────────────────────────────────────────────────────
 pub record StartAccepted (table machine on ov : List ℕ) (allowance : ℕ) : Type 0 where

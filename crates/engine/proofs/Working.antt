@@ -69,7 +69,7 @@ triggers-right listing t s σ environment H =
     }
 
 -- ── an instant ────────────────────────────────────────────────────────────────────────────────────
-module _ (t w₀ : List ℕ) (moment soonest : ℕ) (ns vs : List ℕ) (allowance : ℕ) (may : MayInstant t w₀ moment soonest ns vs allowance) (small : Words32 w₀) where
+module _ (t w₀ : List ℕ) (moment : ℕ) (dues ns vs : List ℕ) (allowance : ℕ) (may : MayInstant t w₀ moment dues ns vs allowance) (small : Words32 w₀) where
   abbrev listing : Listing
   listing = tableListing t
 
@@ -82,7 +82,7 @@ module _ (t w₀ : List ℕ) (moment soonest : ℕ) (ns vs : List ℕ) (allowanc
   abbrev inputs : List Write
   inputs = inputsOf ns vs
 
-  pub may-begin : MayBegin t w₀ moment soonest ns vs
+  pub may-begin : MayBegin t w₀ moment dues ns vs
   may-begin =
       record {
         table = may .table;
@@ -90,7 +90,8 @@ module _ (t w₀ : List ℕ) (moment soonest : ℕ) (ns vs : List ℕ) (allowanc
         state = s;
         stands = may .stands;
         later = omega (arith, may .later);
-        next = may .next;
+        places = may .places;
+        each = may .each;
         nothing-due = may .nothing-due;
         inputs = may .inputs;
         same = may .same;

@@ -6,22 +6,23 @@ use mathlib.Core.Path.{_≡_}
 use Prim.Native.Nat.{ℕ, _≤_, _<_}
 use lib.ListN.{length, take}
 use Rattle.walk.specs.State.{State}
-use Rattle.walk.specs.Instant.{nextDue}
+use Rattle.walk.specs.Instant.{environmentSize, nextDue}
 use Rattle.walk.specs.Calls.{running, dueBefore, inputsRise, inputsOf}
 use Rattle.table.specs.Decode.{tableListing}
 use Rattle.table.specs.Question6.{isTable}
 use Rattle.machine.specs.ReadMachine.{readMachine}
-use Rattle.machine.specs.Due.{dueAt}
+use Rattle.machine_words.specs.Tests.{Dues}
 
--- The next moment due of the state is `soonest` (0: none).
-pub record MayInstant (t words : List ℕ) (moment soonest : ℕ) (inNumbers inValues : List ℕ) (allowance : ℕ) : Type 0 where
+-- `dues` has the soonest moment due of each block.
+pub record MayInstant (t words : List ℕ) (moment : ℕ) (dues inNumbers inValues : List ℕ) (allowance : ℕ) : Type 0 where
   pub size : 12288 ≤ length words
   pub same : length inNumbers ≡ length inValues
   pub table : isTable t ≡ true
   pub state : State
   pub stands : readMachine (tableListing t) (take 12288 words) ≡ some (running state)
   pub later : state .now < moment
-  pub next : dueAt soonest ≡ nextDue state
+  pub places : length dues ≡ 65
+  pub each : Dues (environmentSize (tableListing t)) (take 12288 words) dues
   pub nothing-due : dueBefore (nextDue state) moment ≡ false
   pub inputs : inputsRise ((tableListing t) .inputs) 0 (inputsOf inNumbers inValues) ≡ true
   pub most : allowance ≤ 1000000

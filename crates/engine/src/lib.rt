@@ -1,10 +1,11 @@
 // The calls on the engine: start and instant, of any memories.
 pub mod answers;
-pub mod calls;
 pub mod conclusion;
+pub mod instant_call;
+pub mod start_call;
 
 pub use answers::Answer;
 pub use answers::Due;
 pub use answers::Figures;
-pub use calls::instant;
-pub use calls::start;
+pub use instant_call::instant;
+pub use start_call::start;

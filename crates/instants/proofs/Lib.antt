@@ -1,6 +1,7 @@
 pub mod DueBlocks
 pub mod Passing
 pub mod Turns
+pub mod PassedOver
 pub mod Reached
 pub mod ReachedBlocks
 pub mod InputPass

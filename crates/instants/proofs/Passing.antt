@@ -2,26 +2,20 @@
 -- When all are done, rows and environment are those of the blocks made, and all stay tidy.
 use mathlib.Core.Path.{_≡_, refl, sym, ap, _∙_, subst, fun-ext}
 use mathlib.Core.Bool.{Bool, true, false, cond}
-use mathlib.Core.List.{List, [], _∷_}
-use Prim.Native.Nat.{ℕ, zero, suc, _+_, _*_, _≤_, _<_, min}
+use mathlib.Core.List.{List}
+use Prim.Native.Nat.{ℕ, suc, _≤_, _<_, min}
 use native.Mathlib.Decide.{ℕ-discrete, decLt}
 use native.Mathlib.Omega.{arith}
-use lib.Dec.{ltb}
-use lib.ListN.{length, take, drop}
-use borrow.Author.Tests.{lt-ltb, le-ltb}
-use Rattle.walk.specs.State.{Variable}
 use Rattle.walk.specs.Instant.{dueWrites}
-use Rattle.scheduler.specs.Rows.{Row, Rows, chooseRow, freeRow, withOwn}
+use Rattle.scheduler.specs.Rows.{Row, freeRow, withOwn}
 use Rattle.scheduler.specs.Beginning.{ownIf, dueInRows}
-use Rattle.machine.specs.Words.{blockAt}
 use Rattle.blocks.specs.Blocks.{Block, block, nonzero, rowAt, rowsOf, variablesIn, environmentOf}
-use Rattle.blocks.specs.Changes.{SameOutside, SameTriggers, InBlock}
+use Rattle.blocks.specs.Changes.{SameTriggers, InBlock}
 use Rattle.blocks.proofs.InBlocks.{other-block, same-outside}
-use Rattle.blocks.proofs.Staying.{outside-start, triggers-start}
 use Rattle.blocks.proofs.RowChanges.{row-of, row-past}
-use Rattle.tidy.specs.Tidy.{TidySlot, TidyEnvironment, Tidy}
+use Rattle.tidy.specs.Tidy.{TidySlot, TidyEnvironment}
 use Rattle.instants.specs.Passes.{dueFirst, dueSlot, Mapped}
-use Rattle.instants.specs.Beginnings.{DueMade, NothingDue}
+use Rattle.instants.specs.Beginnings.{DueMade}
 use Rattle.instants.proofs.DueBlocks.{late-words-stay, due-variables, due-row, due-slot-tidy, due-environment-tidy}
 
 pub none-mapped : (f : Block → Block) (m : List ℕ) → Mapped 0 f m m
@@ -98,7 +92,3 @@ module _ (n t : ℕ) (few : n ≤ 16) (pos : 0 < t) (a m m′ : List ℕ) (slots
           environment = subst (λ (b : Block). TidyEnvironment n b) (sym outer-block) (due-environment-tidy (block a 64) t n n (w .environment) (omega arith));
         };
       }
-
-pub nothing-made : {n t : ℕ} {m : List ℕ} → NothingDue n t m → DueMade n t m m
-nothing-made {m = m} N =
-    record { rows = sym (N .rows); environment = sym (N .environment); outside = outside-start m; triggers = triggers-start m; tidy = λ T. T }

@@ -1,19 +1,19 @@
 -- The writes before the run, one after the other, each with the pass along its trigger list: due writes block by block, then inputs.
 -- Letters: a the words at first, m and m′ before and after one write, s and i a variable's block and index, q₀, q and q′ the ready list, t a moment above 0.
-use mathlib.Core.Path.{_≡_, refl, sym, ap, subst, _∙_}
+use mathlib.Core.Path.{_≡_, refl, sym, ap, _∙_}
 use mathlib.Core.Bool.{Bool, true, false}
 use mathlib.Core.List.{List}
-use Prim.Native.Nat.{ℕ, zero, suc, _+_, _≤_, _<_, min}
+use Prim.Native.Nat.{ℕ, _+_, _≤_, _<_, min}
 use native.Mathlib.Decide.{decLt}
 use native.Mathlib.Numerals.{add-one}
 use native.Mathlib.Omega.{arith}
-use lib.ListN.{length, getD}
-use borrow.Author.Tests.{lt-ltb, le-ltb}
+use lib.ListN.{length}
+use borrow.Author.Tests.{lt-ltb}
 use Rattle.walk.specs.State.{Variable}
-use Rattle.scheduler.specs.Rows.{Owner, Row, Rows, rowsWith}
+use Rattle.scheduler.specs.Rows.{Owner, Row, rowsWith}
 use Rattle.scheduler.specs.Engine.{assigned}
 use Rattle.scheduler.specs.Ready.{insertAll}
-use Rattle.blocks.specs.Blocks.{Block, block, variableIn, variablesIn, ownerAt, rowAt, rowsOf, environmentOf}
+use Rattle.blocks.specs.Blocks.{Block, block, variableIn, ownerAt, rowAt, rowsOf, environmentOf}
 use Rattle.blocks.specs.Bindings.{variablesBeside}
 use Rattle.blocks.specs.Changes.{InBlock, Changes, dueBlock, assignedBlock}
 use Rattle.blocks.specs.Store.{Store, storeOf, variableFrom, withVariable, dueVariable}
@@ -26,10 +26,9 @@ use Rattle.ready.proofs.SameLows.{low-with-owner}
 use Rattle.triggers.specs.Chains.{triggersAt}
 use Rattle.triggers.specs.Wakes.{triggeredFrom}
 use Rattle.instants.specs.Passes.{dueFirst, dueSlot, Mapped}
-use Rattle.instants.specs.Beginnings.{NumbersBelow}
 use Rattle.instants.specs.Reaching.{Reaches, reachedIf, ReachesOne, Unwritten, NothingWritten}
 use Rattle.instants.proofs.DueBlocks.{first-words-stay, later-variable}
-use Rattle.instants.proofs.Turns.{no-variable-done, one-more-done}
+use Rattle.instants.proofs.Turns.{no-variable-done, one-more-done, block-passed-over}
 use Rattle.instants.proofs.Passing.{none-mapped, one-more-mapped}
 use Rattle.instants.proofs.Reached.{reaches-one, reaches-none, reaches-then}
 
@@ -128,6 +127,15 @@ one-more-slot t s {a} {m} {m′} h done next o one = record {
   order = o;
   reaches = λ n N. reaches-then (done .reaches n N) (one n (rw (done .words .others s (omega arith) (omega arith)) (N .slots s h)));
 }
+
+-- What is known of a block at first is known when its turn comes.
+pub slot-told : (t s : ℕ) {a m : List ℕ} {known : Type 0} → Mapped s (dueSlot t) a m → s < 64 → (known → dueSlot t (block a s) ≡ block a s) →
+    known → dueSlot t (block m s) ≡ block m s
+slot-told t s M h told k = rw (M .others s (omega arith) (omega arith)) (told k)
+
+pub environment-told : (n t : ℕ) {a m : List ℕ} → Mapped 64 (dueSlot t) a m → dueFirst n t (block a 64) ≡ block a 64 → InBlock 64 m m (dueFirst n t (block m 64))
+environment-told n t {a} {m} M told =
+    block-passed-over m 64 _ (rw (M .others 64 (omega arith) (omega arith)) told)
 
 pub all-reach : (n t : ℕ) {a m m′ q₀ q q′ : List ℕ} → n ≤ 16 → Mapped 64 (dueSlot t) a m → ((k : ℕ) → NothingWritten k a → Reaches k a m q₀ q) →
     ((k : ℕ) → n ≤ length (variablesBeside (storeOf k m) (ownerAt 64 0)) → Unwritten n (block m 64) → Reaches k m m′ q q′) → NothingWritten n a → Reaches n a m′ q₀ q′

@@ -1,8 +1,8 @@
 -- One turn of the due pass over a block: the first i variables done, then one more.
 use mathlib.Core.Path.{_≡_, refl}
-use mathlib.Core.Bool.{Bool, true, false, cond}
+use mathlib.Core.Bool.{true}
 use mathlib.Core.List.{List}
-use Prim.Native.Nat.{ℕ, zero, suc, _+_, _≤_, _<_, min}
+use Prim.Native.Nat.{ℕ, zero, suc, _+_, min}
 use native.Mathlib.Numerals.{add-one}
 use native.Mathlib.Omega.{arith}
 use Rattle.blocks.specs.Blocks.{Block, block, nonzero}
@@ -33,3 +33,7 @@ pub taken-slot-done : {s : ℕ} {a m : List ℕ} (t count : ℕ) → (block a s 
     → InBlock s a m (dueSlot t (block a s))
 unfolding dueSlot
 taken-slot-done {s} {a} t count taken e done = rw (nonzero-above (block a s 0) taken, ← e) done
+
+-- A block that making the due writes would not change may be passed over.
+pub block-passed-over : (m : List ℕ) (s : ℕ) (b : Block) → b ≡ block m s → InBlock s m m b
+block-passed-over m s b e = rw e (in-block-start m s)

@@ -5,9 +5,10 @@ use Prim.Native.Nat.{ℕ, _<_}
 use lib.ListN.{length, getD}
 use Rattle.walk.specs.Instant.{dueWrites, Write, applyInputs}
 use Rattle.scheduler.specs.Beginning.{dueInRows}
-use Rattle.blocks.specs.Blocks.{rowsOf, environmentOf}
+use Rattle.blocks.specs.Blocks.{block, rowsOf, environmentOf}
 use Rattle.blocks.specs.Changes.{SameOutside, SameTriggers}
 use Rattle.tidy.specs.Tidy.{Tidy}
+use Rattle.instants.specs.Passes.{dueFirst, dueSlot}
 
 -- Due writes made everywhere.
 pub record DueMade (n t : ℕ) (before after : List ℕ) : Type 0 where
@@ -17,10 +18,11 @@ pub record DueMade (n t : ℕ) (before after : List ℕ) : Type 0 where
   pub triggers : SameTriggers before after
   pub tidy : Tidy n before → Tidy n after
 
--- No waiting write is due at t: making them would change nothing.
-pub record NothingDue (n t : ℕ) (words : List ℕ) : Type 0 where
-  pub rows : dueInRows t (rowsOf words) ≡ rowsOf words
-  pub environment : dueWrites t (environmentOf n words) ≡ environmentOf n words
+-- Of each block the soonest moment due is known (place s for slot s, 64 for the environment). Where that is not t, making the writes due at t would
+-- change nothing.
+pub record DuesTell (n t : ℕ) (dues words : List ℕ) : Type 0 where
+  pub slots : (s : ℕ) → s < 64 → (getD dues s 0 ≡ t → ⊥) → dueSlot t (block words s) ≡ block words s
+  pub environment : (getD dues 64 0 ≡ t → ⊥) → dueFirst n t (block words 64) ≡ block words 64
 
 -- Inputs written.
 pub record InputsWritten (n : ℕ) (inputs : List Write) (before after : List ℕ) : Type 0 where

@@ -1,7 +1,9 @@
 // Rule 1 of document 01: "Every waiting write due at t is made, and is gone." A write made passes along the trigger list of its variable.
+// Question 7's pass has kept the soonest moment due of each block (`dues`: place s for slot s, 64 for the environment; 0: none). Where that
+// is not t, nothing of the block is due at t, and the block is not looked at.
 ghost use mathlib.Core.Path.{_≡_};
 ghost use Prim.Native.Nat.{ℕ, _≤_, _<_, min};
-ghost use lib.ListN.{length};
+ghost use lib.ListN.{length, getD};
 ghost use Rattle.blocks.specs.Blocks.{block, ownerAt, rowsOf};
 ghost use Rattle.blocks.specs.Bindings.{variablesBeside};
 ghost use Rattle.blocks.specs.Changes.{InBlock};
@@ -9,7 +11,7 @@ ghost use Rattle.blocks.specs.Store.{storeOf};
 ghost use Rattle.ready.specs.Slots.{slotsOf};
 ghost use Rattle.ready.specs.Ordered.{Ordered};
 ghost use Rattle.instants.specs.Passes.{dueFirst, dueSlot, Mapped};
-ghost use Rattle.instants.specs.Beginnings.{DueMade, NothingDue};
+ghost use Rattle.instants.specs.Beginnings.{DueMade, DuesTell};
 ghost use Rattle.instants.specs.Reaching.{Unwritten, NothingWritten, ReachesOne, Reaches};
 use ready::ReadyList;
 
@@ -42,14 +44,18 @@ fn make_due_in(m: &mut [u32], ready: ReadyList, s: usize, count: usize, t: u64) 
     woken
 }
 
-// The own variables of the routine in slot s, if one sits there.
-fn make_due_slot(m: &mut [u32], ready: ReadyList, s: usize, t: u64) -> ReadyList
-    requires { ⌜ (12288 ≤ length (now m)) × (s < 64) × (0 < t) × (Ordered (rowsOf (now m)) (slotsOf ready)) ⌝ }
+// The own variables of the routine in slot s, if one sits there and the soonest of them is due at t.
+fn make_due_slot(m: &mut [u32], ready: ReadyList, s: usize, t: u64, soonest: u64) -> ReadyList
+    requires { ⌜ (12288 ≤ length (now m)) × (s < 64) × (0 < t) × ((soonest ≡ t → ⊥) → dueSlot t (block (now m) s) ≡ block (now m) s)
+        × (Ordered (rowsOf (now m)) (slotsOf ready)) ⌝ }
     ensures { λ r. ⌜ (InBlock s (now (m .entry)) (now (m .exit)) (dueSlot t (block (now (m .entry)) s)))
         × (Ordered (rowsOf (now (m .exit))) (slotsOf r))
         × ((n : ℕ) → Unwritten (min (block (now (m .entry)) s 4) 16) (block (now (m .entry)) s)
         → Reaches n (now (m .entry)) (now (m .exit)) (slotsOf ready) (slotsOf r)) ⌝ }
 {
+    if soonest != t {
+        return ready;
+    }
     let taken = blocks::word_at(m, s, 0);
     if taken == 0 {
         return ready;
@@ -70,8 +76,10 @@ pub fn at_most_16(n: u32) -> usize
 }
 
 // All slots.
-fn make_due_slots(m: &mut [u32], ready: ReadyList, t: u64) -> ReadyList
-    requires { ⌜ (12288 ≤ length (now m)) × (0 < t) × (Ordered (rowsOf (now m)) (slotsOf ready)) ⌝ }
+fn make_due_slots(m: &mut [u32], ready: ReadyList, t: u64, dues: &[u64; 65]) -> ReadyList
+    requires { ⌜ (12288 ≤ length (now m)) × (0 < t) × (length (now dues) ≡ 65)
+        × ((s : ℕ) → s < 64 → (getD (now dues) s 0 ≡ t → ⊥) → dueSlot t (block (now m) s) ≡ block (now m) s)
+        × (Ordered (rowsOf (now m)) (slotsOf ready)) ⌝ }
     ensures { λ r. ⌜ (Mapped 64 (dueSlot t) (now (m .entry)) (now (m .exit)))
         × (Ordered (rowsOf (now (m .exit))) (slotsOf r))
         × ((n : ℕ) → NothingWritten n (now (m .entry)) → Reaches n (now (m .entry)) (now (m .exit)) (slotsOf ready) (slotsOf r)) ⌝ }
@@ -79,32 +87,23 @@ fn make_due_slots(m: &mut [u32], ready: ReadyList, t: u64) -> ReadyList
     let mut s: usize = 0;
     let mut woken = ready;
     while s < 64 {
-        woken = make_due_slot(m, woken, s, t);
+        woken = make_due_slot(m, woken, s, t, dues[s]);
         s += 1;
     }
     woken
 }
 
 // All slots, and the n variables of the environment.
-fn make_due_all(m: &mut [u32], ready: ReadyList, n: usize, t: u64) -> ReadyList
-    requires { ⌜ (12288 ≤ length (now m)) × (n ≤ 16) × (0 < t) × (Ordered (rowsOf (now m)) (slotsOf ready)) ⌝ }
+pub fn make_due_at(m: &mut [u32], ready: ReadyList, n: usize, t: u64, dues: &[u64; 65]) -> ReadyList
+    requires { ⌜ (12288 ≤ length (now m)) × (n ≤ 16) × (0 < t) × (length (now dues) ≡ 65) × (DuesTell n t (now dues) (now m))
+        × (Ordered (rowsOf (now m)) (slotsOf ready)) ⌝ }
     ensures { λ r. ⌜ (DueMade n t (now (m .entry)) (now (m .exit)))
         × (Ordered (rowsOf (now (m .exit))) (slotsOf r))
         × (NothingWritten n (now (m .entry)) → Reaches n (now (m .entry)) (now (m .exit)) (slotsOf ready) (slotsOf r)) ⌝ }
 {
-    let woken = make_due_slots(m, ready, t);
-    make_due_in(m, woken, 64, n, t)
-}
-
-// The same where the next moment due is known (0: none): without one at t there is nothing to make.
-pub fn make_due_at(m: &mut [u32], ready: ReadyList, n: usize, t: u64, soonest: u64) -> ReadyList
-    requires { ⌜ (12288 ≤ length (now m)) × (n ≤ 16) × (0 < t) × ((soonest ≡ t → ⊥) → NothingDue n t (now m)) × (Ordered (rowsOf (now m)) (slotsOf ready)) ⌝ }
-    ensures { λ r. ⌜ (DueMade n t (now (m .entry)) (now (m .exit)))
-        × (Ordered (rowsOf (now (m .exit))) (slotsOf r))
-        × (NothingWritten n (now (m .entry)) → Reaches n (now (m .entry)) (now (m .exit)) (slotsOf ready) (slotsOf r)) ⌝ }
-{
-    if soonest != t {
-        return ready;
+    let woken = make_due_slots(m, ready, t, dues);
+    if dues[64] != t {
+        return woken;
     }
-    make_due_all(m, ready, n, t)
+    make_due_in(m, woken, 64, n, t)
 }

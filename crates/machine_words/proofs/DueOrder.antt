@@ -10,7 +10,7 @@ use lib.Dec.{leb}
 use lib.ListN.{getD}
 use borrow.Author.Tests.{leb-true, leb-false}
 use Rattle.walk.specs.Instant.{NextDue, never, moment, earlierOf, earlier, dueOfVariables}
-use Rattle.machine.specs.Words.{blockAt, environmentBlock, momentAt, slotOf, variablesIn, recordIn, recordsIn, zeroFrom, slotHolds, wordsInPlace}
+use Rattle.machine.specs.Words.{blockAt, momentAt, slotOf, variablesIn, recordIn, recordsIn, zeroFrom, slotHolds, wordsInPlace}
 use Rattle.machine.specs.Due.{recordsDue, wordsDue}
 use Rattle.machine.proofs.NextDue.{earlier-never, earlier-associative}
 use Rattle.machine.proofs.InPlace.{zeros-read, knows-place, slot-holds, used-slot, free-slot, in-place}
@@ -96,8 +96,11 @@ module _ (w : List ℕ) where
   unfolding slotDue variablesIn dueOfVariables
   free-never s e = rw e
 
-  pub free-adds-nothing : (s : ℕ) (x : NextDue) → zeroFrom w (blockAt s) 184 ≡ true → x ≡ earlier x (slotDue w s)
-  free-adds-nothing s x e = sym (ap (earlier x) (free-never s (zeros-read w (blockAt s) 184 4 (omega arith) e)) ∙ earlier-never x)
+  pub none-in-free : (s : ℕ) → zeroFrom w (blockAt s) 184 ≡ true → never ≡ slotDue w s
+  none-in-free s e = sym (free-never s (zeros-read w (blockAt s) 184 4 (omega arith) e))
+
+  free-adds-nothing : (s : ℕ) (x : NextDue) → zeroFrom w (blockAt s) 184 ≡ true → x ≡ earlier x (slotDue w s)
+  free-adds-nothing s x e = sym (ap (earlier x) (sym (none-in-free s e)) ∙ earlier-never x)
 
   module _ (size : ℕ) (e : wordsInPlace size w ≡ true) where
     records-before-slot : (s : ℕ) → s < 64 → NotLater (recordsDue (recordsIn w 0 (getD w 3 0))) (slotDue w s)

@@ -5,18 +5,19 @@ pub mod due;
 
 use due::sooner;
 ghost use mathlib.Core.Path.{_≡_};
-ghost use Prim.Native.Nat.{ℕ, _+_, _*_, _-_, _<_, _≤_};
+ghost use Prim.Native.Nat.{_+_, _*_, _-_, _<_, _≤_};
 ghost use lib.ListN.{length, getD};
 ghost use lib.Dec.{eqb, ltb};
-ghost use mathlib.Core.Bool.{cond};
-ghost use Rattle.machine.specs.Words.{blockAt, momentAt, zeroFrom, variableRests, variablesRest, blockRests, slotHolds, slotsHold, knowsPlace, knowPlaces, headerInPlace, blocksInPlace, wordsInPlace};
+ghost use mathlib.Core.Bool.{true, cond};
+ghost use Rattle.machine.specs.Words.{momentAt, zeroFrom, variableRests, variablesRest, blockRests, slotHolds, slotsHold, knowsPlace, knowPlaces, headerInPlace, blocksInPlace, wordsInPlace};
 ghost use Rattle.machine.specs.ReadMachine.{stoppedWords};
 ghost use Rattle.machine.specs.Words.{variablesIn};
 ghost use Rattle.machine.specs.Due.{dueAt, wordsDue};
 ghost use Rattle.walk.specs.Instant.{earlier, dueOfVariables};
-ghost use Rattle.machine_words.specs.Tests.{testOf, tested, slotDue, slotsDue, blocksDue};
+ghost use Rattle.machine_words.specs.Tests.{testOf, tested, slotDue, slotsDue, blocksDue, SlotDues, Dues};
 
-// A test that looks for the next moment due on the way: with the soonest found, 0 if there is none.
+// A test that looks for the next moment due on the way: with the soonest found, 0 if there is none. The tests of all blocks also keep
+// the soonest of each: place s of 65 is block s's, 64 being the environment's.
 pub enum Test {
     Fails,
     Passes(u64),
@@ -91,13 +92,12 @@ fn variable_rests(m: &[u32], at: usize, present: u64) -> bool
     zero_from(m, at + 4, 2)
 }
 
-// Are the k variables from `at` on as an instant leaves them? With the soonest of a moment and those that they are due at.
-fn variables_rest(m: &[u32], at: usize, k: usize, present: u64, soonest: u64) -> Test
+// Are the k variables from `at` on as an instant leaves them? With the soonest moment that they are due at.
+fn variables_rest(m: &[u32], at: usize, k: usize, present: u64) -> Test
     requires { ⌜ (k ≤ 16) × (at + k * 6 ≤ length (now m)) ⌝ }
-    ensures { λ r. ⌜ testOf r ≡ tested (variablesRest present (now (m .entry)) at k)
-        (earlier (dueAt soonest) (dueOfVariables (variablesIn (now (m .entry)) at k))) ⌝ }
+    ensures { λ r. ⌜ testOf r ≡ tested (variablesRest present (now (m .entry)) at k) (dueOfVariables (variablesIn (now (m .entry)) at k)) ⌝ }
 {
-    let mut found = soonest;
+    let mut found: u64 = 0;
     let mut i: usize = 0;
     while i < k {
         let here = at + i * 6;
@@ -112,10 +112,9 @@ fn variables_rest(m: &[u32], at: usize, k: usize, present: u64, soonest: u64) ->
 }
 
 // Has the block at `at` k variables at rest, and only zeros after them?
-fn block_rests(m: &[u32], at: usize, k: usize, present: u64, soonest: u64) -> Test
+fn block_rests(m: &[u32], at: usize, k: usize, present: u64) -> Test
     requires { ⌜ at + 184 ≤ length (now m) ⌝ }
-    ensures { λ r. ⌜ testOf r ≡ tested (blockRests present (now (m .entry)) at k)
-        (earlier (dueAt soonest) (dueOfVariables (variablesIn (now (m .entry)) (at + 8) k))) ⌝ }
+    ensures { λ r. ⌜ testOf r ≡ tested (blockRests present (now (m .entry)) at k) (dueOfVariables (variablesIn (now (m .entry)) (at + 8) k)) ⌝ }
 {
     if 16 < k {
         return Test::Fails;
@@ -123,13 +122,13 @@ fn block_rests(m: &[u32], at: usize, k: usize, present: u64, soonest: u64) -> Te
     if !zero_from(m, at + 8 + k * 6, 176 - k * 6) {
         return Test::Fails;
     }
-    variables_rest(m, at + 8, k, present, soonest)
+    variables_rest(m, at + 8, k, present)
 }
 
 // Is slot s free and all 0, or does the order list of n routines lead back to it?
-fn slot_holds(m: &[u32], n: usize, s: usize, present: u64, soonest: u64) -> Test
+fn slot_holds(m: &[u32], n: usize, s: usize, present: u64) -> Test
     requires { ⌜ (length (now m) ≡ 12288) × (s < 64) × (n ≤ 64) ⌝ }
-    ensures { λ r. ⌜ testOf r ≡ tested (slotHolds n present (now (m .entry)) s) (earlier (dueAt soonest) (slotDue (now (m .entry)) s)) ⌝ }
+    ensures { λ r. ⌜ testOf r ≡ tested (slotHolds n present (now (m .entry)) s) (slotDue (now (m .entry)) s) ⌝ }
 {
     let at = 328 + s * 184;
     let p = number(m[at]);
@@ -137,7 +136,7 @@ fn slot_holds(m: &[u32], n: usize, s: usize, present: u64, soonest: u64) -> Test
         if !zero_from(m, at, 184) {
             return Test::Fails;
         }
-        return Test::Passes(soonest);
+        return Test::Passes(0);
     }
     if n < p {
         return Test::Fails;
@@ -149,20 +148,24 @@ fn slot_holds(m: &[u32], n: usize, s: usize, present: u64, soonest: u64) -> Test
         return Test::Fails;
     }
     let k = number(m[at + 4]);
-    block_rests(m, at, k, present, soonest)
+    block_rests(m, at, k, present)
 }
 
-fn slots_hold(m: &[u32], n: usize, present: u64, soonest: u64) -> Test
-    requires { ⌜ (length (now m) ≡ 12288) × (n ≤ 64) ⌝ }
-    ensures { λ r. ⌜ testOf r ≡ tested (slotsHold n present (now (m .entry)) 64) (earlier (dueAt soonest) (slotsDue (now (m .entry)) 64)) ⌝ }
+// All slots, with the sooner of a moment and theirs; the soonest of each is kept.
+fn slots_hold(m: &[u32], n: usize, present: u64, soonest: u64, dues: &mut [u64; 65]) -> Test
+    requires { ⌜ (length (now m) ≡ 12288) × (n ≤ 64) × (length (now dues) ≡ 65) ⌝ }
+    ensures { λ r. ⌜ (testOf r ≡ tested (slotsHold n present (now (m .entry)) 64) (earlier (dueAt soonest) (slotsDue (now (m .entry)) 64)))
+        × (length (now (dues .exit)) ≡ 65)
+        × (slotsHold n present (now (m .entry)) 64 ≡ true → SlotDues 0 (now (m .entry)) (now (dues .entry)) (now (dues .exit))) ⌝ }
 {
     let mut found = soonest;
     let mut s: usize = 64;
     while 0 < s {
-        let Test::Passes(so_far) = slot_holds(m, n, s - 1, present, found) else {
+        let Test::Passes(here) = slot_holds(m, n, s - 1, present) else {
             return Test::Fails;
         };
-        found = so_far;
+        dues[s - 1] = here;
+        found = sooner(found, here);
         s -= 1;
     }
     Test::Passes(found)
@@ -214,30 +217,35 @@ fn header_in_place(m: &[u32]) -> bool
     zero_from(m, 64 + n, 264 - n)
 }
 
-fn blocks_in_place(m: &[u32], n: usize, size: usize) -> Test
-    requires { ⌜ (length (now m) ≡ 12288) × (n ≤ 64) × (n ≡ getD (now m) 3 0) ⌝ }
-    ensures { λ r. ⌜ testOf r ≡ tested (blocksInPlace size (now (m .entry))) (blocksDue size (now (m .entry))) ⌝ }
+fn blocks_in_place(m: &[u32], n: usize, size: usize, dues: &mut [u64; 65]) -> Test
+    requires { ⌜ (length (now m) ≡ 12288) × (n ≤ 64) × (n ≡ getD (now m) 3 0) × (length (now dues) ≡ 65) ⌝ }
+    ensures { λ r. ⌜ (testOf r ≡ tested (blocksInPlace size (now (m .entry))) (blocksDue size (now (m .entry))))
+        × (length (now (dues .exit)) ≡ 65)
+        × (blocksInPlace size (now (m .entry)) ≡ true → Dues size (now (m .entry)) (now (dues .exit))) ⌝ }
 {
     let present = moment_at(m, 1);
     if !zero_from(m, 12104, 8) {
         return Test::Fails;
     }
-    let Test::Passes(found) = block_rests(m, 12104, size, present, 0) else {
+    let Test::Passes(outer) = block_rests(m, 12104, size, present) else {
         return Test::Fails;
     };
-    slots_hold(m, n, present, found)
+    dues[64] = outer;
+    slots_hold(m, n, present, outer, dues)
 }
 
-// All of question 7 that needs no table but the number of environment variables, with the next moment due.
-pub fn words_in_place(m: &[u32], size: usize) -> Test
-    requires { ⌜ length (now m) ≡ 12288 ⌝ }
-    ensures { λ r. ⌜ testOf r ≡ tested (wordsInPlace size (now (m .entry))) (wordsDue size (now (m .entry))) ⌝ }
+// All of question 7 that needs no table but the number of environment variables, with the next moment due, and the soonest of each block.
+pub fn words_in_place(m: &[u32], size: usize, dues: &mut [u64; 65]) -> Test
+    requires { ⌜ (length (now m) ≡ 12288) × (length (now dues) ≡ 65) ⌝ }
+    ensures { λ r. ⌜ (testOf r ≡ tested (wordsInPlace size (now (m .entry))) (wordsDue size (now (m .entry))))
+        × (length (now (dues .exit)) ≡ 65)
+        × (wordsInPlace size (now (m .entry)) ≡ true → Dues size (now (m .entry)) (now (dues .exit))) ⌝ }
 {
     if !header_in_place(m) {
         return Test::Fails;
     }
     let n = number(m[3]);
-    blocks_in_place(m, n, size)
+    blocks_in_place(m, n, size, dues)
 }
 
 // Is it the stopped form: a stop's number first, all other words 0?

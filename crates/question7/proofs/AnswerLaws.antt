@@ -3,6 +3,7 @@ use mathlib.Core.Path.{_≡_}
 use mathlib.Core.Bool.{Bool, true, false}
 use mathlib.Core.List.{List}
 use Prim.Native.Nat.{ℕ, _+_}
+use native.Mathlib.Omega.{arith}
 use lib.ListN.{getD}
 use Rattle.walk.specs.Instant.{environmentSize}
 use Rattle.table.specs.Decode.{word, tableListing}
@@ -12,6 +13,7 @@ use Rattle.machine.specs.Due.{dueAt, wordsDue}
 use Rattle.machine.proofs.MachineWords.{words-due-is-next-due}
 use Rattle.machine.proofs.InPlace.{knows-place, in-place}
 use Rattle.machine.proofs.PassingWordsHold.{Words32, own-rests}
+use Rattle.machine_words.specs.Tests.{Dues}
 use Rattle.question7.specs.Tables.{TableBounds}
 use Rattle.question7.specs.Scan.{Ready, whole}
 use Rattle.question7.specs.Answer.{answerOf, checkOf}
@@ -40,6 +42,16 @@ module _ (w m : List ℕ) (size : ℕ) (e : size ≡ environmentSize (tableListi
 
   pub due-of-listing : (t : ℕ) → dueAt t ≡ wordsDue size m → dueAt t ≡ wordsDue (environmentSize (tableListing w)) m
   due-of-listing t f = rw (← e) f
+
+  pub dues-of-listing : (dues : List ℕ) → Dues size m dues → Dues (environmentSize (tableListing w)) m dues
+  dues-of-listing dues f = rw (← e) f
+
+-- Only a state has the answer that it runs.
+pub stopped-not-running : {A : Type 0} {k d : ℕ} → Stopped k ≡ Running d → A
+stopped-not-running e = let z : _≡_ {A = ℕ} 0 1 = cc in absurd (omega arith)
+
+pub none-not-running : {A : Type 0} {d : ℕ} → NotAState ≡ Running d → A
+none-not-running e = let z : _≡_ {A = ℕ} 0 1 = cc in absurd (omega arith)
 
 pub answer-stopped : (w m : List ℕ) (k : ℕ) → k ≡ getD m 0 0 → stoppedWords m ≡ true → checkOf (Stopped k) ≡ answerOf (readMachine (tableListing w) m)
 unfolding readMachine machineBy answerOf checkOf

@@ -1,9 +1,15 @@
 -- Question 7's answer for each case of what the machine's words stand for: no state, a stop's number, or a state with its next moment due.
+use mathlib.Core.List.{List}
 use mathlib.Core.Option.{Option, none, some}
+use mathlib.Core.Path.{_≡_}
 use Prim.Native.Nat.{ℕ}
-use Rattle.walk.specs.Instant.{NextDue, nextDue}
+use lib.ListN.{length}
+use Rattle.listing.specs.Listing.{Listing}
+use Rattle.walk.specs.Instant.{NextDue, nextDue, environmentSize}
 use Rattle.walk.specs.Calls.{Machine, halted, running}
 use Rattle.machine.specs.Due.{dueAt}
+use Rattle.machine.specs.ReadMachine.{readMachine}
+use Rattle.machine_words.specs.Tests.{Dues}
 use Rattle.question7.specs.declared.MachineCheck.{MachineCheck}
 use Rattle.question7.specs.declared.MachineCheck.the-variants.{NotAState, Stopped, Running}
 
@@ -21,3 +27,9 @@ unfoldable pub checkOf : MachineCheck → Standing
 checkOf NotAState = notAState
 checkOf (Stopped k) = stopped k
 checkOf (Running t) = runs (dueAt t)
+
+-- Question 7's answer for a machine's 12,288 words; of a state, `dues` has the soonest moment due of each block.
+pub record Answered (listing : Listing) (machine dues : List ℕ) (r : MachineCheck) : Type 0 where
+  pub answer : checkOf r ≡ answerOf (readMachine listing machine)
+  pub each : (soonest : ℕ) → r ≡ Running soonest → Dues (environmentSize listing) machine dues
+  pub places : length dues ≡ 65

@@ -10,18 +10,17 @@ use machine_words::stopped_words;
 use machine_words::words_in_place;
 use scan::tree_passes;
 ghost use mathlib.Core.Path.{_≡_};
-ghost use Prim.Native.Nat.{ℕ, _≤_};
-ghost use lib.ListN.{length, take};
+ghost use Prim.Native.Nat.{_≤_};
+ghost use lib.ListN.{length};
 ghost use mathlib.Core.Bool.{true};
 ghost use Rattle.table.specs.Decode.{tableListing};
 ghost use Rattle.table.specs.Question6.{isTable};
 ghost use Rattle.walk.specs.Instant.{environmentSize};
 ghost use Rattle.machine.specs.Words.{runningWords};
 ghost use Rattle.machine.specs.Due.{wordsDue};
-ghost use Rattle.machine_words.specs.Tests.{testOf, tested};
-ghost use Rattle.machine.specs.ReadMachine.{readMachine};
+ghost use Rattle.machine_words.specs.Tests.{testOf, tested, Dues};
 ghost use Rattle.walk.specs.Calls.{firstWords};
-ghost use Rattle.question7.specs.Answer.{answerOf, checkOf};
+ghost use Rattle.question7.specs.Answer.{Answered};
 
 // The stop's number, or the next moment due (0: none).
 pub enum MachineCheck {
@@ -30,14 +29,17 @@ pub enum MachineCheck {
     Running(u64),
 }
 
-// Do the words stand for a state of the walk on the table's listing? With the next moment due.
-pub fn running_words(t: &[u32], m: &[u32]) -> Test
-    requires { ⌜ (length (now t) ≡ 12288) × (length (now m) ≡ 12288) × (isTable (now t) ≡ true) ⌝ }
-    ensures { λ r. ⌜ testOf r ≡ tested (runningWords (tableListing (now (t .entry))) (now (m .entry)))
-        (wordsDue (environmentSize (tableListing (now (t .entry)))) (now (m .entry))) ⌝ }
+// Do the words stand for a state of the walk on the table's listing? With the next moment due, and the soonest of each block.
+pub fn running_words(t: &[u32], m: &[u32], dues: &mut [u64; 65]) -> Test
+    requires { ⌜ (length (now t) ≡ 12288) × (length (now m) ≡ 12288) × (isTable (now t) ≡ true) × (length (now dues) ≡ 65) ⌝ }
+    ensures { λ r. ⌜ (testOf r ≡ tested (runningWords (tableListing (now (t .entry))) (now (m .entry)))
+        (wordsDue (environmentSize (tableListing (now (t .entry)))) (now (m .entry))))
+        × (length (now (dues .exit)) ≡ 65)
+        × (runningWords (tableListing (now (t .entry))) (now (m .entry)) ≡ true
+        → Dues (environmentSize (tableListing (now (t .entry)))) (now (m .entry)) (now (dues .exit))) ⌝ }
 {
     let size = number(t[0]) + number(t[1]);
-    let Test::Passes(soonest) = words_in_place(m, size) else {
+    let Test::Passes(soonest) = words_in_place(m, size, dues) else {
         return Test::Fails;
     };
     if !tree_passes(t, m) {
@@ -47,24 +49,24 @@ pub fn running_words(t: &[u32], m: &[u32]) -> Test
 }
 
 // Question 7 on the 12,288 words of each memory.
-pub fn machine_answer(t: &[u32], m: &[u32]) -> MachineCheck
-    requires { ⌜ (length (now t) ≡ 12288) × (length (now m) ≡ 12288) × (isTable (now t) ≡ true) ⌝ }
-    ensures { λ r. ⌜ checkOf r ≡ answerOf (readMachine (tableListing (now (t .entry))) (now (m .entry))) ⌝ }
+pub fn machine_answer(t: &[u32], m: &[u32], dues: &mut [u64; 65]) -> MachineCheck
+    requires { ⌜ (length (now t) ≡ 12288) × (length (now m) ≡ 12288) × (isTable (now t) ≡ true) × (length (now dues) ≡ 65) ⌝ }
+    ensures { λ r. ⌜ Answered (tableListing (now (t .entry))) (now (m .entry)) (now (dues .exit)) r ⌝ }
 {
     if stopped_words(m) {
         let k = m[0];
         return MachineCheck::Stopped(k);
     }
-    match running_words(t, m) {
+    match running_words(t, m, dues) {
         Test::Fails => MachineCheck::NotAState,
         Test::Passes(soonest) => MachineCheck::Running(soonest),
     }
 }
 
-// Question 7 on memories of at least 12,288 words; the table has passed question 6.
-pub fn check_machine(t: &[u32], m: &[u32]) -> MachineCheck
-    requires { ⌜ (12288 ≤ length (now t)) × (12288 ≤ length (now m)) × (isTable (firstWords (now t)) ≡ true) ⌝ }
-    ensures { λ r. ⌜ checkOf r ≡ answerOf (readMachine (tableListing (firstWords (now (t .entry)))) (firstWords (now (m .entry)))) ⌝ }
+// Question 7 on memories of at least 12,288 words; the table has passed question 6. Of a state, the soonest moment due of each block is kept.
+pub fn check_machine(t: &[u32], m: &[u32], dues: &mut [u64; 65]) -> MachineCheck
+    requires { ⌜ (12288 ≤ length (now t)) × (12288 ≤ length (now m)) × (isTable (firstWords (now t)) ≡ true) × (length (now dues) ≡ 65) ⌝ }
+    ensures { λ r. ⌜ Answered (tableListing (firstWords (now (t .entry)))) (firstWords (now (m .entry))) (now (dues .exit)) r ⌝ }
 {
-    machine_answer(&t[0..12288], &m[0..12288])
+    machine_answer(&t[0..12288], &m[0..12288], dues)
 }

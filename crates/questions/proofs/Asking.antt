@@ -1,5 +1,5 @@
 -- The questions of the calls, one after the other. Letters: i the number of inputs, w a machine's 12,288 words, n a number, ns numbers.
-use mathlib.Core.Path.{_≡_, refl, sym, _∙_}
+use mathlib.Core.Path.{_≡_, refl, sym, ap, _∙_}
 use mathlib.Core.Bool.{Bool, true, false, _&&_, not}
 use mathlib.Core.List.{List, [], _∷_}
 use mathlib.Core.Option.{Option, none, some}
@@ -12,17 +12,18 @@ use lib.Seq.{drop-cons, getD-take}
 use borrow.Author.Tests.{le-leb, lt-leb, lt-ltb, le-ltb}
 use Rattle.listing.specs.Listing.{Listing}
 use Rattle.walk.specs.State.{State}
+use Rattle.walk.specs.Instant.{environmentSize}
 use Rattle.walk.specs.Calls.{Machine, halted, running, Outcome, refused, ask, found, unstopped, dueBefore, inputsRise, inputsOf, allowed, instantFrom}
 use Rattle.table.specs.Decode.{tableListing}
 use Rattle.machine.specs.Records.{stateFrom}
 use Rattle.machine.specs.Words.{momentAt, stateOf}
 use Rattle.machine.specs.ReadMachine.{readMachine}
 use Rattle.machine.specs.Due.{dueAt}
-use Rattle.question7.specs.Answer.{answerOf, checkOf}
+use Rattle.machine_words.specs.Tests.{Dues}
+use Rattle.question7.specs.Answer.{answerOf, checkOf, Answered}
+use Rattle.question7.specs.declared.MachineCheck.{MachineCheck}
 use Rattle.question7.specs.declared.MachineCheck.the-variants.{Running}
-use Rattle.questions.specs.Asked.{machineRefusal, longEnough, numbersRise, askedBy, MachineAsked}
-use Rattle.questions.specs.declared.Questioned.{Questioned}
-use Rattle.questions.specs.declared.Questioned.the-variants.{Refused, Passed}
+use Rattle.questions.specs.Asked.{machineRefusal, longEnough, numbersRise, asked, MachineAsked}
 use Rattle.questions.proofs.Refusals.{read-by-refusal, due-by-answer, refusal-running}
 
 -- ── 1 ─────────────────────────────────────────────────────────────────────────────────────────────
@@ -89,35 +90,29 @@ unfolding allowed
 some-allowed a h = rw (le-leb _ _ h)
 
 -- ── 9 to 12, by the numbers that refuse ───────────────────────────────────────────────────────────
-pub refused-9 : (a : Bool) (rest next : Outcome) → a ≡ false → askedBy (Refused 9) next ≡ ask 9 a rest
-unfolding ask askedBy
+pub refused-9 : (a : Bool) (rest next : Outcome) → a ≡ false → asked 9 next ≡ ask 9 a rest
+unfolding ask asked
 refused-9 a rest next e = rw e
 
 module _ (a b c d : Bool) (next : Outcome) where
   abbrev pub Four : Outcome
   Four = ask 9 a (ask 10 (not b) (ask 11 c (ask 12 d next)))
 
-  pub refused-10 : a ≡ true → b ≡ true → askedBy (Refused 10) next ≡ Four
-  unfolding ask askedBy
+  pub refused-10 : a ≡ true → b ≡ true → asked 10 next ≡ Four
+  unfolding ask asked
   refused-10 e f = rw (e, f)
 
-  pub refused-11 : a ≡ true → b ≡ false → c ≡ false → askedBy (Refused 11) next ≡ Four
-  unfolding ask askedBy
+  pub refused-11 : a ≡ true → b ≡ false → c ≡ false → asked 11 next ≡ Four
+  unfolding ask asked
   refused-11 e f g = rw (e, f, g)
 
-  pub refused-12 : a ≡ true → b ≡ false → c ≡ true → d ≡ false → askedBy (Refused 12) next ≡ Four
-  unfolding ask askedBy
+  pub refused-12 : a ≡ true → b ≡ false → c ≡ true → d ≡ false → asked 12 next ≡ Four
+  unfolding ask asked
   refused-12 e f g h = rw (e, f, g, h)
 
-  pub none-refused : (soonest : ℕ) → a ≡ true → b ≡ false → c ≡ true → d ≡ true → askedBy (Passed soonest) next ≡ Four
-  unfolding ask askedBy
-  none-refused soonest e f g h = rw (e, f, g, h)
-
-pub refused-not-passed : {A : Type 0} {k d : ℕ} → Refused k ≡ Passed d → A
-refused-not-passed e = let z : _≡_ {A = ℕ} 0 1 = cc in absurd (omega arith)
-
-pub same-moment : {c d : ℕ} → Passed c ≡ Passed d → d ≡ c
-same-moment e = cc
+  pub none-refused : a ≡ true → b ≡ false → c ≡ true → d ≡ true → asked 0 next ≡ Four
+  unfolding ask asked
+  none-refused e f g h = rw (e, f, g, h)
 
 inputs-of-table : (table : List ℕ) → getD table 0 0 ≡ (tableListing (take 12288 table)) .inputs
 unfolding tableListing
@@ -135,27 +130,37 @@ now-is : (listing : Listing) (w : List ℕ) → (stateOf listing w) .now ≡ mom
 unfolding stateOf stateFrom
 now-is listing w = refl
 
-module _ (listing : Listing) (w : List ℕ) (t : ℕ) (ns : List ℕ) (allowance : ℕ) where
-  pub machine-refused : (k : ℕ) → k ≡ machineRefusal (readMachine listing w) → (k ≡ 0 → ⊥) → MachineAsked listing w t ns allowance (Refused k)
-  unfolding askedBy
-  machine-refused k e h = record { outcome = λ vs same. refused-some (readMachine listing w) k _ e h; next = λ d z s f. refused-not-passed z }
+asked-refused : (k : ℕ) (next : Outcome) → (k ≡ 0 → ⊥) → asked k next ≡ refused k
+unfolding asked
+asked-refused zero next h = absurd (h refl)
+asked-refused (suc k) next h = refl
 
-  pub machine-passed : (r : Questioned) (soonest : ℕ) → checkOf (Running soonest) ≡ answerOf (readMachine listing w) →
-      ((next : Outcome) → askedBy r next ≡ Four (ltb (momentAt w 1) t) (dueBefore (dueAt soonest) t) (numbersRise (listing .inputs) 0 ns) (allowed allowance) next) →
-      ((d : ℕ) → r ≡ Passed d → d ≡ soonest) → MachineAsked listing w t ns allowance r
+module _ (listing : Listing) (w : List ℕ) (t : ℕ) (ns : List ℕ) (allowance : ℕ) (dues : List ℕ) (places : length dues ≡ 65) where
+  pub machine-refused : (k : ℕ) → k ≡ machineRefusal (readMachine listing w) → (k ≡ 0 → ⊥) → MachineAsked listing w t ns allowance dues k
+  machine-refused k e h = record {
+    outcome = λ vs same. asked-refused k _ h ∙ refused-some (readMachine listing w) k _ e h;
+    each = λ z. absurd (h z);
+    places = places;
+  }
+
+  pub machine-passed : (r soonest : ℕ) → checkOf (Running soonest) ≡ answerOf (readMachine listing w) →
+      ((next : Outcome) → asked r next ≡ Four (ltb (momentAt w 1) t) (dueBefore (dueAt soonest) t) (numbersRise (listing .inputs) 0 ns) (allowed allowance) next) →
+      Dues (environmentSize listing) w dues → MachineAsked listing w t ns allowance dues r
   unfolding found unstopped instantFrom
-  machine-passed r soonest answer asks moment =
+  machine-passed r soonest answer asks each =
       let read = read-by-refusal listing w (sym (refusal-running (readMachine listing w) soonest answer)) in
       record {
         outcome = λ vs same.
             asks _ ∙ rw (read, rise-of-inputs (listing .inputs) 0 ns vs same, ← due-by-answer listing w soonest (stateOf listing w) answer read, now-is listing w) refl;
-        next = λ d z s f. rw (moment d z) (due-by-answer listing w soonest s answer f);
+        each = λ z. each;
+        places = places;
       }
 
 -- The same with the number of inputs read from a table that may be longer.
-pub machine-passed-with : (table w : List ℕ) (t : ℕ) (ns : List ℕ) (allowance : ℕ) (r : Questioned) (soonest : ℕ) →
-    checkOf (Running soonest) ≡ answerOf (readMachine (tableListing (take 12288 table)) w) → (i : ℕ) → i ≡ getD table 0 0 →
-    ((next : Outcome) → askedBy r next ≡ Four (ltb (momentAt w 1) t) (dueBefore (dueAt soonest) t) (numbersRise i 0 ns) (allowed allowance) next) →
-    ((d : ℕ) → r ≡ Passed d → d ≡ soonest) → MachineAsked (tableListing (take 12288 table)) w t ns allowance r
-machine-passed-with table w t ns allowance r soonest answer i f asks moment =
-    machine-passed (tableListing (take 12288 table)) w t ns allowance r soonest answer (λ next. rw (← inputs-of-table table, ← f) (asks next)) moment
+pub machine-passed-with : (table w : List ℕ) (t : ℕ) (ns : List ℕ) (allowance : ℕ) (dues : List ℕ) (r soonest : ℕ) (check : MachineCheck) →
+    Answered (tableListing (take 12288 table)) w dues check → check ≡ Running soonest → (i : ℕ) → i ≡ getD table 0 0 →
+    ((next : Outcome) → asked r next ≡ Four (ltb (momentAt w 1) t) (dueBefore (dueAt soonest) t) (numbersRise i 0 ns) (allowed allowance) next) →
+    MachineAsked (tableListing (take 12288 table)) w t ns allowance dues r
+machine-passed-with table w t ns allowance dues r soonest check A runs i f asks =
+    machine-passed (tableListing (take 12288 table)) w t ns allowance dues (A .places) r soonest (ap checkOf (sym runs) ∙ A .answer)
+    (λ next. rw (← inputs-of-table table, ← f) (asks next)) (A .each soonest runs)

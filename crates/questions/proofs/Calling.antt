@@ -3,6 +3,7 @@ use mathlib.Core.Path.{_≡_, refl}
 use mathlib.Core.Bool.{Bool, true, false}
 use mathlib.Core.List.{List}
 use Prim.Native.Nat.{ℕ, _≤_}
+use native.Mathlib.Omega.{arith}
 use lib.Dec.{leb}
 use lib.ListN.{length}
 use borrow.Author.Tests.{eq-eqb, ne-eqb, leb-true}
@@ -10,10 +11,7 @@ use Rattle.walk.specs.Calls.{ask, found, allowed, startOn, startLongEnough, ins
 use Rattle.table.specs.Question6.{isTable, readTable}
 use Rattle.table.specs.Decode.{tableListing}
 use Rattle.machine.proofs.Basics.{and-left, and-right}
-use Rattle.questions.specs.Asked.{longEnough, asked, askedBy, MachineAsked, InstantAsked, StartAsked}
-use Rattle.questions.specs.declared.Questioned.{Questioned}
-use Rattle.questions.specs.declared.Questioned.the-variants.{Refused, Passed}
-use Rattle.questions.proofs.Asking.{refused-not-passed}
+use Rattle.questions.specs.Asked.{longEnough, asked, MachineAsked, InstantAsked, StartAsked}
 
 -- What question 1 gives of the lengths.
 pub record Long (table machine numbers values : ℕ) : Type 0 where
@@ -34,25 +32,25 @@ long a b c d e =
       values-long = leb-true _ _ (and-right (leb 16 c) _ g);
     }
 
-module _ (table machine : List ℕ) (t : ℕ) (ns vs on ov : List ℕ) (allowance : ℕ) where
-  pub instant-short : longEnough (length table) (length machine) (length on) (length ov) ≡ false → InstantAsked table machine t ns vs on ov allowance (Refused 1)
-  unfolding instantCall instantLongEnough startLongEnough longEnough ask askedBy
-  instant-short e = record { outcome = rw e; next = λ d z s f. refused-not-passed z }
+module _ (table machine : List ℕ) (t : ℕ) (ns vs on ov : List ℕ) (allowance : ℕ) (dues : List ℕ) (places : length dues ≡ 65) where
+  pub instant-short : longEnough (length table) (length machine) (length on) (length ov) ≡ false → InstantAsked table machine t ns vs on ov allowance dues 1
+  unfolding instantCall instantLongEnough startLongEnough longEnough ask asked
+  instant-short e = record { outcome = rw e; each = λ z. absurd (omega arith); places = places }
 
   pub instant-unequal : longEnough (length table) (length machine) (length on) (length ov) ≡ true → (length ns ≡ length vs → ⊥) →
-      InstantAsked table machine t ns vs on ov allowance (Refused 1)
-  unfolding instantCall instantLongEnough startLongEnough longEnough ask askedBy
-  instant-unequal e f = record { outcome = rw (e, ne-eqb _ _ f); next = λ d z s h. refused-not-passed z }
+      InstantAsked table machine t ns vs on ov allowance dues 1
+  unfolding instantCall instantLongEnough startLongEnough longEnough ask asked
+  instant-unequal e f = record { outcome = rw (e, ne-eqb _ _ f); each = λ z. absurd (omega arith); places = places }
 
   module _ (e : longEnough (length table) (length machine) (length on) (length ov) ≡ true) (f : length ns ≡ length vs) where
-    pub instant-no-table : isTable (firstWords table) ≡ false → InstantAsked table machine t ns vs on ov allowance (Refused 6)
-    unfolding instantCall instantLongEnough startLongEnough longEnough ask askedBy found readTable
-    instant-no-table g = record { outcome = rw (e, eq-eqb _ _ f, g); next = λ d z s h. refused-not-passed z }
+    pub instant-no-table : isTable (firstWords table) ≡ false → InstantAsked table machine t ns vs on ov allowance dues 6
+    unfolding instantCall instantLongEnough startLongEnough longEnough ask asked found readTable
+    instant-no-table g = record { outcome = rw (e, eq-eqb _ _ f, g); each = λ z. absurd (omega arith); places = places }
 
-    pub instant-by-machine : isTable (firstWords table) ≡ true → (r : Questioned) → MachineAsked (tableListing (firstWords table)) (firstWords machine) t ns allowance r →
-        InstantAsked table machine t ns vs on ov allowance r
+    pub instant-by-machine : isTable (firstWords table) ≡ true → (r : ℕ) → MachineAsked (tableListing (firstWords table)) (firstWords machine) t ns allowance dues r →
+        InstantAsked table machine t ns vs on ov allowance dues r
     unfolding instantCall instantLongEnough startLongEnough longEnough ask found readTable
-    instant-by-machine g r M = record { outcome = rw (e, eq-eqb _ _ f, g) (M .outcome vs f); next = M .next }
+    instant-by-machine g r M = record { outcome = rw (e, eq-eqb _ _ f, g) (M .outcome vs f); each = M .each; places = M .places }
 
 module _ (table machine on ov : List ℕ) (allowance : ℕ) where
   pub start-short : longEnough (length table) (length machine) (length on) (length ov) ≡ false → StartAsked table machine on ov allowance 1

@@ -8,15 +8,13 @@ use lib.Dec.{ltb, leb}
 use lib.ListN.{length}
 use Rattle.listing.specs.Listing.{Listing}
 use Rattle.walk.specs.State.{State}
-use Rattle.walk.specs.Instant.{nextDue, start, instant}
+use Rattle.walk.specs.Instant.{environmentSize, start, instant}
 use Rattle.walk.specs.Calls.{Machine, halted, running, Outcome, refused, found, unstopped, answered, inputsOf, instantFrom, startCall, instantCall, firstWords}
 use Rattle.table.specs.Decode.{tableListing}
 use Rattle.machine.specs.Words.{stateOf}
 use Rattle.machine.specs.ReadMachine.{readMachine}
-use Rattle.machine.specs.Due.{dueAt}
+use Rattle.machine_words.specs.Tests.{Dues}
 use Rattle.layout.specs.Layout.{layout}
-use Rattle.questions.specs.declared.Questioned.{Questioned}
-use Rattle.questions.specs.declared.Questioned.the-variants.{Refused, Passed}
 
 -- 7 and 8, of what a machine's words stand for.
 unfoldable pub machineRefusal : Option Machine → ℕ
@@ -38,26 +36,22 @@ unfoldable pub asked : ℕ → Outcome → Outcome
 asked zero next = next
 asked (suc k) next = refused (suc k)
 
--- The same of an answer that gives the next moment due if all pass.
-unfoldable pub askedBy : Questioned → Outcome → Outcome
-askedBy (Refused k) next = refused k
-askedBy (Passed soonest) next = next
-
--- r answers 7 to 12 of a machine's 12,288 words; if all pass, with the next moment due (0: none) of the state that they stand for.
-pub record MachineAsked (listing : Listing) (machine : List ℕ) (t : ℕ) (inNumbers : List ℕ) (allowance : ℕ) (r : Questioned) : Type 0 where
+-- r answers 7 to 12 of a machine's 12,288 words; if none refuses, `dues` has the soonest moment due of each block.
+pub record MachineAsked (listing : Listing) (machine : List ℕ) (t : ℕ) (inNumbers : List ℕ) (allowance : ℕ) (dues : List ℕ) (r : ℕ) : Type 0 where
   pub outcome : (inValues : List ℕ) → length inNumbers ≡ length inValues →
-      askedBy r (answered (instant listing (stateOf listing machine) t (inputsOf inNumbers inValues) allowance)) ≡
+      asked r (answered (instant listing (stateOf listing machine) t (inputsOf inNumbers inValues) allowance)) ≡
       found 7 (readMachine listing machine) (λ (m : Machine).
       unstopped m λ (s : State). instantFrom listing s t (inputsOf inNumbers inValues) allowance)
-  pub next : (soonest : ℕ) → r ≡ Passed soonest → (s : State) → readMachine listing machine ≡ some (running s) → dueAt soonest ≡ nextDue s
+  pub each : r ≡ 0 → Dues (environmentSize listing) machine dues
+  pub places : length dues ≡ 65
 
 -- r answers all questions of the instant call, likewise.
-pub record InstantAsked (table machine : List ℕ) (t : ℕ) (inNumbers inValues outNumbers outValues : List ℕ) (allowance : ℕ) (r : Questioned) : Type 0 where
+pub record InstantAsked (table machine : List ℕ) (t : ℕ) (inNumbers inValues outNumbers outValues : List ℕ) (allowance : ℕ) (dues : List ℕ) (r : ℕ) : Type 0 where
   pub outcome :
-      askedBy r (answered (instant (tableListing (firstWords table)) (stateOf (tableListing (firstWords table)) (firstWords machine)) t (inputsOf inNumbers inValues) allowance)) ≡
+      asked r (answered (instant (tableListing (firstWords table)) (stateOf (tableListing (firstWords table)) (firstWords machine)) t (inputsOf inNumbers inValues) allowance)) ≡
       instantCall layout table machine t inNumbers inValues outNumbers outValues allowance
-  pub next : (soonest : ℕ) → r ≡ Passed soonest → (s : State) → readMachine (tableListing (firstWords table)) (firstWords machine) ≡ some (running s) →
-      dueAt soonest ≡ nextDue s
+  pub each : r ≡ 0 → Dues (environmentSize (tableListing (firstWords table))) (firstWords machine) dues
+  pub places : length dues ≡ 65
 
 -- r answers all questions of the start.
 pub record StartAsked (table machine outNumbers outValues : List ℕ) (allowance r : ℕ) : Type 0 where

@@ -1,7 +1,7 @@
 // The questions that the calls put before they run: 1 and 6 to 12. A number that answers is the one that refuses, 0 if none does.
 ghost use mathlib.Core.Bool.{true, not};
 ghost use mathlib.Core.Path.{_≡_};
-ghost use Prim.Native.Nat.{ℕ, _≤_};
+ghost use Prim.Native.Nat.{_≤_};
 ghost use lib.Dec.{ltb};
 ghost use lib.ListN.{length};
 ghost use Rattle.walk.specs.Calls.{Outcome, ask, dueBefore, allowed, firstWords};
@@ -11,8 +11,7 @@ ghost use Rattle.table.specs.Decode.{tableListing};
 ghost use Rattle.machine.specs.Words.{momentAt};
 ghost use Rattle.machine.specs.Due.{dueAt};
 ghost use Rattle.machine.specs.ReadMachine.{readMachine};
-ghost use Rattle.questions.specs.Asked.{machineRefusal, longEnough, numbersRise, askedBy, MachineAsked, InstantAsked, StartAsked};
-ghost use Rattle.questions.specs.declared.Questioned.the-variants.{Passed};
+ghost use Rattle.questions.specs.Asked.{machineRefusal, longEnough, numbersRise, asked, MachineAsked, InstantAsked, StartAsked};
 use machine_words::number;
 use question7::MachineCheck;
 
@@ -20,12 +19,6 @@ use question7::MachineCheck;
 pub const MEMORY: usize = 12288;
 
 const OUTPUTS: usize = 16;
-
-// The answer to an instant's questions: the number that refuses, or the next moment due of the machine (0: none).
-pub enum Questioned {
-    Refused(u32),
-    Passed(u64),
-}
 
 // The number of environment variables of a table that has passed question 6.
 pub fn environment_size(table: &[u32]) -> usize
@@ -42,7 +35,8 @@ pub fn machine_refusal(table: &[u32], machine: &[u32]) -> u32
     requires { ⌜ (12288 ≤ length (now table)) × (12288 ≤ length (now machine)) × (isTable (firstWords (now table)) ≡ true) ⌝ }
     ensures { λ r. ⌜ r ≡ machineRefusal (readMachine (tableListing (firstWords (now (table .entry)))) (firstWords (now (machine .entry)))) ⌝ }
 {
-    let check = question7::check_machine(table, machine);
+    let mut dues: [u64; 65] = [0; 65];
+    let check = question7::check_machine(table, machine, &mut dues);
     match check {
         MachineCheck::NotAState => 7,
         MachineCheck::Stopped(_) => 8,
@@ -114,43 +108,45 @@ fn state_question(
     t: u64,
     numbers: &[u32],
     allowance: u32,
-) -> Questioned
+) -> u32
     requires { ⌜ length (now machine) ≡ 12288 ⌝ }
-    ensures { λ r. ⌜ ((next : Outcome) → askedBy r next ≡ ask 9 (ltb (momentAt (now (machine .entry)) 1) t)
+    ensures { λ r. ⌜ ((next : Outcome) → asked r next ≡ ask 9 (ltb (momentAt (now (machine .entry)) 1) t)
         (ask 10 (not (dueBefore (dueAt soonest) t))
-        (ask 11 (numbersRise inputs 0 (now (numbers .entry))) (ask 12 (allowed allowance) next)))) × ((d : ℕ) → r ≡ Passed d → d ≡ soonest) ⌝ }
+        (ask 11 (numbersRise inputs 0 (now (numbers .entry))) (ask 12 (allowed allowance) next)))) ⌝ }
 {
     let present = machine_words::present_moment(machine);
     if t <= present {
-        return Questioned::Refused(9);
+        return 9;
     }
     if due_before(soonest, t) {
-        return Questioned::Refused(10);
+        return 10;
     }
     if !numbers_rise(numbers, inputs) {
-        return Questioned::Refused(11);
+        return 11;
     }
     if !allowance_fits(allowance) {
-        return Questioned::Refused(12);
+        return 12;
     }
-    Questioned::Passed(soonest)
+    0
 }
 
-// 7 to 12, on a table that has passed question 6.
+// 7 to 12, on a table that has passed question 6. If none refuses, the soonest moment due of each block is kept.
 fn machine_question(
     table: &[u32],
     machine: &[u32],
     t: u64,
     numbers: &[u32],
     allowance: u32,
-) -> Questioned
-    requires { ⌜ (12288 ≤ length (now table)) × (12288 ≤ length (now machine)) × (isTable (firstWords (now table)) ≡ true) ⌝ }
-    ensures { λ r. ⌜ MachineAsked (tableListing (firstWords (now (table .entry)))) (firstWords (now (machine .entry))) t (now (numbers .entry)) allowance r ⌝ }
+    dues: &mut [u64; 65],
+) -> u32
+    requires { ⌜ (12288 ≤ length (now table)) × (12288 ≤ length (now machine)) × (isTable (firstWords (now table)) ≡ true) × (length (now dues) ≡ 65) ⌝ }
+    ensures { λ r. ⌜ MachineAsked (tableListing (firstWords (now (table .entry)))) (firstWords (now (machine .entry))) t (now (numbers .entry)) allowance
+        (now (dues .exit)) r ⌝ }
 {
-    let check = question7::check_machine(table, machine);
+    let check = question7::check_machine(table, machine, dues);
     match check {
-        MachineCheck::NotAState => Questioned::Refused(7),
-        MachineCheck::Stopped(_) => Questioned::Refused(8),
+        MachineCheck::NotAState => 7,
+        MachineCheck::Stopped(_) => 8,
         MachineCheck::Running(soonest) => {
             let inputs = number(table[0]);
             state_question(&machine[0..12288], soonest, inputs, t, numbers, allowance)
@@ -158,7 +154,7 @@ fn machine_question(
     }
 }
 
-// All questions of the instant call: 1, 6, 7, 8, 9, 10, 11, 12.
+// All questions of the instant call: 1, 6, 7, 8, 9, 10, 11, 12. If none refuses, the soonest moment due of each block is kept.
 pub fn instant_question(
     table: &[u32],
     machine: &[u32],
@@ -168,9 +164,11 @@ pub fn instant_question(
     out_numbers: &[u32],
     out_values: &[u32],
     allowance: u32,
-) -> Questioned
+    dues: &mut [u64; 65],
+) -> u32
+    requires { ⌜ length (now dues) ≡ 65 ⌝ }
     ensures { λ r. ⌜ InstantAsked (now (table .entry)) (now (machine .entry)) t (now («in_numbers» .entry)) (now («in_values» .entry))
-        (now («out_numbers» .entry)) (now («out_values» .entry)) allowance r ⌝ }
+        (now («out_numbers» .entry)) (now («out_values» .entry)) allowance (now (dues .exit)) r ⌝ }
 {
     if !long_enough(
         table.len(),
@@ -178,15 +176,15 @@ pub fn instant_question(
         out_numbers.len(),
         out_values.len(),
     ) {
-        return Questioned::Refused(1);
+        return 1;
     }
     if in_numbers.len() != in_values.len() {
-        return Questioned::Refused(1);
+        return 1;
     }
     if !table_check::is_table(table) {
-        return Questioned::Refused(6);
+        return 6;
     }
-    machine_question(table, machine, t, in_numbers, allowance)
+    machine_question(table, machine, t, in_numbers, allowance, dues)
 }
 
 // All questions of the start: 1, 6, 12.

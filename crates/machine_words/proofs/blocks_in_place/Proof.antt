@@ -1,11 +1,11 @@
 -- `machine_words::blocks_in_place` meets its contract.
-use mathlib.Core.Path.{sym, _∙_}
+use denote.Ref.{now}
+use mathlib.Core.Path.{_≡_, sym, _∙_}
+use mathlib.Core.Bool.{false}
 use borrow.Author.Tests.{not-true, not-false}
-use Rattle.walk.specs.Instant.{earlier}
-use Rattle.machine.specs.Words.{blocksInPlace}
-use Rattle.machine.specs.Due.{dueAt}
+use Rattle.machine.specs.Words.{blocksInPlace, slotsHold}
 use Rattle.machine_words.specs.Tests.{blocksDue}
-use Rattle.machine_words.proofs.TestLaws.{fails, has-failed, has-passed}
+use Rattle.machine_words.proofs.TestLaws.{fails, not-both, has-failed, has-passed, all-kept}
 use borrow.Author.Needs.{needs}
 use Rattle.machine_words.proofs.blocks_in_place.Statement.{statement}
 use Rattle.machine_words.proofs.blocks_in_place.Tie as tie
@@ -17,33 +17,48 @@ zero-from-requires : tie.Need-zero-from-requires
 zero-from-requires c κs = search needs
 
 returns : tie.Need-returns
-unfolding blocksInPlace
 returns c =
-    fails _ _ (rw (sym (c .before .zero-from .ensures) ∙ not-true _ (c .if1 .taken)))
+    let a = c .before .before .before .before .args in
+    let no : blocksInPlace (a .size) (a .m .now) ≡ false = unfold blocksInPlace in rw (sym (c .before .zero-from .ensures) ∙ not-true _ (c .if1 .taken)) in
+    (fails _ _ no, search needs, not-both no)
 
 block-rests-requires : tie.Need-block-rests-requires
 block-rests-requires c κs = search needs
 
-enum-known-found : tie.Need-enum-known-found
-enum-known-found c = search needs
+enum-known-outer : tie.Need-enum-known-outer
+enum-known-outer c = search needs
 
 enum-told : tie.Need-enum-told
 enum-told c = search needs
 
 returns-2 : tie.Need-returns-2
-unfolding blocksInPlace
 returns-2 c =
+    let a = c .before .before .before .before .before .before .before .args in
     let q = has-failed _ _ _ (c .before .before .block-rests .ensures) (c .enum-told .given .1) in
-    fails _ _ (rw (sym (c .before .before .before .before .zero-from .ensures) ∙ not-false _ (c .before .before .before .if1 .left), ← c .before .before .before .before .before .moment-at .ensures, q))
+    let no : blocksInPlace (a .size) (a .m .now) ≡ false =
+    unfold blocksInPlace in
+    rw (sym (c .before .before .before .before .zero-from .ensures) ∙ not-false _ (c .before .before .before .if1 .left), ← c .before .before .before .before .before .moment-at .ensures, q) in
+    (fails _ _ no, search needs, not-both no)
+
+element-write-dues : tie.Need-element-write-dues
+element-write-dues c = search needs
 
 slots-hold-requires : tie.Need-slots-hold-requires
 slots-hold-requires c κs = search needs
 
 returns-3 : tie.Need-returns-3
-unfolding blocksInPlace blocksDue dueAt earlier
+unfolding blocksDue
 returns-3 c =
-    let q = has-passed _ _ _ _ (c .before .before .before .before .block-rests .ensures) (c .before .before .found .given .1) in
-    rw (sym (c .before .before .before .before .before .before .zero-from .ensures) ∙ not-false _ (c .before .before .before .before .before .if1 .left), ← c .before .before .before .before .before .before .before .moment-at .ensures, q .0, ← q .1, ← c .before .before .before .before .before .before .before .before .before .pre .2) (c .slots-hold .ensures)
+    let b = c .before .before .before .before .before in
+    let o = b .before .before .before .before .before in
+    let q = has-passed _ _ _ _ (b .block-rests .ensures) (c .before .before .before .outer .given .1) in
+    let same : blocksInPlace (o .args .size) (o .args .m .now) ≡ slotsHold (o .args .n) (b .before .before .before .moment-at .result) (o .args .m .now) 64 =
+    unfold blocksInPlace in
+    rw (sym (b .before .before .zero-from .ensures) ∙ not-false _ (b .before .if1 .left), ← b .before .before .before .moment-at .ensures, q .0, ← o .pre .2) in (
+      rw (same, ← q .1) (c .slots-hold .ensures .0),
+      c .slots-hold .ensures .1,
+      λ e. all-kept _ _ (now (o .args .dues)) _ _ (o .pre .3) (q .1) (c .slots-hold .ensures .2 (sym same ∙ e)),
+    )
 
 pub blocks-in-place-spec : {M : Type 1} → statement M
 blocks-in-place-spec =
@@ -53,8 +68,9 @@ blocks-in-place-spec =
     zero-from-requires
     returns
     block-rests-requires
-    enum-known-found
+    enum-known-outer
     enum-told
     returns-2
+    element-write-dues
     slots-hold-requires
     returns-3)

@@ -2,8 +2,9 @@
 use mathlib.Core.Path.{sym, _∙_}
 use borrow.Author.Tests.{le-leb, lt-leb, eq-eqb, ne-eqb, not-true, not-false}
 use Rattle.machine.specs.Words.{slotHolds}
+use Rattle.machine.specs.Due.{dueAt}
 use Rattle.machine_words.specs.Tests.{slotDue}
-use Rattle.machine_words.proofs.DueOrder.{free-adds-nothing}
+use Rattle.machine_words.proofs.DueOrder.{none-in-free}
 use Rattle.machine_words.proofs.TestLaws.{fails, passes}
 use borrow.Author.Needs.{needs}
 use Rattle.machine_words.proofs.slot_holds.Statement.{statement}
@@ -33,9 +34,9 @@ returns c =
     fails _ _ (rw (← c .before .before .before .number .ensures .0, eq-eqb _ _ (c .before .before .if1 .taken), sym (c .before .zero-from .ensures) ∙ not-true _ (c .if2 .taken)))
 
 returns-2 : tie.Need-returns-2
-unfolding slotHolds
+unfolding slotHolds dueAt
 returns-2 c =
-    passes _ _ _ (rw (← c .before .before .before .number .ensures .0, eq-eqb _ _ (c .before .before .if1 .taken), sym (c .before .zero-from .ensures) ∙ not-false _ (c .if2 .left))) (free-adds-nothing _ _ _ (sym (c .before .zero-from .ensures) ∙ not-false _ (c .if2 .left)))
+    passes _ _ _ (rw (← c .before .before .before .number .ensures .0, eq-eqb _ _ (c .before .before .if1 .taken), sym (c .before .zero-from .ensures) ∙ not-false _ (c .if2 .left))) (none-in-free _ _ (sym (c .before .zero-from .ensures) ∙ not-false _ (c .if2 .left)))
 
 returns-3 : tie.Need-returns-3
 unfolding slotHolds

@@ -1,23 +1,26 @@
 -- `machine_words::slots_hold` meets its contract.
-use mathlib.Core.Path.{sym, _∙_}
+use mathlib.Core.Path.{_≡_, sym, _∙_}
 use mathlib.Core.Bool.{true, false}
+use lib.ListN.{length, length-set}
+use native.Mathlib.Omega.{arith}
+use Rattle.machine_words.specs.Tests.{SlotDues}
 use Rattle.machine_words.proofs.Laws.{one-slot}
-use Rattle.machine_words.proofs.TestLaws.{fails, has-failed, has-passed, SlotsLeft, slots-begin, slots-go-on, slots-end}
+use Rattle.machine_words.proofs.TestLaws.{fails, not-both, has-failed, has-passed, SlotsLeft, slots-begin, slots-go-on, slots-end, no-slot-kept, one-more-kept}
 use borrow.Author.Needs.{needs}
 use Rattle.machine_words.proofs.slots_hold.Statement.{statement}
 use Rattle.machine_words.proofs.slots_hold.Tie as tie
 
 abbrev Inv-loop : tie.InvT-loop
-Inv-loop m n present soonest found₀ s₀ found s =
-    SlotsLeft n present m soonest found s
+Inv-loop m n present soonest dues₀ found₀ s₀ dues found s =
+    SlotsLeft n present m soonest found s × (length dues ≡ 65) × SlotDues s m dues₀ dues
 
 abbrev μ-loop : tie.MeasureT-loop
-μ-loop m n present soonest found₀ s₀ found s =
+μ-loop m n present soonest dues₀ found₀ s₀ dues found s =
     s
 
 loop-holds : tie.Need-loop-holds Inv-loop μ-loop
 loop-holds c =
-    slots-begin _ _ _ _
+    (slots-begin _ _ _ _, search needs, no-slot-kept _ _)
 
 sub-slot-holds : tie.Need-sub-slot-holds Inv-loop μ-loop
 sub-slot-holds c = search needs
@@ -25,8 +28,8 @@ sub-slot-holds c = search needs
 slot-holds-requires : tie.Need-slot-holds-requires Inv-loop μ-loop
 slot-holds-requires c κs = search needs
 
-enum-known-so-far : tie.Need-enum-known-so-far Inv-loop μ-loop
-enum-known-so-far c = search needs
+enum-known-here : tie.Need-enum-known-here Inv-loop μ-loop
+enum-known-here c = search needs
 
 enum-told : tie.Need-enum-told Inv-loop μ-loop
 enum-told c = search needs
@@ -34,7 +37,20 @@ enum-told c = search needs
 returns : tie.Need-returns Inv-loop μ-loop
 returns c =
     let v = c .before .before .before .before .loop in
-    fails _ _ (sym (sym (one-slot _ _ _ (v .s) false (c .before .before .before .loop-test .taken) (has-failed _ _ _ (c .before .before .slot-holds .ensures) (c .enum-told .given .1))) ∙ v .inv .holds))
+    let no = sym (sym (one-slot _ _ _ (v .s) false (c .before .before .before .loop-test .taken) (has-failed _ _ _ (c .before .before .slot-holds .ensures) (c .enum-told .given .1))) ∙ v .inv .0 .holds) in
+    (fails _ _ no, v .inv .1, not-both no)
+
+sub-dues : tie.Need-sub-dues Inv-loop μ-loop
+sub-dues c = search needs
+
+mul-dues : tie.Need-mul-dues Inv-loop μ-loop
+mul-dues c = search needs
+
+element-write-dues : tie.Need-element-write-dues Inv-loop μ-loop
+element-write-dues c = search needs
+
+sooner-requires : tie.Need-sooner-requires Inv-loop μ-loop
+sooner-requires c κs = search needs
 
 sub-s : tie.Need-sub-s Inv-loop μ-loop
 sub-s c = search needs
@@ -44,13 +60,19 @@ loop-less c = search needs
 
 loop-again : tie.Need-loop-again Inv-loop μ-loop
 loop-again c =
-    let v = c .before .before .before .before .before .loop in
-    let p = has-passed _ _ _ _ (c .before .before .before .slot-holds .ensures) (c .before .so-far .given .1) in
-    slots-go-on _ _ _ _ _ _ (v .s) (c .before .before .before .before .loop-test .taken) (v .inv) (one-slot _ _ _ (v .s) true (c .before .before .before .before .loop-test .taken) (p .0)) (p .1)
+    let v = c .before .before .before .before .before .before .loop in
+    let more = c .before .before .before .before .before .loop-test .taken in
+    let p = has-passed _ _ _ _ (c .before .before .before .before .slot-holds .ensures) (c .before .before .here .given .1) in (
+      slots-go-on _ _ _ _ _ _ _ (v .s) more (v .inv .0) (one-slot _ _ _ (v .s) true more (p .0)) (p .1) (c .sooner .ensures),
+      simp length-set (v .inv .1),
+      one-more-kept _ _ _ (v .s) _ more (v .inv .0 .within) (v .inv .1) (v .inv .2) (p .1),
+    )
 
 returns-2 : tie.Need-returns-2 Inv-loop μ-loop
 returns-2 c =
-    slots-end _ _ _ _ _ _ (c .loop-test .left) (c .before .loop .inv)
+    let v = c .before .loop in
+    let z : v .s ≡ 0 = omega (arith, c .loop-test .left) in
+    (slots-end _ _ _ _ _ _ (c .loop-test .left) (v .inv .0), v .inv .1, λ e. rw z at (v .inv .2))
 
 pub slots-hold-spec : {M : Type 1} → statement M
 slots-hold-spec =
@@ -61,9 +83,13 @@ slots-hold-spec =
     loop-holds
     sub-slot-holds
     slot-holds-requires
-    enum-known-so-far
+    enum-known-here
     enum-told
     returns
+    sub-dues
+    mul-dues
+    element-write-dues
+    sooner-requires
     sub-s
     loop-less
     loop-again

@@ -12,11 +12,11 @@ use Rattle.machine_words.proofs.variables_rest.Statement.{statement}
 use Rattle.machine_words.proofs.variables_rest.Tie as tie
 
 abbrev Inv-loop : tie.InvT-loop
-Inv-loop m at k present soonest found₀ i₀ found i =
-    (variablesRest present m (at + i * 6) (k - i) ≡ variablesRest present m at k) × VariablesLeft m at k soonest found i
+Inv-loop m at k present found₀ i₀ found i =
+    (variablesRest present m (at + i * 6) (k - i) ≡ variablesRest present m at k) × VariablesLeft m at k 0 found i
 
 abbrev μ-loop : tie.MeasureT-loop
-μ-loop m at k present soonest found₀ i₀ found i =
+μ-loop m at k present found₀ i₀ found i =
     k - i
 
 loop-holds : tie.Need-loop-holds Inv-loop μ-loop
@@ -59,7 +59,7 @@ loop-again c =
 
 returns-2 : tie.Need-returns-2 Inv-loop μ-loop
 returns-2 c =
-    variables-pass _ _ _ _ _ _ _ (c .loop-test .left) (c .before .loop .inv .0) (c .before .loop .inv .1)
+    variables-pass _ _ _ _ _ _ (c .loop-test .left) (c .before .loop .inv .0) (c .before .loop .inv .1)
 
 pub variables-rest-spec : {M : Type 1} → statement M
 variables-rest-spec =

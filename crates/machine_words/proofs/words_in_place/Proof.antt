@@ -1,9 +1,10 @@
 -- `machine_words::words_in_place` meets its contract.
-use mathlib.Core.Path.{sym, _∙_}
+use mathlib.Core.Path.{_≡_, sym, _∙_}
+use mathlib.Core.Bool.{false}
 use borrow.Author.Tests.{not-true, not-false}
 use Rattle.machine.specs.Words.{wordsInPlace}
 use Rattle.machine_words.proofs.Laws.{few-routines}
-use Rattle.machine_words.proofs.TestLaws.{fails, words-by-blocks}
+use Rattle.machine_words.proofs.TestLaws.{fails, not-both, words-by-blocks, blocks-of-words}
 use borrow.Author.Needs.{needs}
 use Rattle.machine_words.proofs.words_in_place.Statement.{statement}
 use Rattle.machine_words.proofs.words_in_place.Tie as tie
@@ -12,9 +13,10 @@ header-in-place-requires : tie.Need-header-in-place-requires
 header-in-place-requires c κs = search needs
 
 returns : tie.Need-returns
-unfolding wordsInPlace
 returns c =
-    fails _ _ (rw (sym (c .before .header-in-place .ensures) ∙ not-true _ (c .if1 .taken)))
+    let a = c .before .before .before .args in
+    let no : wordsInPlace (a .size) (a .m .now) ≡ false = unfold wordsInPlace in rw (sym (c .before .header-in-place .ensures) ∙ not-true _ (c .if1 .taken)) in
+    (fails _ _ no, search needs, not-both no)
 
 shared-slice-read-number : tie.Need-shared-slice-read-number
 shared-slice-read-number c = search needs
@@ -24,12 +26,14 @@ number-requires c κs = search needs
 
 blocks-in-place-requires : tie.Need-blocks-in-place-requires
 blocks-in-place-requires c κs =
-    let few = few-routines _ (sym (c .before .before .before .header-in-place .ensures) ∙ not-false _ (c .before .before .if1 .left)) in
+    let few = few-routines _ (sym (c .before .before .before .before .header-in-place .ensures) ∙ not-false _ (c .before .before .before .if1 .left)) in
     search needs
 
 returns-2 : tie.Need-returns-2
 returns-2 c =
-    c .blocks-in-place .ensures ∙ words-by-blocks _ _ (sym (c .before .before .before .before .header-in-place .ensures) ∙ not-false _ (c .before .before .before .if1 .left))
+    let h = sym (c .before .before .before .before .before .header-in-place .ensures) ∙ not-false _ (c .before .before .before .before .if1 .left) in
+    let b = c .blocks-in-place .ensures in
+    (b .0 ∙ words-by-blocks _ _ h, b .1, λ e. b .2 (blocks-of-words _ _ e))
 
 pub words-in-place-spec : {M : Type 1} → statement M
 words-in-place-spec =

@@ -2,7 +2,7 @@
 use mathlib.Core.Path.{refl, sym, _∙_}
 use native.Mathlib.Omega.{arith}
 use Rattle.machine_words.proofs.TestLaws.{has-failed, has-passed}
-use Rattle.question7.proofs.AnswerLaws.{answer-stopped, answer-running, answer-none}
+use Rattle.question7.proofs.AnswerLaws.{answer-stopped, answer-running, answer-none, stopped-not-running, none-not-running}
 use borrow.Author.Needs.{needs}
 use Rattle.question7.proofs.machine_answer.Statement.{statement}
 use Rattle.question7.proofs.machine_answer.Tie as tie
@@ -15,7 +15,11 @@ shared-slice-read-k c = search needs
 
 returns : tie.Need-returns
 returns c =
-    answer-stopped _ _ _ refl (sym (c .before .before .stopped-words .ensures) ∙ c .before .if1 .taken)
+    record {
+      answer = answer-stopped _ _ _ refl (sym (c .before .before .stopped-words .ensures) ∙ c .before .if1 .taken);
+      each = λ d e. stopped-not-running e;
+      places = search needs;
+    }
 
 running-words-requires : tie.Need-running-words-requires
 running-words-requires c κs = search needs
@@ -28,12 +32,20 @@ enum-known-soonest c = search needs
 
 returns-2 : tie.Need-returns-2
 returns-2 c =
-    answer-none _ _ (sym (c .before .before .before .before .stopped-words .ensures) ∙ c .before .before .before .if1 .left) (has-failed _ _ _ (c .before .before .running-words .ensures) (c .enum-told .given .1))
+    record {
+      answer = answer-none _ _ (sym (c .before .before .before .before .before .stopped-words .ensures) ∙ c .before .before .before .before .if1 .left) (has-failed _ _ _ (c .before .before .running-words .ensures .0) (c .enum-told .given .1));
+      each = λ d e. none-not-running e;
+      places = c .before .before .running-words .ensures .1;
+    }
 
 returns-3 : tie.Need-returns-3
 returns-3 c =
-    let p = has-passed _ _ _ _ (c .before .before .before .running-words .ensures) (c .before .soonest .given .1) in
-    answer-running _ _ _ (λ i. omega (arith, c .before .before .before .before .before .before .shared-slice-known2 .given i)) (sym (c .before .before .before .before .before .stopped-words .ensures) ∙ c .before .before .before .before .if1 .left) (p .0) (p .1)
+    let p = has-passed _ _ _ _ (c .before .before .before .running-words .ensures .0) (c .before .soonest .given .1) in
+    record {
+      answer = answer-running _ _ _ (λ i. omega (arith, c .before .before .before .before .before .before .before .shared-slice-known2 .given i)) (sym (c .before .before .before .before .before .before .stopped-words .ensures) ∙ c .before .before .before .before .before .if1 .left) (p .0) (p .1);
+      each = λ d e. c .before .before .before .running-words .ensures .2 (p .0);
+      places = c .before .before .before .running-words .ensures .1;
+    }
 
 pub machine-answer-spec : {M : Type 1} → statement M
 machine-answer-spec =

@@ -1,5 +1,4 @@
--- `question7::running_words` meets its contract.
-use Rattle.question7.proofs.FromQuestion6.{table-bounds}
+-- `question7::running_words` meets its contract. w is what is known after `words_in_place`.
 use Prim.Native.Nat.{_+_}
 use mathlib.Core.Path.{_≡_, sym, _∙_}
 use mathlib.Core.Bool.{true, false}
@@ -8,8 +7,9 @@ use borrow.Author.Tests.{not-true, not-false}
 use Rattle.walk.specs.Instant.{environmentSize}
 use Rattle.table.specs.Decode.{tableListing}
 use Rattle.machine.specs.Words.{wordsInPlace}
-use Rattle.machine_words.proofs.TestLaws.{fails, passes, has-failed, has-passed}
-use Rattle.question7.proofs.AnswerLaws.{size-of, ready, not-in-place, running-by-tree, due-of-listing}
+use Rattle.machine_words.proofs.TestLaws.{fails, passes, not-both, has-failed, has-passed}
+use Rattle.question7.proofs.FromQuestion6.{table-bounds}
+use Rattle.question7.proofs.AnswerLaws.{size-of, ready, not-in-place, running-by-tree, due-of-listing, dues-of-listing}
 use borrow.Author.Needs.{needs}
 use Rattle.question7.proofs.running_words.Statement.{statement}
 use Rattle.question7.proofs.running_words.Tie as tie
@@ -40,25 +40,35 @@ enum-told c = search needs
 
 returns : tie.Need-returns
 returns c =
-    fails _ _ (not-in-place _ _ _ (size-of _ _ _ (c .before .before .before .before .before .number .ensures .0) (c .before .before .before .number2 .ensures .0)) (has-failed _ _ _ (c .before .before .words-in-place .ensures) (c .enum-told .given .1)))
+    let w = c .before .before in
+    let no = not-in-place _ _ _ (size-of _ _ _ (w .before .before .before .before .number .ensures .0) (w .before .before .number2 .ensures .0)) (has-failed _ _ _ (w .words-in-place .ensures .0) (c .enum-told .given .1)) in
+    (fails _ _ no, w .words-in-place .ensures .1, not-both no)
 
 tree-passes-requires : tie.Need-tree-passes-requires
 tree-passes-requires c κs =
-    let a = c .before .before .before .before .before .before .before .before .before .before .args in
-    let e : c .before .before .before .before .before .before .number .result + c .before .before .before .before .number2 .result ≡ environmentSize (tableListing (a .t .now)) = size-of (a .t .now) _ _ (c .before .before .before .before .before .before .number .ensures .0) (c .before .before .before .before .number2 .ensures .0) in
-    let p : wordsInPlace (environmentSize (tableListing (a .t .now))) (a .m .now) ≡ true = rw e at (has-passed _ _ _ _ (c .before .before .before .words-in-place .ensures) (c .before .soonest .given .1) .0) in
-    (c .before .before .before .before .before .before .before .before .before .before .pre .0, c .before .before .before .before .before .before .before .before .before .before .pre .1, ready (a .t .now) (a .m .now) (table-bounds (a .t .now) (c .before .before .before .before .before .before .before .before .before .before .pre .2)) (λ i. omega (arith, c .before .before .before .before .before .before .before .before .shared-slice-known2 .given i)) p)
+    let w = c .before .before .before in
+    let o = w .before .before .before .before .before .before .before .before in
+    let a = o .args in
+    let e : w .before .before .before .before .number .result + w .before .before .number2 .result ≡ environmentSize (tableListing (a .t .now)) = size-of (a .t .now) _ _ (w .before .before .before .before .number .ensures .0) (w .before .before .number2 .ensures .0) in
+    let p : wordsInPlace (environmentSize (tableListing (a .t .now))) (a .m .now) ≡ true = rw e at (has-passed _ _ _ _ (w .words-in-place .ensures .0) (c .before .soonest .given .1) .0) in
+    (o .pre .0, o .pre .1, ready (a .t .now) (a .m .now) (table-bounds (a .t .now) (o .pre .2)) (λ i. omega (arith, w .before .before .before .before .before .before .shared-slice-known2 .given i)) p)
 
 returns-2 : tie.Need-returns-2
 returns-2 c =
-    let p = has-passed _ _ _ _ (c .before .before .before .before .before .words-in-place .ensures) (c .before .before .before .soonest .given .1) in
-    fails _ _ (running-by-tree _ _ _ (size-of _ _ _ (c .before .before .before .before .before .before .before .before .number .ensures .0) (c .before .before .before .before .before .before .number2 .ensures .0)) false (p .0) (sym (c .before .tree-passes .ensures) ∙ not-true _ (c .if1 .taken)))
+    let w = c .before .before .before .before .before in
+    let p = has-passed _ _ _ _ (w .words-in-place .ensures .0) (c .before .before .before .soonest .given .1) in
+    let no = running-by-tree _ _ _ (size-of _ _ _ (w .before .before .before .before .number .ensures .0) (w .before .before .number2 .ensures .0)) false (p .0) (sym (c .before .tree-passes .ensures) ∙ not-true _ (c .if1 .taken)) in
+    (fails _ _ no, w .words-in-place .ensures .1, not-both no)
 
 returns-3 : tie.Need-returns-3
 returns-3 c =
-    let p = has-passed _ _ _ _ (c .before .before .before .before .before .words-in-place .ensures) (c .before .before .before .soonest .given .1) in
-    let e = size-of _ _ _ (c .before .before .before .before .before .before .before .before .number .ensures .0) (c .before .before .before .before .before .before .number2 .ensures .0) in
-    passes _ _ _ (running-by-tree _ _ _ e true (p .0) (sym (c .before .tree-passes .ensures) ∙ not-false _ (c .if1 .left))) (due-of-listing _ _ _ e _ (p .1))
+    let w = c .before .before .before .before .before in
+    let p = has-passed _ _ _ _ (w .words-in-place .ensures .0) (c .before .before .before .soonest .given .1) in
+    let e = size-of _ _ _ (w .before .before .before .before .number .ensures .0) (w .before .before .number2 .ensures .0) in (
+      passes _ _ _ (running-by-tree _ _ _ e true (p .0) (sym (c .before .tree-passes .ensures) ∙ not-false _ (c .if1 .left))) (due-of-listing _ _ _ e _ (p .1)),
+      w .words-in-place .ensures .1,
+      λ r. dues-of-listing _ _ _ e _ (w .words-in-place .ensures .2 (p .0)),
+    )
 
 pub running-words-spec : {M : Type 1} → statement M
 running-words-spec =

@@ -11,28 +11,28 @@ long-enough-requires c κs = search needs
 
 returns : tie.Need-returns
 returns c =
-    instant-short _ _ _ _ _ _ _ _ (sym (c .before .long-enough .ensures) ∙ not-true _ (c .if1 .taken))
+    instant-short _ _ _ _ _ _ _ _ _ (c .before .before .before .before .before .before .before .before .pre) (sym (c .before .long-enough .ensures) ∙ not-true _ (c .if1 .taken))
 
 returns-2 : tie.Need-returns-2
 returns-2 c =
-    instant-unequal _ _ _ _ _ _ _ _ (sym (c .before .before .long-enough .ensures) ∙ not-false _ (c .before .if1 .left)) (c .if2 .taken)
+    instant-unequal _ _ _ _ _ _ _ _ _ (c .before .before .before .before .before .before .before .before .before .pre) (sym (c .before .before .long-enough .ensures) ∙ not-false _ (c .before .if1 .left)) (c .if2 .taken)
 
 is-table-requires : tie.Need-is-table-requires
 is-table-requires c κs = search needs
 
 returns-3 : tie.Need-returns-3
 returns-3 c =
-    instant-no-table _ _ _ _ _ _ _ _ (sym (c .before .before .before .before .long-enough .ensures) ∙ not-false _ (c .before .before .before .if1 .left)) (c .before .before .if2 .left) (sym (c .before .is-table .ensures) ∙ not-true _ (c .if3 .taken))
+    instant-no-table _ _ _ _ _ _ _ _ _ (c .before .before .before .before .before .before .before .before .before .before .before .pre) (sym (c .before .before .before .before .long-enough .ensures) ∙ not-false _ (c .before .before .before .if1 .left)) (c .before .before .if2 .left) (sym (c .before .is-table .ensures) ∙ not-true _ (c .if3 .taken))
 
 machine-question-requires : tie.Need-machine-question-requires
 machine-question-requires c κs =
-    let l = long _ _ _ _ (sym (c .before .before .before .before .long-enough .ensures) ∙ not-false _ (c .before .before .before .if1 .left)) in
-    (l .table-long, l .machine-long, sym (c .before .is-table .ensures) ∙ not-false _ (c .if3 .left))
+    let l = long _ _ _ _ (sym (c .before .before .before .before .before .long-enough .ensures) ∙ not-false _ (c .before .before .before .before .if1 .left)) in
+    (l .table-long, l .machine-long, sym (c .before .before .is-table .ensures) ∙ not-false _ (c .before .if3 .left), c .before .before .before .before .before .before .before .before .before .before .before .before .pre)
 
 returns-4 : tie.Need-returns-4
 returns-4 c =
-    instant-by-machine _ _ _ _ _ _ _ _ (sym (c .before .before .before .before .before .long-enough .ensures) ∙ not-false _ (c .before .before .before .before .if1 .left)) (c .before .before .before .if2 .left) (sym (c .before .before .is-table .ensures) ∙ not-false _ (c .before .if3 .left)) _
-    (c .machine-question .ensures)
+    let m = c .machine-question .ensures in
+    instant-by-machine _ _ _ _ _ _ _ _ _ (m .places) (sym (c .before .before .before .before .before .before .long-enough .ensures) ∙ not-false _ (c .before .before .before .before .before .if1 .left)) (c .before .before .before .before .if2 .left) (sym (c .before .before .before .is-table .ensures) ∙ not-false _ (c .before .before .if3 .left)) _ m
 
 pub instant-question-spec : {M : Type 1} → statement M
 instant-question-spec =

@@ -21,14 +21,6 @@ enum-told-2 c = search needs
 enum-known-check : tie.Need-enum-known-check
 enum-known-check c = search needs
 
-returns : tie.Need-returns
-returns c =
-    machine-refused _ _ _ _ _ 7 (refusal-none _ (ap checkOf (sym (c .enum-told .given .1)) ∙ c .before .before .check-machine .ensures)) (λ z. omega arith)
-
-returns-2 : tie.Need-returns-2
-returns-2 c =
-    machine-refused _ _ _ _ _ 8 (refusal-stopped _ _ (ap checkOf (sym (c .enum-told2 .given .1)) ∙ c .before .before .check-machine .ensures)) (λ z. omega arith)
-
 shared-slice-read-number : tie.Need-shared-slice-read-number
 shared-slice-read-number c = search needs
 
@@ -49,10 +41,20 @@ state-question-requires : tie.Need-state-question-requires
 state-question-requires c κs =
     simp length-take (omega arith)
 
+returns : tie.Need-returns
+returns c =
+    let a = c .before .before .check-machine .ensures in
+    machine-refused _ _ _ _ _ _ (a .places) 7 (refusal-none _ (ap checkOf (sym (c .enum-told .given .1)) ∙ a .answer)) (λ z. omega arith)
+
+returns-2 : tie.Need-returns-2
+returns-2 c =
+    let a = c .before .before .check-machine .ensures in
+    machine-refused _ _ _ _ _ _ (a .places) 8 (refusal-stopped _ _ (ap checkOf (sym (c .enum-told2 .given .1)) ∙ a .answer)) (λ z. omega arith)
+
 returns-3 : tie.Need-returns-3
 returns-3 c =
-    let a = c .before .before .before .before .before .before .before .before .before .before .before .args in
-    machine-passed-with (a .table .now) (take 12288 (a .machine .now)) _ _ _ _ _ (ap checkOf (sym (c .before .before .before .before .before .check .given .1)) ∙ c .before .before .before .before .before .before .before .check-machine .ensures) _ (c .before .before .number .ensures .0) (c .state-question .ensures .0) (c .state-question .ensures .1)
+    let a = c .before .before .before .before .before .before .before .before .before .before .before .before .args in
+    machine-passed-with (a .table .now) (take 12288 (a .machine .now)) _ _ _ _ _ _ _ (c .before .before .before .before .before .before .before .check-machine .ensures) (c .before .before .before .before .before .check .given .1) _ (c .before .before .number .ensures .0) (c .state-question .ensures)
 
 pub machine-question-spec : {M : Type 1} → statement M
 machine-question-spec =

@@ -20,15 +20,15 @@ enum-told-3 c = search needs
 
 returns : tie.Need-returns
 returns c =
-    refusal-none _ (ap checkOf (sym (c .enum-told .given .1)) ∙ c .before .before .check-machine .ensures)
+    refusal-none _ (ap checkOf (sym (c .enum-told .given .1)) ∙ c .before .before .check-machine .ensures .answer)
 
 returns-2 : tie.Need-returns-2
 returns-2 c =
-    refusal-stopped _ _ (ap checkOf (sym (c .enum-told2 .given .1)) ∙ c .before .before .check-machine .ensures)
+    refusal-stopped _ _ (ap checkOf (sym (c .enum-told2 .given .1)) ∙ c .before .before .check-machine .ensures .answer)
 
 returns-3 : tie.Need-returns-3
 returns-3 c =
-    refusal-running _ _ (ap checkOf (sym (c .enum-told3 .given .1)) ∙ c .before .before .check-machine .ensures)
+    refusal-running _ _ (ap checkOf (sym (c .enum-told3 .given .1)) ∙ c .before .before .check-machine .ensures .answer)
 
 pub machine-refusal-spec : {M : Type 1} → statement M
 machine-refusal-spec =

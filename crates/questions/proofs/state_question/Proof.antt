@@ -5,7 +5,7 @@ use mathlib.Core.Bool.{true, false}
 use lib.Dec.{ltb}
 use borrow.Author.Tests.{le-ltb, lt-ltb, not-true, not-false}
 use Rattle.machine.specs.Words.{momentAt}
-use Rattle.questions.proofs.Asking.{refused-9, refused-10, refused-11, refused-12, none-refused, refused-not-passed, same-moment}
+use Rattle.questions.proofs.Asking.{refused-9, refused-10, refused-11, refused-12, none-refused}
 use borrow.Author.Needs.{needs}
 use Rattle.questions.proofs.state_question.Statement.{statement}
 use Rattle.questions.proofs.state_question.Tie as tie
@@ -18,7 +18,7 @@ returns c =
     let a = c .before .before .before .before .args in
     let p = c .before .present-moment .ensures in
     let l : ltb (momentAt (a .machine .now) 1) (a .t) ≡ false = le-ltb (momentAt (a .machine .now) 1) (a .t) (omega arith) in
-    (λ next. refused-9 _ _ next l, λ d e. refused-not-passed e)
+    λ next. refused-9 _ _ next l
 
 due-before-requires : tie.Need-due-before-requires
 due-before-requires c κs = search needs
@@ -28,7 +28,7 @@ returns-2 c =
     let a = c .before .before .before .before .before .before .args in
     let p = c .before .before .before .present-moment .ensures in
     let l : ltb (momentAt (a .machine .now) 1) (a .t) ≡ true = lt-ltb (momentAt (a .machine .now) 1) (a .t) (omega arith) in
-    (λ next. refused-10 _ _ _ _ next l (sym (c .before .due-before .ensures) ∙ c .if2 .taken), λ d e. refused-not-passed e)
+    λ next. refused-10 _ _ _ _ next l (sym (c .before .due-before .ensures) ∙ c .if2 .taken)
 
 numbers-rise-requires : tie.Need-numbers-rise-requires
 numbers-rise-requires c κs = search needs
@@ -38,7 +38,7 @@ returns-3 c =
     let a = c .before .before .before .before .before .before .before .before .args in
     let p = c .before .before .before .before .before .present-moment .ensures in
     let l : ltb (momentAt (a .machine .now) 1) (a .t) ≡ true = lt-ltb (momentAt (a .machine .now) 1) (a .t) (omega arith) in
-    (λ next. refused-11 _ _ _ _ next l (sym (c .before .before .before .due-before .ensures) ∙ c .before .before .if2 .left) (sym (c .before .numbers-rise .ensures) ∙ not-true _ (c .if3 .taken)), λ d e. refused-not-passed e)
+    λ next. refused-11 _ _ _ _ next l (sym (c .before .before .before .due-before .ensures) ∙ c .before .before .if2 .left) (sym (c .before .numbers-rise .ensures) ∙ not-true _ (c .if3 .taken))
 
 allowance-fits-requires : tie.Need-allowance-fits-requires
 allowance-fits-requires c κs = search needs
@@ -47,21 +47,17 @@ returns-4 : tie.Need-returns-4
 returns-4 c =
     let a = c .before .before .before .before .before .before .before .before .before .before .args in
     let p = c .before .before .before .before .before .before .before .present-moment .ensures in
-    let l : ltb (momentAt (a .machine .now) 1) (a .t) ≡ true = lt-ltb (momentAt (a .machine .now) 1) (a .t) (omega arith) in (
-      λ next. refused-12 _ _ _ _ next l (sym (c .before .before .before .before .before .due-before .ensures) ∙ c .before .before .before .before .if2 .left) (sym (c .before .before .before .numbers-rise .ensures) ∙ not-false _ (c .before .before .if3 .left))
-          (sym (c .before .allowance-fits .ensures) ∙ not-true _ (c .if4 .taken)),
-      λ d e. refused-not-passed e,
-    )
+    let l : ltb (momentAt (a .machine .now) 1) (a .t) ≡ true = lt-ltb (momentAt (a .machine .now) 1) (a .t) (omega arith) in
+    λ next. refused-12 _ _ _ _ next l (sym (c .before .before .before .before .before .due-before .ensures) ∙ c .before .before .before .before .if2 .left) (sym (c .before .before .before .numbers-rise .ensures) ∙ not-false _ (c .before .before .if3 .left))
+    (sym (c .before .allowance-fits .ensures) ∙ not-true _ (c .if4 .taken))
 
 returns-5 : tie.Need-returns-5
 returns-5 c =
     let a = c .before .before .before .before .before .before .before .before .before .before .args in
     let p = c .before .before .before .before .before .before .before .present-moment .ensures in
-    let l : ltb (momentAt (a .machine .now) 1) (a .t) ≡ true = lt-ltb (momentAt (a .machine .now) 1) (a .t) (omega arith) in (
-      λ next. none-refused _ _ _ _ next _ l (sym (c .before .before .before .before .before .due-before .ensures) ∙ c .before .before .before .before .if2 .left) (sym (c .before .before .before .numbers-rise .ensures) ∙ not-false _ (c .before .before .if3 .left))
-          (sym (c .before .allowance-fits .ensures) ∙ not-false _ (c .if4 .left)),
-      λ d e. same-moment e,
-    )
+    let l : ltb (momentAt (a .machine .now) 1) (a .t) ≡ true = lt-ltb (momentAt (a .machine .now) 1) (a .t) (omega arith) in
+    λ next. none-refused _ _ _ _ next l (sym (c .before .before .before .before .before .due-before .ensures) ∙ c .before .before .before .before .if2 .left) (sym (c .before .before .before .numbers-rise .ensures) ∙ not-false _ (c .before .before .if3 .left))
+    (sym (c .before .allowance-fits .ensures) ∙ not-false _ (c .if4 .left))
 
 pub state-question-spec : {M : Type 1} → statement M
 state-question-spec =

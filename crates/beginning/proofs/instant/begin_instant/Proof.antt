@@ -17,7 +17,7 @@ fill-rows-requires c κs =
     let o = p .before .before .before .before .before in
     let a = o .args in
     let small : Words32 (now (a .m)) = λ k. omega (arith, p .before .before .before .slice-known .given k) in
-    may-begin-pass (now (a .t)) (now (a .m)) (a .present .0) (a .soonest) (now (a .numbers)) (now (a .values)) (o .pre) small
+    may-begin-pass (now (a .t)) (now (a .m)) (a .present .0) (now (a .dues)) (now (a .numbers)) (now (a .values)) (o .pre) small
 
 list-sleepers-requires : tie.Need-list-sleepers-requires
 list-sleepers-requires c κs =
@@ -26,7 +26,7 @@ list-sleepers-requires c κs =
     let o = p .before .before .before .before .before in
     let a = o .args in
     let small : Words32 (now (a .m)) = λ k. omega (arith, p .before .before .before .slice-known .given k) in
-    may-list-sleepers (now (a .t)) (now (a .m)) (a .present .0) (a .soonest) (now (a .numbers)) (now (a .values)) (o .pre) small _ (f .fill-rows .ensures)
+    may-list-sleepers (now (a .t)) (now (a .m)) (a .present .0) (now (a .dues)) (now (a .numbers)) (now (a .values)) (o .pre) small _ (f .fill-rows .ensures)
 
 empty-requires : tie.Need-empty-requires
 empty-requires c κs = search needs
@@ -39,7 +39,7 @@ make-due-at-requires c κs =
     let o = p .before .before .before .before .before in
     let a = o .args in
     let small : Words32 (now (a .m)) = λ k. omega (arith, p .before .before .before .slice-known .given k) in
-    may-make-due (now (a .t)) (now (a .m)) (a .present .0) (a .soonest) (now (a .numbers)) (now (a .values)) (o .pre) small _ (f .fill-rows .ensures)
+    may-make-due (now (a .t)) (now (a .m)) (a .present .0) (now (a .dues)) (now (a .numbers)) (now (a .values)) (o .pre) small _ (f .fill-rows .ensures)
     _ (p .ports .ensures) _ (l .list-sleepers .ensures .0) _ (c .empty .ensures .1)
 
 write-inputs-requires : tie.Need-write-inputs-requires
@@ -51,7 +51,7 @@ write-inputs-requires c κs =
     let o = p .before .before .before .before .before in
     let a = o .args in
     let small : Words32 (now (a .m)) = λ k. omega (arith, p .before .before .before .slice-known .given k) in
-    may-write-inputs (now (a .t)) (now (a .m)) (a .present .0) (a .soonest) (now (a .numbers)) (now (a .values)) (o .pre) small _ (f .fill-rows .ensures)
+    may-write-inputs (now (a .t)) (now (a .m)) (a .present .0) (now (a .dues)) (now (a .numbers)) (now (a .values)) (o .pre) small _ (f .fill-rows .ensures)
     _ (p .ports .ensures) _ (l .list-sleepers .ensures .0) _ (d .before .empty .ensures .1) _ _ (d .make-due-at .ensures)
 
 same-length : tie.Need-same-length
@@ -67,7 +67,7 @@ returns c =
     let o = p .before .before .before .before .before in
     let a = o .args in
     let small : Words32 (now (a .m)) = λ k. omega (arith, p .before .before .before .slice-known .given k) in
-    begun (now (a .t)) (now (a .m)) (a .present .0) (a .soonest) (now (a .numbers)) (now (a .values)) (o .pre) small _ (f .fill-rows .ensures)
+    begun (now (a .t)) (now (a .m)) (a .present .0) (now (a .dues)) (now (a .numbers)) (now (a .values)) (o .pre) small _ (f .fill-rows .ensures)
     _ (p .ports .ensures) _ (l .list-sleepers .ensures .0) _ (d .before .empty .ensures .1) _ _ (d .make-due-at .ensures)
     _ _ (l .list-sleepers .ensures .1) (w .write-inputs .ensures)
 

@@ -1,27 +1,54 @@
 -- `instants::due::make_due_at` meets its contract.
 use denote.Ref.{now}
+use Rattle.instants.proofs.Passing.{due-made}
+use Rattle.instants.proofs.ReachedBlocks.{all-reach, environment-told}
 use borrow.Author.Needs.{needs}
-use Rattle.ready.specs.Slots.{slotsOf}
-use Rattle.instants.proofs.Passing.{nothing-made}
-use Rattle.instants.proofs.Reached.{reaches-none}
 use Rattle.instants.proofs.due.make_due_at.Statement.{statement}
 use Rattle.instants.proofs.due.make_due_at.Tie as tie
 
-returns : tie.Need-returns
-returns c =
-    let a = c .before .before .args in
-    let p = c .before .before .pre in
-    (nothing-made (p .3 (c .if1 .taken)), p .4, λ N. reaches-none (a .n) (now (a .m)) (slotsOf (a .ready)))
+make-due-slots-requires : tie.Need-make-due-slots-requires
+make-due-slots-requires c κs = search needs
 
-make-due-all-requires : tie.Need-make-due-all-requires
-make-due-all-requires c κs = search needs
+element-copy-out-if1 : tie.Need-element-copy-out-if1
+element-copy-out-if1 c = search needs
 
 same-length : tie.Need-same-length
 same-length c = search needs
 
+returns : tie.Need-returns
+returns c =
+    let a = c .before .before .before .before .before .before .before .args in
+    let p = c .before .before .before .before .before .before .before .pre in
+    let slots = c .before .before .before .before .make-due-slots .ensures in (
+      due-made (a .n) (a .t) (search needs) (search needs) (now (a .m)) _ _ (slots .0) (environment-told (a .n) (a .t) (slots .0) (p .4 .environment (c .if1 .taken))),
+      slots .1,
+      slots .2 (a .n),
+    )
+
+make-due-in-requires : tie.Need-make-due-in-requires
+make-due-in-requires c κs = search needs
+
+same-length-2 : tie.Need-same-length-2
+same-length-2 c = search needs
+
 returns-2 : tie.Need-returns-2
 returns-2 c =
-    c .before .before .make-due-all .ensures
+    let a = c .before .before .before .before .before .before .before .before .before .before .before .args in
+    let slots = c .before .before .before .before .before .before .before .before .make-due-slots .ensures in
+    let outer = c .before .before .make-due-in .ensures in (
+      due-made (a .n) (a .t) (search needs) (search needs) (now (a .m)) _ _ (slots .0) (outer .0),
+      outer .1,
+      λ N. all-reach (a .n) (a .t) (search needs) (slots .0) (slots .2) (outer .2) N,
+    )
 
 pub make-due-at-spec : {M : Type 1} → statement M
-make-due-at-spec = tie.close (tie.spec returns make-due-all-requires same-length returns-2)
+make-due-at-spec =
+    tie.close
+    (tie.spec
+    make-due-slots-requires
+    element-copy-out-if1
+    same-length
+    returns
+    make-due-in-requires
+    same-length-2
+    returns-2)

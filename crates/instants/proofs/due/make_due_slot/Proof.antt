@@ -1,15 +1,20 @@
 -- `instants::due::make_due_slot` meets its contract.
 use denote.Ref.{now}
-use mathlib.Core.Path.{_≡_, sym, ap, _∙_}
+use mathlib.Core.Path.{sym, ap, _∙_}
 use Prim.Native.Nat.{ℕ, min}
-use borrow.Author.Needs.{needs}
-use Rattle.blocks.specs.Blocks.{block}
 use Rattle.ready.specs.Slots.{slotsOf}
-use Rattle.instants.proofs.Turns.{free-slot-stays, taken-slot-done}
+use Rattle.instants.proofs.Turns.{free-slot-stays, taken-slot-done, block-passed-over}
 use Rattle.instants.proofs.Reached.{reaches-none}
 use Rattle.instants.proofs.ReachedBlocks.{slot-reaches}
+use borrow.Author.Needs.{needs}
 use Rattle.instants.proofs.due.make_due_slot.Statement.{statement}
 use Rattle.instants.proofs.due.make_due_slot.Tie as tie
+
+returns : tie.Need-returns
+returns c =
+    let a = c .before .before .args in
+    let p = c .before .before .pre in
+    (block-passed-over (now (a .m)) (a .s) _ (p .3 (c .if1 .taken)), p .4, λ n u. reaches-none n (now (a .m)) (slotsOf (a .ready)))
 
 word-at-requires : tie.Need-word-at-requires
 word-at-requires c κs = search needs
@@ -17,11 +22,11 @@ word-at-requires c κs = search needs
 same-length : tie.Need-same-length
 same-length c = search needs
 
-returns : tie.Need-returns
-returns c =
-    let a = c .before .before .before .before .args in (
-      free-slot-stays (a .t) (now (a .m)) (a .s) (sym (c .before .word-at .ensures) ∙ c .if1 .taken),
-      c .before .before .before .before .pre .3,
+returns-2 : tie.Need-returns-2
+returns-2 c =
+    let a = c .before .before .before .before .before .args in (
+      free-slot-stays (a .t) (now (a .m)) (a .s) (sym (c .before .word-at .ensures) ∙ c .if2 .taken),
+      c .before .before .before .before .before .pre .4,
       λ n u. reaches-none n (now (a .m)) (slotsOf (a .ready)),
     )
 
@@ -37,16 +42,26 @@ make-due-in-requires c κs = search needs
 same-length-2 : tie.Need-same-length-2
 same-length-2 c = search needs
 
-returns-2 : tie.Need-returns-2
-returns-2 c =
-    let a = c .before .before .before .before .before .before .before .before .before .before .before .args in
+returns-3 : tie.Need-returns-3
+returns-3 c =
+    let a = c .before .before .before .before .before .before .before .before .before .before .before .before .args in
     let own = c .before .before .before .before .at-most-16 .ensures ∙ ap (λ (n : ℕ). min n 16) (c .before .before .before .before .before .word-at2 .ensures) in
     let made = c .before .before .make-due-in .ensures in (
-      taken-slot-done (a .t) _ (λ z. c .before .before .before .before .before .before .before .if1 .left (c .before .before .before .before .before .before .before .before .word-at .ensures ∙ z)) own (made .0),
+      taken-slot-done (a .t) _ (λ z. c .before .before .before .before .before .before .before .if2 .left (c .before .before .before .before .before .before .before .before .word-at .ensures ∙ z)) own (made .0),
       made .1,
       λ n u. slot-reaches n (a .s) _ (search needs) own (made .2) u,
     )
 
 pub make-due-slot-spec : {M : Type 1} → statement M
 make-due-slot-spec =
-    tie.close (tie.spec word-at-requires same-length returns word-at-requires-2 at-most-16-requires make-due-in-requires same-length-2 returns-2)
+    tie.close
+    (tie.spec
+    returns
+    word-at-requires
+    same-length
+    returns-2
+    word-at-requires-2
+    at-most-16-requires
+    make-due-in-requires
+    same-length-2
+    returns-3)

@@ -3,28 +3,36 @@ use denote.Ref.{now}
 use mathlib.Core.Path.{_≡_}
 use Prim.Native.Nat.{_≤_, _-_}
 use native.Mathlib.Omega.{arith}
-use borrow.Author.Needs.{needs}
 use Rattle.ready.specs.Slots.{slotsOf}
-use Rattle.instants.proofs.ReachedBlocks.{SlotsSoFar, no-slot-yet, one-more-slot}
+use Rattle.instants.proofs.ReachedBlocks.{SlotsSoFar, no-slot-yet, one-more-slot, slot-told}
+use borrow.Author.Needs.{needs}
 use Rattle.instants.proofs.due.make_due_slots.Statement.{statement}
 use Rattle.instants.proofs.due.make_due_slots.Tie as tie
 
 abbrev Inv-loop : tie.InvT-loop
-Inv-loop m₀ t s₀ woken₀ m s woken = (s ≤ 64) × SlotsSoFar t s m₀ m (slotsOf woken₀) (slotsOf woken)
+Inv-loop m₀ t dues s₀ woken₀ m s woken =
+    (s ≤ 64) × SlotsSoFar t s m₀ m (slotsOf woken₀) (slotsOf woken)
 
 abbrev μ-loop : tie.MeasureT-loop
-μ-loop m₀ t s₀ woken₀ m s woken = 64 - s
+μ-loop m₀ t dues s₀ woken₀ m s woken =
+    64 - s
 
 loop-holds : tie.Need-loop-holds Inv-loop μ-loop
 loop-holds c =
     let a = c .before .args in
-    (omega arith, no-slot-yet (a .t) (now (a .m)) (slotsOf (a .ready)) (c .before .pre .2))
+    (omega arith, no-slot-yet (a .t) (now (a .m)) (slotsOf (a .ready)) (c .before .pre .4))
+
+mul-make-due-slot : tie.Need-mul-make-due-slot Inv-loop μ-loop
+mul-make-due-slot c = search needs
+
+element-copy-out-make-due-slot : tie.Need-element-copy-out-make-due-slot Inv-loop μ-loop
+element-copy-out-make-due-slot c = search needs
 
 make-due-slot-requires : tie.Need-make-due-slot-requires Inv-loop μ-loop
 make-due-slot-requires c κs =
-    let v = c .before .before .loop in
+    let v = c .before .before .before .loop in
     let size = v .inv .1 .words .size in
-    (omega arith, search needs, search needs, v .inv .1 .order)
+    (omega arith, search needs, search needs, slot-told _ (v .s) (v .inv .1 .words) (search needs) (c .before .before .before .before .before .pre .3 (v .s) (search needs)), v .inv .1 .order)
 
 add-s : tie.Need-add-s Inv-loop μ-loop
 add-s c = search needs
@@ -34,8 +42,8 @@ loop-less c = search needs
 
 loop-again : tie.Need-loop-again Inv-loop μ-loop
 loop-again c =
-    let a = c .before .before .before .before .before .before .before .args in
-    let v = c .before .before .before .before .before .loop in
+    let a = c .before .before .before .before .before .before .before .before .args in
+    let v = c .before .before .before .before .before .before .loop in
     let one = c .before .before .make-due-slot .ensures in
     (search needs, one-more-slot (a .t) (v .s) (search needs) (v .inv .1) (one .0) (one .1) (one .2))
 
@@ -50,4 +58,17 @@ returns c =
     (d .words, d .order, d .reaches)
 
 pub make-due-slots-spec : {M : Type 1} → statement M
-make-due-slots-spec = tie.close (tie.spec Inv-loop μ-loop loop-holds make-due-slot-requires add-s loop-less loop-again same-length returns)
+make-due-slots-spec =
+    tie.close
+    (tie.spec
+    Inv-loop
+    μ-loop
+    loop-holds
+    mul-make-due-slot
+    element-copy-out-make-due-slot
+    make-due-slot-requires
+    add-s
+    loop-less
+    loop-again
+    same-length
+    returns)

@@ -1,16 +1,13 @@
--- `engine::calls::instant` meets its contract.
+-- `engine::instant_call::instant` meets its contract.
 use native.Mathlib.Omega.{arith}
 use lib.ListN.{length-take}
 use Rattle.engine.proofs.Accepted.{instant-refused, instant-accepted, conclusion-keeps}
 use borrow.Author.Needs.{needs}
-use Rattle.engine.proofs.calls.instant.Statement.{statement}
-use Rattle.engine.proofs.calls.instant.Tie as tie
+use Rattle.engine.proofs.instant_call.instant.Statement.{statement}
+use Rattle.engine.proofs.instant_call.instant.Tie as tie
 
 instant-question-requires : tie.Need-instant-question-requires
 instant-question-requires c κs = search needs
-
-enum-known-answer : tie.Need-enum-known-answer
-enum-known-answer c = search needs
 
 same-length : tie.Need-same-length
 same-length c = search needs
@@ -23,10 +20,7 @@ same-length-3 c = search needs
 
 returns : tie.Need-returns
 returns c =
-    instant-refused _ _ _ _ _ _ _ _ _ _ (c .before .before .before .instant-question .ensures) (c .before .answer .given .1)
-
-enum-known-answer-2 : tie.Need-enum-known-answer-2
-enum-known-answer-2 c = search needs
+    instant-refused _ _ _ _ _ _ _ _ _ _ (c .before .instant-question .ensures) (c .if1 .taken)
 
 sub-instant-work : tie.Need-sub-instant-work
 sub-instant-work c = search needs
@@ -36,12 +30,12 @@ part-instant-work-start c = search needs
 
 part-instant-work-end : tie.Need-part-instant-work-end
 part-instant-work-end c =
-    let A = instant-accepted _ _ _ _ _ _ _ _ _ _ (c .before .before .before .instant-question .ensures) (c .before .answer2 .given .1) in
+    let A = instant-accepted _ _ _ _ _ _ _ _ _ _ (c .before .instant-question .ensures) (c .if1 .left) in
     omega (arith, A .lengths .table-long)
 
 instant-work-requires : tie.Need-instant-work-requires
 instant-work-requires c κs =
-    let A = instant-accepted _ _ _ _ _ _ _ _ _ _ (c .before .before .before .before .before .before .before .instant-question .ensures) (c .before .before .before .before .before .answer2 .given .1) in
+    let A = instant-accepted _ _ _ _ _ _ _ _ _ _ (c .before .before .before .before .before .before .instant-question .ensures) (c .before .before .before .before .before .if1 .left) in
     (simp length-take (omega (arith, A .lengths .table-long)), A .may, A .lengths .numbers-long, A .lengths .values-long)
 
 same-length-4 : tie.Need-same-length-4
@@ -55,7 +49,7 @@ same-length-6 c = search needs
 
 returns-2 : tie.Need-returns-2
 returns-2 c =
-    let A = instant-accepted _ _ _ _ _ _ _ _ _ _ (c .before .before .before .before .before .before .before .before .before .before .before .before .before .before .instant-question .ensures) (c .before .before .before .before .before .before .before .before .before .before .before .before .answer2 .given .1) in
+    let A = instant-accepted _ _ _ _ _ _ _ _ _ _ (c .before .before .before .before .before .before .before .before .before .before .before .before .before .instant-question .ensures) (c .before .before .before .before .before .before .before .before .before .before .before .before .if1 .left) in
     conclusion-keeps _ _ _ _ _ _ _ _ _ _ (A .may .table) (A .outcome) (c .before .before .before .before .before .before .instant-work .ensures (A .may))
 
 pub instant-spec : {M : Type 1} → statement M
@@ -63,12 +57,10 @@ instant-spec =
     tie.close
     (tie.spec
     instant-question-requires
-    enum-known-answer
     same-length
     same-length-2
     same-length-3
     returns
-    enum-known-answer-2
     sub-instant-work
     part-instant-work-start
     part-instant-work-end

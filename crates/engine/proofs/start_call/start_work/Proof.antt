@@ -1,9 +1,9 @@
--- `engine::calls::start_work` meets its contract.
+-- `engine::start_call::start_work` meets its contract.
 use denote.Ref.{now}
 use Rattle.engine.proofs.Starting.{may-run, may-conclude, start-concludes}
 use borrow.Author.Needs.{needs}
-use Rattle.engine.proofs.calls.start_work.Statement.{statement}
-use Rattle.engine.proofs.calls.start_work.Tie as tie
+use Rattle.engine.proofs.start_call.start_work.Statement.{statement}
+use Rattle.engine.proofs.start_call.start_work.Tie as tie
 
 begin-start-requires : tie.Need-begin-start-requires
 begin-start-requires c κs = search needs

@@ -1,10 +1,10 @@
--- `engine::calls::start` meets its contract.
+-- `engine::start_call::start` meets its contract.
 use native.Mathlib.Omega.{arith}
 use lib.ListN.{length-take}
 use Rattle.engine.proofs.Accepted.{start-refused, start-accepted, conclusion-keeps}
 use borrow.Author.Needs.{needs}
-use Rattle.engine.proofs.calls.start.Statement.{statement}
-use Rattle.engine.proofs.calls.start.Tie as tie
+use Rattle.engine.proofs.start_call.start.Statement.{statement}
+use Rattle.engine.proofs.start_call.start.Tie as tie
 
 start-question-requires : tie.Need-start-question-requires
 start-question-requires c κs = search needs

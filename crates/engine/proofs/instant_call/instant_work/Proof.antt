@@ -1,4 +1,4 @@
--- `engine::calls::instant_work` meets its contract.
+-- `engine::instant_call::instant_work` meets its contract.
 use native.Mathlib.Omega.{arith}
 use Prim.Native.Nat.{_<_}
 use mathlib.Core.Path.{refl}
@@ -6,8 +6,8 @@ use denote.Ref.{now}
 use Rattle.walk.specs.Calls.{Words32}
 use Rattle.engine.proofs.Working.{may-begin, may-run, may-conclude, instant-concludes}
 use borrow.Author.Needs.{needs}
-use Rattle.engine.proofs.calls.instant_work.Statement.{statement}
-use Rattle.engine.proofs.calls.instant_work.Tie as tie
+use Rattle.engine.proofs.instant_call.instant_work.Statement.{statement}
+use Rattle.engine.proofs.instant_call.instant_work.Tie as tie
 
 slice-read-live : tie.Need-slice-read-live
 slice-read-live c = search needs
@@ -15,12 +15,12 @@ slice-read-live c = search needs
 begin-instant-requires : tie.Need-begin-instant-requires
 begin-instant-requires c κs =
     let a = c .before .before .before .before .before .before .before .before .args in
-    may-begin (now (a .table)) (now (a .machine)) (a .t) (a .soonest) (now (a .in-numbers)) (now (a .in-values)) (a .allowance) (c .before .before .before .before .before .before .before .before .pre .1) (λ k. omega (arith, c .before .before .before .before .before .before .slice-known .given k))
+    may-begin (now (a .table)) (now (a .machine)) (a .t) (now (a .dues)) (now (a .in-numbers)) (now (a .in-values)) (a .allowance) (c .before .before .before .before .before .before .before .before .pre .1) (λ k. omega (arith, c .before .before .before .before .before .before .slice-known .given k))
 
 run-ready-requires : tie.Need-run-ready-requires
 run-ready-requires c κs =
     let a = c .before .before .before .before .before .before .before .before .before .before .before .before .args in
-    may-run (now (a .table)) (now (a .machine)) (a .t) (a .soonest) (now (a .in-numbers)) (now (a .in-values)) (a .allowance) (c .before .before .before .before .before .before .before .before .before .before .before .before .pre .1) (λ k. omega (arith, c .before .before .before .before .before .before .before .before .before .before .slice-known .given k))
+    may-run (now (a .table)) (now (a .machine)) (a .t) (now (a .dues)) (now (a .in-numbers)) (now (a .in-values)) (a .allowance) (c .before .before .before .before .before .before .before .before .before .before .before .before .pre .1) (λ k. omega (arith, c .before .before .before .before .before .before .before .before .before .before .slice-known .given k))
     _ _ (c .before .before .before .begin-instant .ensures) _ refl
 
 conclude-requires : tie.Need-conclude-requires
@@ -31,7 +31,7 @@ conclude-requires c κs =
     let words : Words32 (now (a .in-values)) = λ k. omega (arith, c .before .before .before .before .before .before .before .before .before .before .before .before .before .before .shared-slice-known3 .given k) in
     let below : a .t < 18446744073709551616 = omega (arith, c .before .before .before .before .before .before .before .before .before .before .before .before .before .before .before .before .before .before .fits) in (
       p .0,
-      may-conclude (now (a .table)) (now (a .machine)) (a .t) (a .soonest) (now (a .in-numbers)) (now (a .in-values)) (a .allowance) (p .1) small
+      may-conclude (now (a .table)) (now (a .machine)) (a .t) (now (a .dues)) (now (a .in-numbers)) (now (a .in-values)) (a .allowance) (p .1) small
           _ _ (c .before .before .before .before .before .before .before .before .before .begin-instant .ensures) _ refl _ _ (c .before .before .before .before .before .run-ready .ensures) below words,
       p .2,
       p .3,
@@ -53,9 +53,9 @@ returns c =
     let words : Words32 (now (a .in-values)) = λ k. omega (arith, c .before .before .before .before .before .before .before .before .before .before .before .before .before .before .before .before .before .before .before .before .before .shared-slice-known3 .given k) in
     let below : a .t < 18446744073709551616 = omega (arith, c .before .before .before .before .before .before .before .before .before .before .before .before .before .before .before .before .before .before .before .before .before .before .before .before .before .fits) in
     λ may.
-    instant-concludes (now (a .table)) (now (a .machine)) (a .t) (a .soonest) (now (a .in-numbers)) (now (a .in-values)) (a .allowance) may small
+    instant-concludes (now (a .table)) (now (a .machine)) (a .t) (now (a .dues)) (now (a .in-numbers)) (now (a .in-values)) (a .allowance) may small
     _ _ (c .before .before .before .before .before .before .before .before .before .before .before .before .before .before .before .before .begin-instant .ensures) _ refl _ _ (c .before .before .before .before .before .before .before .before .before .before .before .before .run-ready .ensures) below words _ _ _ _ _ _
-    (c .before .before .before .before .before .before .conclude .ensures (may-conclude (now (a .table)) (now (a .machine)) (a .t) (a .soonest) (now (a .in-numbers)) (now (a .in-values)) (a .allowance) may small
+    (c .before .before .before .before .before .before .conclude .ensures (may-conclude (now (a .table)) (now (a .machine)) (a .t) (now (a .dues)) (now (a .in-numbers)) (now (a .in-values)) (a .allowance) may small
     _ _ (c .before .before .before .before .before .before .before .before .before .before .before .before .before .before .before .before .begin-instant .ensures) _ refl _ _ (c .before .before .before .before .before .before .before .before .before .before .before .before .run-ready .ensures) below words))
 
 pub instant-work-spec : {M : Type 1} → statement M

@@ -1,0 +1,85 @@
+// The instant call, of any memories: its questions, then the work of the instant.
+ghost use mathlib.Core.Path.{_≡_};
+ghost use Prim.Native.Nat.{_≤_};
+ghost use lib.ListN.{length};
+ghost use Rattle.walk.specs.Instant as walk;
+ghost use Rattle.walk.specs.Calls.{inputsOf};
+ghost use Rattle.walk.specs.Promises.{InstantPromise};
+ghost use Rattle.table.specs.Decode.{tableListing};
+ghost use Rattle.layout.specs.Layout.{layout};
+ghost use Rattle.engine.specs.Answers.{resultOf};
+ghost use Rattle.engine.specs.Conclusions.{Concludes};
+ghost use Rattle.engine.specs.Works.{MayInstant};
+use crate::answers::Answer;
+use crate::conclusion::conclude;
+use questions::instant_question;
+use words::Moment;
+
+// The instant at t on a table's 12,288 words, its questions answered; the soonest moment due of each block is known.
+fn instant_work(
+    table: &[u32],
+    machine: &mut [u32],
+    t: u64,
+    dues: &[u64; 65],
+    in_numbers: &[u32],
+    in_values: &[u32],
+    numbers: &mut [u32],
+    values: &mut [u32],
+    allowance: u32,
+) -> Answer
+    requires { ⌜ (length (now table) ≡ 12288) × (MayInstant (now table) (now machine) t (now dues) (now «in_numbers») (now «in_values») allowance)
+        × (16 ≤ length (now numbers)) × (16 ≤ length (now values)) ⌝ }
+    ensures { λ r. ⌜ ((may : MayInstant (now (table .entry)) (now (machine .entry)) t (now (dues .entry)) (now («in_numbers» .entry)) (now («in_values» .entry)) allowance) →
+        Concludes (tableListing (now (table .entry))) (now (machine .entry)) (now (numbers .entry)) (now (values .entry))
+        (now (machine .exit)) (now (numbers .exit)) (now (values .exit))
+        (walk.instant (tableListing (now (table .entry))) (may .state) t (inputsOf (now («in_numbers» .entry)) (now («in_values» .entry))) allowance) r) ⌝ }
+{
+    let present = Moment(t);
+    let live = machine[3];
+    let ready = beginning::begin_instant(table, machine, present, dues, in_numbers, in_values);
+    let ran = run::run_ready(table, machine, present, ready, live, allowance);
+    conclude(table, machine, t, allowance, ran, numbers, values)
+}
+
+// An instant at t, with inputs by number and value.
+pub fn instant(
+    table: &[u32],
+    machine: &mut [u32],
+    t: u64,
+    in_numbers: &[u32],
+    in_values: &[u32],
+    out_numbers: &mut [u32],
+    out_values: &mut [u32],
+    allowance: u32,
+) -> Answer
+    ensures { λ r. ⌜ InstantPromise layout (now (table .entry)) (now (machine .entry)) t (now («in_numbers» .entry)) (now («in_values» .entry))
+        (now («out_numbers» .entry)) (now («out_values» .entry)) allowance
+        (now (machine .exit)) (now («out_numbers» .exit)) (now («out_values» .exit)) (resultOf r) ⌝ }
+{
+    let mut dues: [u64; 65] = [0; 65];
+    let refusal = instant_question(
+        table,
+        machine,
+        t,
+        in_numbers,
+        in_values,
+        out_numbers,
+        out_values,
+        allowance,
+        &mut dues,
+    );
+    if refusal != 0 {
+        return Answer::Refused(refusal);
+    }
+    instant_work(
+        &table[0..12288],
+        machine,
+        t,
+        &dues,
+        in_numbers,
+        in_values,
+        out_numbers,
+        out_values,
+        allowance,
+    )
+}

@@ -51,16 +51,19 @@ unfolding slotsOf
 length-slots q = length-falling (q .places) 0 (q .count)
 
 -- ── new slots before the others ───────────────────────────────────────────────────────────────────
+-- v stored behind the n entries in use.
+pub falling-put : (p : List ℕ) (n v : ℕ) → n < length p → falling (set p n v) 0 (suc n) ≡ v ∷ falling p 0 n
+unfolding falling
+falling-put p n v room =
+    let z : 0 + n ≡ n = omega arith in
+    ap₂ (λ (x : ℕ) (r : List ℕ). x ∷ r) (rw z (getD-set-same p n v 0 room)) (falling-set p n v 0 n (λ j a b q. omega arith))
+
 -- The next new slot, from the last one down, stored behind the entries in use.
 pub put-next : (p new others : List ℕ) (count at left : ℕ) → left < count → count ≤ length new → at < length p → falling p 0 at ≡ drop (suc left) (take count new) ++ others
     → falling (set p at (getD new left 0)) 0 (suc at) ≡ drop left (take count new) ++ others
-unfolding falling
 put-next p new others count at left h few room e =
     let here : length (take count new) ≡ count = length-take-le count new few in
-    let stored : falling (set p at (getD new left 0)) 0 (suc at) ≡ getD new left 0 ∷ falling p 0 at =
-    let z : 0 + at ≡ at = omega arith in
-    ap₂ (λ (v : ℕ) (r : List ℕ). v ∷ r) (rw z (getD-set-same p at (getD new left 0) 0 room)) (falling-set p at (getD new left 0) 0 at (λ j a b q. omega arith)) in
-    stored ∙ rw (drop-cons (take count new) left 0 (omega arith), getD-take count new left 0 h, e)
+    falling-put p at (getD new left 0) room ∙ rw (drop-cons (take count new) left 0 (omega arith), getD-take count new left 0 h, e)
 
 pub none-put : (new : List ℕ) (count : ℕ) → count ≤ length new → drop count (take count new) ≡ []
 none-put new count few = drop-of-length-le (take count new) {i = count} (let e = length-take-le count new few in omega arith)

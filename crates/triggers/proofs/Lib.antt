@@ -1,5 +1,6 @@
 pub mod Owners
 pub mod Chaining
 pub mod Waking
+pub mod Putting
 pub mod Listing
 pub mod Slots

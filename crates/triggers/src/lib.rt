@@ -15,7 +15,7 @@ ghost use Rattle.ready.specs.Slots.{slotsOf};
 ghost use Rattle.ready.specs.Ordered.{Ordered};
 ghost use Rattle.triggers.specs.Chains.{triggersAt, NoTriggers, Chains, OnlyTriggers};
 ghost use Rattle.triggers.specs.Awaited.{awaitedNames, FewNames, Sleepers, NamesOf, listsWith};
-ghost use Rattle.triggers.specs.Wakes.{wakes, triggeredFrom};
+ghost use Rattle.triggers.specs.Wakes.{wakes, triggeredFrom, goesFirst};
 use ready::ReadyList;
 
 // The number of an instruction's kind in the table: `W`.
@@ -70,13 +70,49 @@ pub fn wake(m: &[u32], q: ReadyList, s: usize, index: usize, low: u32) -> ReadyL
     wake_from(m, q, s, index, low as u64 + 1)
 }
 
-// A due write or an input, before any routine runs: it reaches all who await the variable.
+// Whether trigger `next` is there, numbered up to `most`, and its slot sleeps and has its lowest priority below `low`.
+fn goes_first(m: &[u32], next: usize, most: usize, low: u64) -> bool
+    requires { ⌜ (12288 ≤ length (now m)) × (most ≤ 256) ⌝ }
+    ensures { λ r. ⌜ r ≡ goesFirst (rowsOf (now (m .entry))) next most low ⌝ }
+{
+    if next == 0 {
+        return false;
+    }
+    if next > most {
+        return false;
+    }
+    let slot = (next - 1) / 4;
+    if !blocks::asleep(m, slot) {
+        return false;
+    }
+    let own = blocks::low(m, slot) as u64;
+    own < low
+}
+
+// A due write or an input, before any routine runs: it reaches all who await the variable. As a rule each goes before all who
+// are ready, and is stored there at once: a push by value copies the whole list right behind its store. Else each is pushed.
 pub fn wake_all(m: &[u32], q: ReadyList, s: usize, index: usize) -> ReadyList
     requires { ⌜ (12288 ≤ length (now m)) × (s ≤ 64) × (index < 16) × (Ordered (rowsOf (now m)) (slotsOf q)) ⌝ }
     ensures { λ r. ⌜ (slotsOf r ≡ insertAll (rowsOf (now (m .entry))) (triggeredFrom (rowsOf (now (m .entry))) 0 (triggersAt (now (m .entry)) s index)) (slotsOf q))
         × (Ordered (rowsOf (now (m .entry))) (slotsOf r)) ⌝ }
 {
-    wake_from(m, q, s, index, 0)
+    let mut next = number(blocks::word_at(m, s, 144 + index));
+    let mut most: usize = 256;
+    let mut low = ready::first_low(m, q);
+    let mut p = q.places;
+    let mut count = q.count;
+    while goes_first(m, next, most, low) {
+        most = next - 1;
+        let slot = most / 4;
+        low = blocks::low(m, slot) as u64;
+        p[count] = slot as u8;
+        count += 1;
+        next = number(blocks::word_at(m, slot, 160 + most % 4));
+    }
+    if next > 0 {
+        return wake_from(m, q, s, index, 0);
+    }
+    ReadyList { places: p, count }
 }
 
 // ---- at the beginning of an instant ----

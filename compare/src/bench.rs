@@ -265,33 +265,51 @@ fn waiting(writes: usize) -> String {
     sleepers(&format!("R\trr\t14\n{lines}W\t0\nG\t{writes}\n"))
 }
 
-/// The moments of the waiting writes in a machine's words, block by block (docs/LAYOUT.md).
-fn moments_due(machine: &[u32]) -> impl Iterator<Item = u64> + '_ {
-    let blocks = machine[328..].chunks_exact(184).filter(|block| block[0] != 0);
-    let variables = blocks.flat_map(|block| block[8..].chunks_exact(6).take(block[4] as usize));
-    variables.map(|v| u64::from(v[2]) + (u64::from(v[3]) << 32)).filter(|&due| due != 0)
+/// The moments of a block's variables, 0 for none (docs/LAYOUT.md).
+fn moments(block: &[u32]) -> impl Iterator<Item = u64> + '_ {
+    let variables = block[8..].chunks_exact(6).take(block[4] as usize);
+    variables.map(|v| u64::from(v[2]) + (u64::from(v[3]) << 32))
 }
 
-/// What is due at the soonest moment, by a pass that keeps the least and one that takes those due at
-/// it; and by one that puts every waiting write into a queue by moment, from which those are taken.
+fn live_blocks(machine: &[u32]) -> impl Iterator<Item = &[u32]> + '_ {
+    machine[328..].chunks_exact(184).filter(|block| block[0] != 0)
+}
+
+/// The soonest of the moments that are not 0, and not this one.
+fn soonest(due: impl Iterator<Item = u64>, but: u64) -> u64 {
+    due.filter(|&due| due != 0 && due != but).min().unwrap_or(0)
+}
+
+/// What is due at the soonest moment, and the moment due after it, in two ways. As the library does:
+/// one pass keeps the soonest of each block; the blocks that have it are looked at once more, and at
+/// the end those in which a write waits. And with a queue: one pass puts every waiting write into it.
 fn due_times(text: &str) -> (f64, f64) {
     let machine = started(text.as_bytes()).machine;
     let mut room = Vec::with_capacity(1_024);
-    let mut passes = || {
-        let soonest = moments_due(black_box(&machine)).min();
-        black_box(moments_due(black_box(&machine)).filter(|&due| Some(due) == soonest).count());
+    let mut by_block = || {
+        let machine = black_box(&machine);
+        let mut dues = [0; 64];
+        for (due, block) in dues.iter_mut().zip(live_blocks(machine)) {
+            *due = soonest(moments(block), 0);
+        }
+        let now = soonest(dues.iter().copied(), 0);
+        let with = |&(&due, _): &(&u64, &[u32])| due == now;
+        let due: usize = dues.iter().zip(live_blocks(machine)).filter(with).map(|(_, block)| moments(block).filter(|&due| due == now).count()).sum();
+        let waits = dues.iter().zip(live_blocks(machine)).filter(|(&due, _)| due != 0);
+        let next = waits.map(|(_, block)| soonest(moments(block), now)).filter(|&due| due != 0).min();
+        black_box((due, next));
     };
     let mut queued = || {
         room.clear();
-        room.extend(moments_due(black_box(&machine)).map(Reverse));
+        room.extend(live_blocks(black_box(&machine)).flat_map(moments).filter(|&due| due != 0).map(Reverse));
         let mut queue = BinaryHeap::from(std::mem::take(&mut room));
-        let soonest = queue.peek().copied();
-        while queue.peek().copied() == soonest && queue.pop().is_some() {}
+        let now = queue.peek().copied();
+        while queue.peek().copied() == now && queue.pop().is_some() {}
         black_box(queue.peek());
         room = queue.into_vec();
     };
-    let [pass, queue] = beside([&mut passes, &mut queued]);
-    (pass, queue)
+    let [block, queue] = beside([&mut by_block, &mut queued]);
+    (block, queue)
 }
 
 fn load_times(text: &str) -> (f64, f64) {
@@ -380,10 +398,10 @@ fn due_found() {
         let (idle, due) = due_instants(locals);
         println!("| of {locals} variables each | {idle:.1} | {due:.1} | {:.1} |", due - idle);
     }
-    println!("\n| finding what is due | two passes | a queue made by one pass | ratio |\n|---|---|---|---|");
+    println!("\n| finding what is due, and what next | block by block | a queue made by one pass | ratio |\n|---|---|---|---|");
     for (count, text) in [(1, ticking(14, true)), (56, waiting(1)), (784, waiting(14))] {
-        let (pass, queue) = due_times(&text);
-        println!("| of {count} waiting writes | {pass:.1} | {queue:.1} | {:.2} |", pass / queue);
+        let (block, queue) = due_times(&text);
+        println!("| of {count} waiting writes | {block:.1} | {queue:.1} | {:.2} |", block / queue);
     }
 }
 

@@ -70,6 +70,7 @@ zero-tidy c h = record {
   spareHigh = λ i l. refl;
   past = λ i l g. record { value = refl; waiting = refl; low = refl; high = refl };
   idle = λ i l e. refl;
+  quiet = λ e i l. refl;
 }
 
 zero-slot : TidySlot zeroBlock

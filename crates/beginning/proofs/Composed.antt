@@ -1,5 +1,5 @@
 -- The beginning of an instant, from one part to the next: filled in, sleepers listed, due writes made, inputs written.
--- Letters: t the table's words; m₀ to m₄ the machine's at the entry, filled in, with the trigger lists, after due writes, after inputs; s the state that m₀
+-- Letters: t the table's words; m₀ the machine's at the entry, m with the event queue noted, m₁ to m₄ filled in, with the trigger lists, after due writes, after inputs; s the state that m₀
 -- is read as; n the number of environment variables; σ rows.
 use mathlib.Core.Path.{_≡_, refl, sym, ap, _∙_}
 use mathlib.Core.Bool.{true, false}
@@ -7,7 +7,7 @@ use mathlib.Core.List.{List, []}
 use mathlib.Core.Option.{some}
 use Prim.Native.Nat.{ℕ, _+_, _*_, _≤_, _<_}
 use native.Mathlib.Omega.{arith}
-use lib.ListN.{length, take}
+use lib.ListN.{length, getD, take}
 use Rattle.listing.specs.Listing.{Listing}
 use Rattle.walk.specs.State.{Variable, State}
 use Rattle.walk.specs.Instant.{Write, environmentSize, dueWrites, applyInputs, nextDue}
@@ -41,8 +41,10 @@ use Rattle.filling.specs.Filling.{orderOf, portsOf, FillsRows, MayFillAll}
 use Rattle.instants.specs.Beginnings.{DueMade, DuesTell, InputsWritten, NumbersBelow}
 use Rattle.instants.proofs.InputNumbers.{rising-numbers-below}
 use Rattle.instants.specs.Reaching.{ReadySoFar, Reaches, NothingWritten}
+use Rattle.beginning.specs.Queue.{Queued}
+use Rattle.beginning.proofs.QueuedWords.{queued-tidy, may-fill-queued, filled-queued}
 use Rattle.beginning.specs.Begun.{MayBegin, BegunFrom, Begun}
-use Rattle.beginning.proofs.Found.{found-live, found-tidy, found-environment, found-no-triggers, false-not}
+use Rattle.beginning.proofs.Found.{slot-found, found-live, found-few, found-environment, found-no-triggers, false-not}
 use Rattle.beginning.proofs.Filled.{state-found, filledFrom, filled-from-holds, filled-own, filled-rows, may-fill-all}
 use Rattle.beginning.proofs.NotDue.{dues-tell}
 use Rattle.beginning.proofs.AtRest.{words-unwritten, nothing-written}
@@ -63,6 +65,7 @@ block-tidy a b same T =
         high = same (11 + i * 6) (omega arith) ∙ B .high;
       };
       idle = λ i h e. same (9 + i * 6) (omega arith) ∙ T .idle i h (rw (same (10 + i * 6) (omega arith), same (11 + i * 6) (omega arith)) at e);
+      quiet = λ e i h. rw (same (10 + i * 6) (omega arith), same (11 + i * 6) (omega arith)) (T .quiet (sym (same 7 (omega arith)) ∙ e) i h);
     }
 
 slot-tidy : (a b : Block) → ((k : ℕ) → k < 144 → b k ≡ a k) → TidySlot a → TidySlot b
@@ -126,8 +129,9 @@ none-ready-yet listing n m none lists =
     record { woken = []; made = refl; sound = λ s i. elim i [ ]; full = λ s w. false-not (sym (none s) ∙ w); lists = lists }
 
 -- ── the parts, for a state that m₀ is read as ─────────────────────────────────────────────────────
-abbrev FilledIn : List ℕ → List ℕ → List ℕ → Type 0
-FilledIn t m₀ m₁ = FillsRows m₀ (filledRows (tableListing t) (rowsOf m₀) (portsOf t m₀) (λ level. 64) (orderOf m₀)) m₁
+-- m₁ filled in, from m, as the rows of m₀ are.
+abbrev FilledIn : List ℕ → List ℕ → List ℕ → List ℕ → Type 0
+FilledIn t m₀ m m₁ = FillsRows m (filledRows (tableListing t) (rowsOf m₀) (portsOf t m₀) (λ level. 64) (orderOf m₀)) m₁
 
 module _ (t m₀ : List ℕ) (table : isTable t ≡ true) (small : Words32 m₀) (s : State) (e : readMachine (tableListing t) (take 12288 m₀) ≡ some (running s)) where
   abbrev listing : Listing
@@ -148,19 +152,20 @@ module _ (t m₀ : List ℕ) (table : isTable t ≡ true) (small : Words32 m₀)
   state : IsState listing s
   state = state-found t m₀ table small s e
 
-  module _ (m₁ : List ℕ) (F : FilledIn t m₀ m₁) where
+  module _ (dues m : List ℕ) (D : Dues n (take 12288 m₀) dues) (Q : Queued 65 dues m₀ m) (m₁ : List ℕ) (F : FilledIn t m₀ m m₁) where
     filled-stand : Stands n m₀ m₁ filled (s .environment)
     filled-stand = record {
       rows = F .rows ∙ filled-rows t m₀ table small s e;
-      outer = F .environment n ∙ found-environment listing limits m₀ small s e;
-      tidy = F .tidy n (found-tidy listing limits m₀ small s e);
-      outside = F .outside;
+      outer = F .environment n ∙ (Q .environment n ∙ found-environment listing limits m₀ small s e);
+      tidy = F .tidy n (queued-tidy listing limits m₀ small s e dues m D Q);
+      outside = outside-then (Q .outside) (F .outside);
     }
 
     -- before the sleepers are listed
     no-triggers-yet : NoTriggers m₁
     no-triggers-yet = record {
-      none = λ q i h l. F .triggers .same q (144 + i) h (omega arith) ∙ found-no-triggers listing limits m₀ small s e .none q i h l;
+      none = λ q i h l.
+          F .triggers .same q (144 + i) h (omega arith) ∙ (Q .triggers .same q (144 + i) h (omega arith) ∙ found-no-triggers listing limits m₀ small s e .none q i h l);
     }
 
     sleepers-named : Sleepers t m₁
@@ -177,10 +182,10 @@ module _ (t m₀ : List ℕ) (table : isTable t ≡ true) (small : Words32 m₀)
       unwritten : NothingWritten n m₂
       unwritten = nothing-written listing n m₂ filled s held state (listed .rows) (listed .outer) (listed .tidy)
 
-      told : (moment : ℕ) (dues : List ℕ) → 0 < moment → dueBefore (nextDue s) moment ≡ false → Dues n (take 12288 m₀) dues → DuesTell n moment dues m₂
-      told moment dues pos quiet D =
+      told : (moment : ℕ) → 0 < moment → dueBefore (nextDue s) moment ≡ false → DuesTell n moment dues m₂
+      told moment pos quiet =
           dues-tell listing n moment m₀ m₂ dues filled s held pos quiet D (limits .ports) (filled-own t m₀ table small s e)
-          (λ q h. found-tidy listing limits m₀ small s e .slots q h .tidy .few) (found-environment listing limits m₀ small s e)
+          (λ q h. slot-found listing limits m₀ small s e q h .rests .few) (found-environment listing limits m₀ small s e)
           (listed .rows) (listed .outer) unwritten
 
       nobody-ready : ListsOf listing m₁ m₂ → ReadySoFar listing n m₂ []
@@ -190,9 +195,9 @@ module _ (t m₀ : List ℕ) (table : isTable t ≡ true) (small : Words32 m₀)
           (λ q i h l. lists q i h l ∙ ap (λ (σ : Rows). triggersOf listing σ (ownerAt q i)) (sym (rows-of-same (O .rows))))
 
       -- at the end
-      module _ (moment : ℕ) (inputs : List Write) (m₃ m₄ : List ℕ) (D : DueMade n moment m₂ m₃) (W : InputsWritten n inputs m₃ m₄) where
+      module _ (moment : ℕ) (inputs : List Write) (m₃ m₄ : List ℕ) (made : DueMade n moment m₂ m₃) (W : InputsWritten n inputs m₃ m₄) where
         abbrev written : Stands n m₀ m₄ (dueInRows moment filled) (applyInputs inputs (dueWrites moment (s .environment)))
-        written = inputs-stand (due-stand listed moment D) inputs W
+        written = inputs-stand (due-stand listed moment made) inputs W
 
         begun-from : (r : ReadyList) → Ordered (rowsOf m₄) (slotsOf r) → ReadySoFar listing n m₄ (slotsOf r) → BegunFrom t m₀ m₄ moment inputs r s
         begun-from r order R =
@@ -234,58 +239,68 @@ module _ (t m₀ : List ℕ) (moment : ℕ) (dues numbers values : List ℕ) (P 
   numbers-of-names = let a = inputs-few in let b = table-within-limits t (P .table) .ports in numbers-below 16 (omega arith)
 
   module _ (small : Words32 m₀) where
-    pub may-begin-pass : MayFillAll t m₀
-    may-begin-pass = may-fill-all t m₀ (P .table) small (P .state) (P .stands) (P .size)
+    few-live : getD m₀ 3 0 ≤ 64
+    few-live = found-few (tableListing t) (table-within-limits t (P .table)) m₀ small (P .state) (P .stands)
 
-    module _ (m₁ : List ℕ) (F : FilledIn t m₀ m₁) where
-      pub may-list-sleepers : (12288 ≤ length m₁) × NoTriggers m₁ × Sleepers t m₁
-      may-list-sleepers =
-          let size = F .outside .size in
-          let long = P .size in (
-            omega arith,
-            no-triggers-yet t m₀ (P .table) small (P .state) (P .stands) m₁ F,
-            sleepers-named t m₀ (P .table) small (P .state) (P .stands) m₁ F,
-          )
+    module _ (m : List ℕ) (Q : Queued 65 dues m₀ m) where
+      pub may-begin-pass : MayFillAll t m
+      may-begin-pass = may-fill-queued t m₀ dues m Q few-live (may-fill-all t m₀ (P .table) small (P .state) (P .stands) (P .size))
 
-      -- k is the number of ports as the code has it
-      module _ (k : ℕ) (ports : (k ≡ environmentSize (tableListing t)) × (k ≤ 16)) (m₂ : List ℕ) (O : OnlyTriggers m₁ m₂) (q₀ : ReadyList) (none : slotsOf q₀ ≡ []) where
-        dues-told : DuesTell k moment dues m₂
-        dues-told = rw (ports .0) (told t m₀ (P .table) small (P .state) (P .stands) m₁ F m₂ O moment dues (P .later) (P .nothing-due) (P .each))
+      module _ (m₁ : List ℕ) (F₀ : FillsRows m (filledRows (tableListing t) (rowsOf m) (portsOf t m) (λ level. 64) (orderOf m)) m₁) where
+        F : FilledIn t m₀ m m₁
+        F = filled-queued t m₀ dues m Q few-live m₁ F₀
 
-        pub may-make-due : (12288 ≤ length m₂) × (k ≤ 16) × (0 < moment) × (length dues ≡ 65) × DuesTell k moment dues m₂ × Ordered (rowsOf m₂) (slotsOf q₀)
-        may-make-due =
-            let a = F .outside .size in
-            let b = O .outside .size in
-            let long = P .size in
-            (omega arith, ports .1, P .later, P .places, dues-told, rw none ordered-none)
+        pub may-list-sleepers : (12288 ≤ length m₁) × NoTriggers m₁ × Sleepers t m₁
+        may-list-sleepers =
+            let noted = Q .outside .size in
+            let size = F .outside .size in
+            let long = P .size in (
+              omega arith,
+              no-triggers-yet t m₀ (P .table) small (P .state) (P .stands) dues m (P .each) Q m₁ F,
+              sleepers-named t m₀ (P .table) small (P .state) (P .stands) dues m (P .each) Q m₁ F,
+            )
 
-        module _ (m₃ : List ℕ) (q₁ : ReadyList)
-            (D : DueMade k moment m₂ m₃ × Ordered (rowsOf m₃) (slotsOf q₁) × (NothingWritten k m₂ → Reaches k m₂ m₃ (slotsOf q₀) (slotsOf q₁))) where
-          pub may-write-inputs : (12288 ≤ length m₃) × (length numbers ≡ length values) × NumbersBelow 16 numbers × Ordered (rowsOf m₃) (slotsOf q₁)
-          may-write-inputs =
+        -- k is the number of ports as the code has it
+        module _ (k : ℕ) (ports : (k ≡ environmentSize (tableListing t)) × (k ≤ 16)) (m₂ : List ℕ) (O : OnlyTriggers m₁ m₂) (q₀ : ReadyList) (none : slotsOf q₀ ≡ []) where
+          dues-told : DuesTell k moment dues m₂
+          dues-told = rw (ports .0) (told t m₀ (P .table) small (P .state) (P .stands) dues m (P .each) Q m₁ F m₂ O moment (P .later) (P .nothing-due))
+
+          pub may-make-due : (12288 ≤ length m₂) × (k ≤ 16) × (0 < moment) × (length dues ≡ 65) × DuesTell k moment dues m₂ × Ordered (rowsOf m₂) (slotsOf q₀)
+          may-make-due =
+              let noted = Q .outside .size in
               let a = F .outside .size in
               let b = O .outside .size in
-              let d = D .0 .outside .size in
               let long = P .size in
-              (omega arith, P .same, numbers-of-names, D .1)
+              (omega arith, ports .1, P .later, P .places, dues-told, rw none ordered-none)
 
-          pub begun : (m₄ : List ℕ) (r : ReadyList) → ((listing : Listing) → NamesOf listing t m₁ → ListsOf listing m₁ m₂) →
-              Ordered (rowsOf m₄) (slotsOf r) × ((n : ℕ) → NumbersBelow n numbers →
-              InputsWritten n (inputsOf numbers values) m₃ m₄ × Reaches n m₃ m₄ (slotsOf q₁) (slotsOf r)) → Begun t m₀ m₄ moment numbers values r
-          begun m₄ r lists W = record { holds = all }
-            where
-              n : ℕ
-              n = environmentSize (tableListing t)
+          module _ (m₃ : List ℕ) (q₁ : ReadyList)
+              (D : DueMade k moment m₂ m₃ × Ordered (rowsOf m₃) (slotsOf q₁) × (NothingWritten k m₂ → Reaches k m₂ m₃ (slotsOf q₀) (slotsOf q₁))) where
+            pub may-write-inputs : (12288 ≤ length m₃) × (length numbers ≡ length values) × NumbersBelow 16 numbers × Ordered (rowsOf m₃) (slotsOf q₁)
+            may-write-inputs =
+                let noted = Q .outside .size in
+                let a = F .outside .size in
+                let b = O .outside .size in
+                let d = D .0 .outside .size in
+                let long = P .size in
+                (omega arith, P .same, numbers-of-names, D .1)
 
-              made : DueMade n moment m₂ m₃ × Ordered (rowsOf m₃) (slotsOf q₁) × (NothingWritten n m₂ → Reaches n m₂ m₃ [] (slotsOf q₁))
-              made = rw (ports .0, none) at D
+            pub begun : (m₄ : List ℕ) (r : ReadyList) → ((listing : Listing) → NamesOf listing t m₁ → ListsOf listing m₁ m₂) →
+                Ordered (rowsOf m₄) (slotsOf r) × ((n : ℕ) → NumbersBelow n numbers →
+                InputsWritten n (inputsOf numbers values) m₃ m₄ × Reaches n m₃ m₄ (slotsOf q₁) (slotsOf r)) → Begun t m₀ m₄ moment numbers values r
+            begun m₄ r lists W = record { holds = all }
+              where
+                n : ℕ
+                n = environmentSize (tableListing t)
 
-              last : InputsWritten n (inputsOf numbers values) m₃ m₄ × Reaches n m₃ m₄ (slotsOf q₁) (slotsOf r)
-              last = W .1 n numbers-of-ports
+                made : DueMade n moment m₂ m₃ × Ordered (rowsOf m₃) (slotsOf q₁) × (NothingWritten n m₂ → Reaches n m₂ m₃ [] (slotsOf q₁))
+                made = rw (ports .0, none) at D
 
-              all : (s : State) → readMachine (tableListing t) (take 12288 m₀) ≡ some (running s) → BegunFrom t m₀ m₄ moment (inputsOf numbers values) r s
-              all s e =
-                  let names = names-listed t m₀ (P .table) small s e m₁ F in
-                  let first = nobody-ready t m₀ (P .table) small s e m₁ F m₂ O (lists (tableListing t) names) in
-                  let due = made .2 (unwritten t m₀ (P .table) small s e m₁ F m₂ O) .goes-on (tableListing t) first in
-                  begun-from t m₀ (P .table) small s e m₁ F m₂ O moment (inputsOf numbers values) m₃ m₄ (made .0) (last .0) r (W .0) (last .1 .goes-on (tableListing t) due)
+                last : InputsWritten n (inputsOf numbers values) m₃ m₄ × Reaches n m₃ m₄ (slotsOf q₁) (slotsOf r)
+                last = W .1 n numbers-of-ports
+
+                all : (s : State) → readMachine (tableListing t) (take 12288 m₀) ≡ some (running s) → BegunFrom t m₀ m₄ moment (inputsOf numbers values) r s
+                all s e =
+                    let names = names-listed t m₀ (P .table) small s e dues m (P .each) Q m₁ F in
+                    let first = nobody-ready t m₀ (P .table) small s e dues m (P .each) Q m₁ F m₂ O (lists (tableListing t) names) in
+                    let due = made .2 (unwritten t m₀ (P .table) small s e dues m (P .each) Q m₁ F m₂ O) .goes-on (tableListing t) first in
+                    begun-from t m₀ (P .table) small s e dues m (P .each) Q m₁ F m₂ O moment (inputsOf numbers values) m₃ m₄ (made .0) (last .0) r (W .0) (last .1 .goes-on (tableListing t) due)

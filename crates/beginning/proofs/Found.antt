@@ -34,12 +34,12 @@ use Rattle.blocks.specs.Tabulate.{tabulateFrom}
 use Rattle.blocks.specs.Blocks.{block, nonzero, rowAt, rowsOf, environmentOf}
 use Rattle.blocks.proofs.RowChanges.{row-of}
 use Rattle.blocks.proofs.Tabulated.{getD-tabulate, length-tabulate}
-use Rattle.tidy.specs.Tidy.{TidySlot, TidyEnvironment, Tidy}
 use Rattle.triggers.specs.Chains.{NoTriggers}
 use Rattle.filling.specs.Filling.{orderOf}
 use Rattle.finishing.proofs.EndedIsRead.{first-block}
 use Rattle.finishing.proofs.KeptRecords.{toRecord, toRecords, forest-records, rowRecord, kept-length, kept-at, slot-in, place-of}
-use Rattle.beginning.proofs.LaidBlocks.{Laid, no-working-words, laid-tidy, variables-back}
+use Rattle.beginning.proofs.Queueing.{Rests}
+use Rattle.beginning.proofs.LaidBlocks.{Laid, no-working-words, laid-rests, variables-back}
 
 -- ── lists of slots and records ────────────────────────────────────────────────────────────────────
 distinct-of : (l : List ℕ) → ((i k : ℕ) → i < length l → k < length l → getD l i 0 ≡ getD l k 0 → i ≡ k) → Distinct l
@@ -226,11 +226,12 @@ module _ (listing : Listing) (L : WithinLimits listing) (words : List ℕ) (smal
   row-used k h = ap (λ (r : Row). r .used) (row-of words (getD slots k 0) (slot-below k h)) ∙ nonzero-suc _ k (used-block k h .words 0 (omega arith))
 
   -- a slot's block, taken or free
-  record SlotFound (q : ℕ) : Type 0 where
-    tidy : TidySlot (block words q)
-    working : (k : ℕ) → 104 ≤ k → k < 184 → block words q k ≡ 0
+  pub record SlotFound (q : ℕ) : Type 0 where
+    pub rests : Rests (block words q 4) (block words q)
+    pub free : block words q 0 ≡ 0 → (k : ℕ) → k < 184 → block words q k ≡ 0
+    pub working : (k : ℕ) → 104 ≤ k → k < 184 → block words q k ≡ 0
 
-  slot-found : (q : ℕ) → q < 64 → SlotFound q
+  pub slot-found : (q : ℕ) → q < 64 → SlotFound q
   slot-found q h = go (find slots (length xs) q)
     where
       go : Found slots (length xs) q → SlotFound q
@@ -239,33 +240,32 @@ module _ (listing : Listing) (L : WithinLimits listing) (words : List ℕ) (smal
           let one = B .words 0 (omega arith) in
           let four = B .words 4 (omega arith) in
           subst SlotFound f (record {
-            tidy = record { tidy = rw four (laid-tidy B); free = λ z. absurd (let y : ⊥ = omega arith in y) };
+            rests = rw four (laid-rests B);
+            free = λ z. absurd (let y : ⊥ = omega arith in y);
             working = no-working-words B;
           })
       go (missing none) =
           let B = free-block q h none in
           let four = B .words 4 (omega arith) in
           record {
-            tidy = record { tidy = rw four (laid-tidy B); free = λ z k l. zero-block q h none k (omega arith) };
+            rests = rw four (laid-rests B);
+            free = λ z k l. zero-block q h none k l;
             working = no-working-words B;
           }
 
-  environment-tidy : TidyEnvironment (environmentSize listing) (block words 64)
-  environment-tidy = record { tidy = rw (← found-state .size) (laid-tidy outer-block); before = eight }
-    where
-      eight : (k : ℕ) → k < 8 → block words 64 k ≡ 0
-      eight zero h = outer-block .words 0 (omega arith)
-      eight (suc zero) h = outer-block .words 1 (omega arith)
-      eight (suc (suc zero)) h = outer-block .words 2 (omega arith)
-      eight (suc (suc (suc zero))) h = outer-block .words 3 (omega arith)
-      eight (suc (suc (suc (suc zero)))) h = outer-block .words 4 (omega arith)
-      eight (suc (suc (suc (suc (suc zero))))) h = outer-block .words 5 (omega arith)
-      eight (suc (suc (suc (suc (suc (suc zero)))))) h = outer-block .words 6 (omega arith)
-      eight (suc (suc (suc (suc (suc (suc (suc zero))))))) h = outer-block .words 7 (omega arith)
-      eight (suc (suc (suc (suc (suc (suc (suc (suc k)))))))) h = absurd (let z : ⊥ = omega arith in z)
+  pub outer-rests : Rests (environmentSize listing) (block words 64)
+  outer-rests = rw (← found-state .size) (laid-rests outer-block)
 
-  pub found-tidy : Tidy (environmentSize listing) words
-  found-tidy = record { slots = λ q h. slot-found q h .tidy; environment = environment-tidy }
+  pub outer-before : (k : ℕ) → k < 8 → block words 64 k ≡ 0
+  outer-before zero h = outer-block .words 0 (omega arith)
+  outer-before (suc zero) h = outer-block .words 1 (omega arith)
+  outer-before (suc (suc zero)) h = outer-block .words 2 (omega arith)
+  outer-before (suc (suc (suc zero))) h = outer-block .words 3 (omega arith)
+  outer-before (suc (suc (suc (suc zero)))) h = outer-block .words 4 (omega arith)
+  outer-before (suc (suc (suc (suc (suc zero))))) h = outer-block .words 5 (omega arith)
+  outer-before (suc (suc (suc (suc (suc (suc zero)))))) h = outer-block .words 6 (omega arith)
+  outer-before (suc (suc (suc (suc (suc (suc (suc zero))))))) h = outer-block .words 7 (omega arith)
+  outer-before (suc (suc (suc (suc (suc (suc (suc (suc k)))))))) h = absurd (let z : ⊥ = omega arith in z)
 
   pub found-environment : environmentOf (environmentSize listing) words ≡ s .environment
   unfolding environmentOf

@@ -19,7 +19,7 @@ use Rattle.machine.proofs.Basics.{and-left, and-right}
 use Rattle.blocks.specs.Tabulate.{tabulateFrom}
 use Rattle.blocks.specs.Blocks.{Block, nonzero, variableIn, variablesIn}
 use Rattle.blocks.proofs.Tabulated.{getD-tabulate, length-tabulate}
-use Rattle.tidy.specs.Tidy.{TidyBlock}
+use Rattle.beginning.proofs.Queueing.{Rests}
 use Rattle.finishing.proofs.VariableWords.{wordOf, words-at, words-past}
 
 -- Eight words, then the variables, then zeros.
@@ -104,9 +104,9 @@ module _ {now : ℕ} {b : Block} {p level child place count : ℕ} {own : List V
           ap b e₁ ∙ (word-here i 1 g (omega arith) ∙ R .idle (omega (arith, low, high, none)))
       go (no g) = ap b e₁ ∙ word-past i 1 (omega arith) h (omega arith)
 
-  pub laid-tidy : TidyBlock (length own) b
+  pub laid-rests : Rests (length own) b
   unfolding wordOf
-  laid-tidy =
+  laid-rests =
       record {
         few = L .few;
         kept = three;

@@ -8,4 +8,6 @@ pub mod Made
 pub mod Composed
 pub mod Blank
 pub mod NotDue
+pub mod Queueing
 pub mod AtRest
+pub mod QueuedWords

@@ -144,13 +144,15 @@ module _ (m : List ℕ) where
       let e : blockAt q + 8 ≡ 336 + q * 184 = omega arith in
       rw e (block-due (take 12288 m) q k few ∙ ap (λ b. dueOfVariables (variablesIn b k)) (same-first q h))
 
-  slot-due : (q : ℕ) → q < 64 → block m q 4 ≤ 16 → slotDue (take 12288 m) q ≡ dueOfVariables ((rowsOf m q) .own)
-  unfolding slotDue rowAt
-  slot-due q h few =
-      rw (first-block m q 4 (omega arith) (omega arith))
-      (variables-due q (block m q 4) (omega arith) few ∙ ap (λ (r : Row). dueOfVariables (r .own)) (sym (row-of m q h)))
+  pub slot-due : (q : ℕ) → q < 64 → block m q 4 ≤ 16 → slotDue (take 12288 m) q ≡ dueOfVariables (variablesIn (block m q) (block m q 4))
+  unfolding slotDue
+  slot-due q h few = rw (first-block m q 4 (omega arith) (omega arith)) (variables-due q (block m q 4) (omega arith) few)
 
-  environment-due : (n : ℕ) → n ≤ 16 → dueOfVariables (words.variablesIn (take 12288 m) (environmentBlock + 8) n) ≡ dueOfVariables (environmentOf n m)
+  row-due : (q : ℕ) → q < 64 → block m q 4 ≤ 16 → slotDue (take 12288 m) q ≡ dueOfVariables ((rowsOf m q) .own)
+  unfolding rowAt
+  row-due q h few = slot-due q h few ∙ ap (λ (r : Row). dueOfVariables (r .own)) (sym (row-of m q h))
+
+  pub environment-due : (n : ℕ) → n ≤ 16 → dueOfVariables (words.variablesIn (take 12288 m) (environmentBlock + 8) n) ≡ dueOfVariables (environmentOf n m)
   unfolding environmentOf
   environment-due n few = variables-due 64 n (omega arith) few
 
@@ -169,7 +171,7 @@ module _ (listing : Listing) (n t : ℕ) (m₀ m dues : List ℕ) (σ : Rows) (s
   slot-after q h other u =
       let same : σ q ≡ rowAt (block m q) = ap (λ (ρ : Rows). ρ q) (sym rows) ∙ row-of m q h in
       let used : (σ q) .used ≡ true = ap (λ (r : Row). r .used) same ∙ u in
-      let known : dueAt (getD dues q 0) ≡ dueOfVariables ((σ q) .own) = D .slots q h ∙ (slot-due m₀ q h (counts q h) ∙ ap dueOfVariables (sym (own q))) in
+      let known : dueAt (getD dues q 0) ≡ dueOfVariables ((σ q) .own) = D .slots q h ∙ (row-due m₀ q h (counts q h) ∙ ap dueOfVariables (sym (own q))) in
       subst (λ (r : Row). DueOnlyAfter t (dueOfVariables (r .own))) same
       (after-unless t (getD dues q 0) _ pos (row-after (t - 1) σ _ 64 q h used rows-after) known other)
 

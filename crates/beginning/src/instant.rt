@@ -7,6 +7,7 @@ ghost use Rattle.walk.specs.Instant.{environmentSize};
 ghost use Rattle.table.specs.Decode.{tableListing};
 ghost use Rattle.table.specs.Question6.{isTable};
 ghost use Rattle.beginning.specs.Begun.{MayBegin, Begun};
+use crate::queue::queue_waiting;
 use filling::fill_rows;
 use instants::make_due_at;
 use instants::write_inputs;
@@ -24,7 +25,8 @@ fn ports(t: &[u32]) -> usize
     inputs + outputs
 }
 
-// Rows filled in, sleepers listed, due writes and inputs made; the routines that are ready. Given the soonest moment due of each block.
+// The event queue noted, rows filled in, sleepers listed, due writes and inputs made; the routines that are ready. Given the soonest moment due of each
+// block.
 pub fn begin_instant(
     t: &[u32],
     m: &mut [u32],
@@ -37,6 +39,7 @@ pub fn begin_instant(
     ensures { λ r. ⌜ Begun (now (t .entry)) (now (m .entry)) (now (m .exit)) (present .0) (now (numbers .entry)) (now (values .entry)) r ⌝ }
 {
     let n = ports(t);
+    queue_waiting(m, dues);
     fill_rows(t, m);
     list_sleepers(m, t);
     let due = make_due_at(m, ready::empty(), n, present.0, dues);

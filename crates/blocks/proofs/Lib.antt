@@ -6,3 +6,4 @@ pub mod VariableChanges
 pub mod VariableBlocks
 pub mod Readings
 pub mod Staying
+pub mod Queued

@@ -6,7 +6,7 @@ use Prim.Native.Nat.{ℕ, _+_, _*_, _≤_, _<_}
 use native.Mathlib.Omega.{arith}
 use Rattle.walk.specs.State.{Variable}
 use Rattle.scheduler.specs.Rows.{Row, Rows, withRow}
-use Rattle.blocks.specs.Blocks.{Block, block, nonzero, rowAt, rowsOf}
+use Rattle.blocks.specs.Blocks.{block, nonzero, rowAt, rowsOf}
 use Rattle.blocks.specs.Store.{storeOf, withSlot}
 use Rattle.blocks.specs.Changes.{putIn}
 use Rattle.blocks.proofs.InBlocks.{same-outside, same-triggers}
@@ -53,6 +53,10 @@ module _ {t m₀ m₁ m₂ m₃ m₄ : List ℕ} {me head i s n callee count bit
             spareHigh = λ j h. zero-word S (13 + j * 6) (omega arith) (omega arith) (λ x y. omega arith) (λ k a e. omega arith);
             past = blank-past;
             idle = λ j h e. zero-word S (9 + j * 6) (omega arith) (omega arith) (λ x y. omega arith) (λ k a q. omega arith);
+            quiet = λ e j h.
+                let low = zero-word S (10 + j * 6) (omega arith) (omega arith) (λ x y. omega arith) (λ k a q. omega arith) in
+                let high = zero-word S (11 + j * 6) (omega arith) (omega arith) (λ x y. omega arith) (λ k a q. omega arith) in
+                omega arith;
           });
           free = λ e. absurd (let z = first-word in let q : ⊥ = omega arith in q);
         }

@@ -107,6 +107,7 @@ module _ (b : Block) (locals : ℕ) (few : locals ≤ 16) where
             high = zero-word (11 + j * 6) (omega arith) (omega arith);
           };
           idle = λ j h e. zero-word (9 + j * 6) (omega arith) (omega arith);
+          quiet = λ e j h. let low = zero-word (10 + j * 6) (omega arith) (omega arith) in let high = zero-word (11 + j * 6) (omega arith) (omega arith) in omega arith;
         });
         free = λ e. absurd (first-in-use e);
       }

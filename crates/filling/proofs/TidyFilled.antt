@@ -32,6 +32,9 @@ module _ (b b' : Block) (same : (k : ℕ) → k < 104 → b' k ≡ b k) where
           high = same (11 + i * 6) (omega arith) ∙ t .past i h g .high;
         };
         idle = λ i h e. same (9 + i * 6) (omega arith) ∙ t .idle i h (omega (arith, same (10 + i * 6) (omega arith), same (11 + i * 6) (omega arith), e));
+        quiet = λ e i h.
+            let none = t .quiet (sym (same 7 (omega arith)) ∙ e) i h in
+            omega (arith, same (10 + i * 6) (omega arith), same (11 + i * 6) (omega arith), none);
       }
 
   pub filled-slot : (b 0 ≡ 0 → ⊥) → TidySlot b → TidySlot b'

@@ -6,7 +6,7 @@ use Prim.Native.Nat.{ℕ, zero, suc, _+_, _*_, _/_, _%_, _≤_, _<_, min}
 use native.Mathlib.Decide.{decLt}
 use native.Mathlib.Omega.{arith}
 use lib.ListN.{length, getD, List·getD-eq-default}
-use Rattle.walk.specs.State.{Variable, Waiting, idle, due, fresh}
+use Rattle.walk.specs.State.{Variable, idle, fresh}
 use Rattle.walk.specs.Instant.{unmarked}
 use Rattle.machine.specs.Words.{waitingOf}
 use Rattle.machine.specs.Layout.{variablesWords, waitingValue, waitingMoment}
@@ -16,9 +16,9 @@ use Rattle.blocks.specs.Blocks.{Block, variableIn, variablesIn}
 use Rattle.blocks.specs.Store.{unmarkedVariable}
 use Rattle.blocks.specs.Changes.{cleared}
 use Rattle.blocks.proofs.Tabulated.{getD-tabulate, length-tabulate}
-use Rattle.blocks.proofs.Puts.{cleared-inside, cleared-below}
+use Rattle.blocks.proofs.Puts.{put-other, cleared-inside, cleared-below}
 use Rattle.blocks.proofs.Readings.{moment-of}
-use Rattle.tidy.specs.Tidy.{TidyBlock, Blank}
+use Rattle.tidy.specs.Tidy.{TidyBlock}
 use Rattle.finishing.specs.Ended.{idleBlock}
 
 -- ── the words of a list of variables, by variable and word ────────────────────────────────────────
@@ -112,7 +112,7 @@ module _ (b : Block) (c : ℕ) (t : TidyBlock c b) (narrow : (k : ℕ) → b k <
 
   pub resting-words : (q : ℕ) → q < 176 → idleBlock b (8 + q) ≡ getD (variablesWords (unmarked (variablesIn b c))) q 0
   unfolding idleBlock
-  resting-words q h = go (decLt q 96)
+  resting-words q h = put-other (cleared 104 184 b) 7 0 (8 + q) (λ e. omega arith) ∙ go (decLt q 96)
     where
       go : Dec (q < 96) → cleared 104 184 b (8 + q) ≡ getD (variablesWords (unmarked (variablesIn b c))) q 0
       go (yes g) =

@@ -7,9 +7,9 @@ use Rattle.machine.specs.Layout.{headerWords}
 use Rattle.blocks.specs.Blocks.{Block, block}
 use Rattle.blocks.specs.Changes.{putIn, cleared}
 
--- A block without working words.
+-- A block without working words; word 7, by which the event queue knows where to look, is one of them.
 unfoldable pub idleBlock : Block → Block
-idleBlock b = cleared 104 184 b
+idleBlock b = putIn (cleared 104 184 b) 7 0
 
 -- The block of the p-th live routine in walking order, p counted from 1.
 unfoldable pub restingBlock : ℕ → Block → Block

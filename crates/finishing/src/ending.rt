@@ -6,6 +6,7 @@ ghost use Rattle.machine.specs.Due.{dueAt};
 ghost use Rattle.scheduler.specs.Order.{walkingOrder};
 ghost use Rattle.scheduler.specs.Beginning.{nextDueOfRows};
 ghost use Rattle.blocks.specs.Blocks.{rowsOf, environmentOf};
+ghost use Rattle.tidy.specs.Tidy.{Tidy};
 ghost use Rattle.finishing.specs.Ended.{stored, Ended};
 use crate::order::order_slots;
 use crate::places::clear_header;
@@ -27,9 +28,9 @@ fn store_header(m: &mut [u32], t: u64, count: u32)
 }
 
 // At moment t: header, order list and places written, working words cleared. Gives the next moment due (0: none), over the `size` environment
-// variables and the slots, which the pass that makes the order list finds.
+// variables and the slots, which the pass that makes the order list finds: it looks at those blocks in which a waiting write may stand.
 pub fn finish(m: &mut [u32], t: u64, size: usize) -> u64
-    requires { ⌜ (12288 ≤ length (now m)) × (size ≤ 16) ⌝ }
+    requires { ⌜ (12288 ≤ length (now m)) × (size ≤ 16) × (Tidy size (now m)) ⌝ }
     ensures { λ r. ⌜ (Ended t (walkingOrder (rowsOf (now (m .entry)))) (now (m .entry)) (now (m .exit)))
         × (dueAt r ≡ nextDueOfRows (rowsOf (now (m .entry))) (environmentOf size (now (m .entry)))) ⌝ }
 {

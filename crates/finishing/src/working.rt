@@ -1,9 +1,19 @@
-// The working words of an instant, offsets 104 to 183 of each block, are 0 between calls.
-ghost use mathlib.Core.Path.{_≡_};
+// The working words of an instant, offsets 7 and 104 to 183 of each block, are 0 between calls.
 ghost use Prim.Native.Nat.{_≤_, _<_};
 ghost use lib.ListN.{length};
+ghost use Rattle.blocks.specs.Blocks.{block};
+ghost use Rattle.blocks.specs.Changes.{InBlock};
 ghost use Rattle.instants.specs.Passes.{Mapped};
 ghost use Rattle.finishing.specs.Ended.{idleBlock, WorkingCleared};
+
+// Those of block s.
+fn clear_block(m: &mut [u32], s: usize)
+    requires { ⌜ (12288 ≤ length (now m)) × (s ≤ 64) ⌝ }
+    ensures { λ _. ⌜ InBlock s (now (m .entry)) (now (m .exit)) (idleBlock (block (now (m .entry)) s)) ⌝ }
+{
+    blocks::clear_words(m, s, 104, 184);
+    blocks::put_word(m, s, 7, 0);
+}
 
 // Those of the slots.
 fn clear_slots(m: &mut [u32])
@@ -12,7 +22,7 @@ fn clear_slots(m: &mut [u32])
 {
     let mut s: usize = 0;
     while s < 64 {
-        blocks::clear_words(m, s, 104, 184);
+        clear_block(m, s);
         s += 1;
     }
 }
@@ -23,5 +33,5 @@ pub fn clear_working(m: &mut [u32])
     ensures { λ _. ⌜ WorkingCleared (now (m .entry)) (now (m .exit)) ⌝ }
 {
     clear_slots(m);
-    blocks::clear_words(m, 64, 104, 184);
+    clear_block(m, 64);
 }

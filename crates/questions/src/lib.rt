@@ -145,8 +145,12 @@ fn machine_question(
 {
     let check = question7::check_machine(table, machine, dues);
     match check {
-        MachineCheck::NotAState => 7,
-        MachineCheck::Stopped(_) => 8,
+        MachineCheck::NotAState => {
+            return 7;
+        }
+        MachineCheck::Stopped(_) => {
+            return 8;
+        }
         MachineCheck::Running(soonest) => {
             let inputs = number(table[0]);
             state_question(&machine[0..12288], soonest, inputs, t, numbers, allowance)

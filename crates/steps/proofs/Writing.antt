@@ -1,19 +1,17 @@
 -- The variable of a name is changed and the routine goes on: `S` and `A`.
 -- Letters: a the words before, b with the variable changed, m with the place too, u the running state, s and i the variable's block and index.
-use mathlib.Core.Path.{_≡_, refl, sym, ap, subst, _∙_}
-use mathlib.Core.Bool.{Bool, true, false, cond}
+use mathlib.Core.Path.{_≡_, refl, ap, _∙_}
 use mathlib.Core.List.{List}
-use Prim.Native.Nat.{ℕ, zero, suc, _+_, _≤_, _<_, min}
+use Prim.Native.Nat.{ℕ, suc, _≤_, _<_, min}
 use native.Mathlib.Decide.{decLt}
 use native.Mathlib.Omega.{arith}
 use lib.ListN.{length}
-use borrow.Author.Tests.{lt-ltb, le-ltb}
+use borrow.Author.Tests.{lt-ltb}
 use Rattle.walk.specs.State.{Variable}
-use Rattle.scheduler.specs.Rows.{Owner, Row, Rows, inEnvironment, inSlot, atPlace, ownerOf, withRow, rowsWith, environmentWith, variableOf, named}
-use Rattle.scheduler.specs.Engine.{assigned, scheduled}
+use Rattle.scheduler.specs.Rows.{Owner, Row, atPlace, ownerOf, withRow, rowsWith, environmentWith, named}
 use Rattle.blocks.specs.Blocks.{Block, block, ownerAt, variableIn, variablesIn, rowAt, rowsOf, environmentOf}
 use Rattle.blocks.specs.Store.{Store, storeOf, withSlot, withVariable, variableFrom}
-use Rattle.blocks.specs.Changes.{Changes, placedBlock, assignedBlock, scheduledBlock}
+use Rattle.blocks.specs.Changes.{Changes, placedBlock, assignedBlock, scheduledBlock, queuedBlock}
 use Rattle.blocks.specs.Bindings.{BoundTo, variablesBeside}
 use Rattle.blocks.specs.declared.variable.Binding.{Binding}
 use Rattle.blocks.proofs.RowChanges.{row-of}
@@ -64,9 +62,9 @@ module _ {a b : List ℕ} {s n : ℕ} (i : ℕ) (h : s ≤ 64) (there : numberOf
   assigned-all {change} v p =
       variable-tidy (assignedBlock i v) change p h there (λ c t l. assigned-slot c i t l v) (λ c t l. assigned-environment n c i t l v)
 
-  pub scheduled-all : {change : Store → Store} (t v : ℕ) → 0 < t → Changes s a b (scheduledBlock i t v (block a s)) change → Tidy n a → Tidy n b
+  pub scheduled-all : {change : Store → Store} (t v : ℕ) → 0 < t → Changes s a b (queuedBlock (scheduledBlock i t v (block a s))) change → Tidy n a → Tidy n b
   scheduled-all {change} t v pos p =
-      variable-tidy (scheduledBlock i t v) change p h there (λ c d l. scheduled-slot c i d l t v pos) (λ c d l. scheduled-environment n c i d l t v pos)
+      variable-tidy (λ c. queuedBlock (scheduledBlock i t v c)) change p h there (λ c d l. scheduled-slot c i d l t v pos) (λ c d l. scheduled-environment n c i d l t v pos)
 
 -- ── through a name's binding ──────────────────────────────────────────────────────────────────────
 module _ {a b m : List ℕ} (u : Running) (name : ℕ) (binding : Binding) (bound : BoundTo (rowsOf a (u .me)) name binding)

@@ -50,7 +50,8 @@ pub fn assign_step(
     }
 }
 
-// The waiting write put on the name's variable, and the next instruction.
+// The waiting write put on the name's variable, and the next instruction. Word 7 of the variable's block is 1 from then on: the event queue
+// looks for the next moment due in just those blocks where it is.
 fn schedule_at(m: &mut [u32], running: Running, name: usize, moment: u64, value: u32) -> Stepped
     requires { ⌜ (MayChange (now m) running name) × (0 < moment) ⌝ }
     ensures { λ r. ⌜ ChangesName (now (m .entry)) (now (m .exit)) running name (λ x. scheduled x moment value) r ⌝ }
@@ -61,6 +62,7 @@ fn schedule_at(m: &mut [u32], running: Running, name: usize, moment: u64, value:
     let index = binding.index;
     let next = blocks::place(m, me) + 1;
     blocks::schedule(m, block, index, moment, value);
+    blocks::put_word(m, block, 7, 1);
     blocks::set_place(m, me, next);
     Stepped {
         answer: Answer::Goes,

@@ -1,18 +1,15 @@
 -- Each change that the engine's code makes to a block keeps it tidy, and a change of one block keeps all blocks tidy.
 -- Letters: b a block, c its number of variables, i a variable's index, f an offset, v a word, t a moment.
-use mathlib.Core.Path.{_≡_, refl, sym, ap, _∙_}
-use mathlib.Core.Bool.{Bool, true, false, cond, _&&_}
-use mathlib.Core.List.{List}
-use Prim.Native.Nat.{ℕ, zero, suc, _+_, _*_, _/_, _%_, _≤_, _<_}
+use mathlib.Core.Path.{_≡_, refl, sym, _∙_}
+use mathlib.Core.Bool.{Bool, true, false, cond}
+use Prim.Native.Nat.{ℕ, _+_, _*_, _/_, _%_, _≤_, _<_}
 use native.Mathlib.Decide.{ℕ-discrete}
 use native.Mathlib.Omega.{arith}
-use lib.Dec.{eqb, leb, ltb}
-use lib.ListN.{getD}
-use borrow.Author.Tests.{eq-eqb, ne-eqb, lt-ltb, le-leb}
-use Rattle.machine.specs.Words.{blockAt}
+use lib.Dec.{eqb}
+use borrow.Author.Tests.{eq-eqb, ne-eqb}
 use Rattle.blocks.specs.Blocks.{Block, block}
-use Rattle.blocks.specs.Changes.{InBlock, putIn, cleared, placedBlock, assignedBlock, scheduledBlock, madeBlock, unmarkedBlock, dueBlock}
-use Rattle.tidy.specs.Tidy.{Blank, TidyBlock, TidySlot, TidyEnvironment, Tidy}
+use Rattle.blocks.specs.Changes.{putIn, assignedBlock, scheduledBlock, queuedBlock, madeBlock, unmarkedBlock, dueBlock}
+use Rattle.tidy.specs.Tidy.{Blank, TidyBlock}
 
 -- ── one word stored ───────────────────────────────────────────────────────────────────────────────
 pub put-other : (b : Block) (f v k : ℕ) → (k ≡ f → ⊥) → putIn b f v k ≡ b k
@@ -51,12 +48,17 @@ store-loose c b f v l t =
           let p = put-other b f v (10 + i * 6) (λ q. l .notVariable (omega arith) (omega arith)) in
           let q = put-other b f v (11 + i * 6) (λ q. l .notVariable (omega arith) (omega arith)) in
           put-other b f v (9 + i * 6) (λ q. l .notVariable (omega arith) (omega arith)) ∙ t .idle i h (omega (arith, p, q, e));
+      quiet = λ z i h.
+          let p = put-other b f v (10 + i * 6) (λ q. l .notVariable (omega arith) (omega arith)) in
+          let q = put-other b f v (11 + i * 6) (λ q. l .notVariable (omega arith) (omega arith)) in
+          let none = t .quiet (sym (put-other b f v 7 (λ e. l .notKept (omega arith) (omega arith))) ∙ z) i h in
+          omega (arith, p, q, none);
     }
 
 -- ── one variable changed ──────────────────────────────────────────────────────────────────────────
--- The block differs, of the words that tidiness speaks of, in the four words of variable i alone.
+-- The block differs, of the words that tidiness speaks of, in the four words of variable i alone, and in word 7.
 abbrev pub SameBut : ℕ → Block → Block → Type 0
-SameBut i b b′ = (k : ℕ) → 5 ≤ k → k < 104 → (8 + i * 6 ≤ k → k < 12 + i * 6 → ⊥) → b′ k ≡ b k
+SameBut i b b′ = (k : ℕ) → 5 ≤ k → k < 104 → (k ≡ 7 → ⊥) → (8 + i * 6 ≤ k → k < 12 + i * 6 → ⊥) → b′ k ≡ b k
 
 -- Two variables have no word in common.
 apart : (i j k : ℕ) → (j ≡ i → ⊥) → 8 + j * 6 ≤ k → k < 14 + j * 6 → 8 + i * 6 ≤ k → k < 12 + i * 6 → ⊥
@@ -66,7 +68,7 @@ module _ (c : ℕ) (b b′ : Block) (i : ℕ) (within : i < c) (t : TidyBlock c 
     (idles : b′ (10 + i * 6) + b′ (11 + i * 6) * 4294967296 ≡ 0 → b′ (9 + i * 6) ≡ 0)
   where
     other-words : (j k : ℕ) → (j ≡ i → ⊥) → j < 16 → 8 + j * 6 ≤ k → k < 14 + j * 6 → b′ k ≡ b k
-    other-words j k h l x y = same k (omega arith) (omega arith) (λ p q. apart i j k h x y p q)
+    other-words j k h l x y = same k (omega arith) (omega arith) (λ e. omega arith) (λ p q. apart i j k h x y p q)
 
     other-blank : (j : ℕ) → c ≤ j → j < 16 → Blank b′ j
     other-blank j h g =
@@ -86,15 +88,29 @@ module _ (c : ℕ) (b b′ : Block) (i : ℕ) (within : i < c) (t : TidyBlock c 
         let q = other-words j (11 + j * 6) n g (omega arith) (omega arith) in
         other-words j (9 + j * 6) n g (omega arith) (omega arith) ∙ t .idle j g (omega (arith, p, q, h))
 
-    pub one-variable-changed : TidyBlock c b′
-    one-variable-changed =
+    -- word 7 and the other variables stay
+    pub quiet-still : b′ 7 ≡ b 7 → (b 7 ≡ 0 → b′ (10 + i * 6) + b′ (11 + i * 6) * 4294967296 ≡ 0) → b′ 7 ≡ 0 → (j : ℕ) → j < 16 →
+        b′ (10 + j * 6) + b′ (11 + j * 6) * 4294967296 ≡ 0
+    quiet-still seven here z j h = go (ℕ-discrete j i)
+      where
+        go : Dec (j ≡ i) → b′ (10 + j * 6) + b′ (11 + j * 6) * 4294967296 ≡ 0
+        go (yes e) = rw e (here (sym seven ∙ z))
+        go (no n) =
+            let p = other-words j (10 + j * 6) n h (omega arith) (omega arith) in
+            let q = other-words j (11 + j * 6) n h (omega arith) (omega arith) in
+            let none = t .quiet (sym seven ∙ z) j h in
+            omega (arith, p, q, none)
+
+    pub one-variable-changed : (b′ 7 ≡ 0 → (j : ℕ) → j < 16 → b′ (10 + j * 6) + b′ (11 + j * 6) * 4294967296 ≡ 0) → TidyBlock c b′
+    one-variable-changed quiet =
         record {
           few = t .few;
-          kept = λ k h g. same k h (omega arith) (λ p q. omega arith) ∙ t .kept k h g;
-          spareLow = λ j h. same (12 + j * 6) (omega arith) (omega arith) (λ p q. omega arith) ∙ t .spareLow j h;
-          spareHigh = λ j h. same (13 + j * 6) (omega arith) (omega arith) (λ p q. omega arith) ∙ t .spareHigh j h;
+          kept = λ k h g. same k h (omega arith) (λ e. omega arith) (λ p q. omega arith) ∙ t .kept k h g;
+          spareLow = λ j h. same (12 + j * 6) (omega arith) (omega arith) (λ e. omega arith) (λ p q. omega arith) ∙ t .spareLow j h;
+          spareHigh = λ j h. same (13 + j * 6) (omega arith) (omega arith) (λ e. omega arith) (λ p q. omega arith) ∙ t .spareHigh j h;
           past = other-blank;
           idle = λ j h. other-idle j h (ℕ-discrete j i);
+          quiet = quiet;
         }
 
 module _ (c : ℕ) (b : Block) (i : ℕ) (within : i < c) (t : TidyBlock c b) where
@@ -102,28 +118,36 @@ module _ (c : ℕ) (b : Block) (i : ℕ) (within : i < c) (t : TidyBlock c b) wh
   unfolding assignedBlock
   assigned-tidy v =
       let l : i < 16 = omega (arith, t .few) in
-      store-loose c (putIn b (8 + i * 6) v) (128 + i) 1 (loose-high (128 + i) (omega arith))
-      (one-variable-changed c b (putIn b (8 + i * 6) v) i within t (λ k h g n. put-other b (8 + i * 6) v k (λ e. n (omega arith) (omega arith)))
-      (λ e.
+      let b₁ = putIn b (8 + i * 6) v in
       let p = put-other b (8 + i * 6) v (10 + i * 6) (λ q. omega arith) in
       let q = put-other b (8 + i * 6) v (11 + i * 6) (λ q. omega arith) in
-      put-other b (8 + i * 6) v (9 + i * 6) (λ q. omega arith) ∙ t .idle i l (omega (arith, p, q, e))))
+      let same : SameBut i b b₁ = λ k h g s n. put-other b (8 + i * 6) v k (λ e. n (omega arith) (omega arith)) in
+      let idles : b₁ (10 + i * 6) + b₁ (11 + i * 6) * 4294967296 ≡ 0 → b₁ (9 + i * 6) ≡ 0 =
+      λ e. put-other b (8 + i * 6) v (9 + i * 6) (λ q. omega arith) ∙ t .idle i l (omega (arith, p, q, e)) in
+      store-loose c b₁ (128 + i) 1 (loose-high (128 + i) (omega arith))
+      (one-variable-changed c b b₁ i within t same idles
+      (quiet-still c b b₁ i within t same idles (put-other b (8 + i * 6) v 7 (λ e. omega arith)) (λ z. let none = t .quiet z i l in omega (arith, p, q, none))))
 
-  -- three stores apart from k
-  three : (x y z u v w k : ℕ) → (k ≡ x → ⊥) → (k ≡ y → ⊥) → (k ≡ z → ⊥) → putIn (putIn (putIn b x u) y v) z w k ≡ b k
-  three x y z u v w k a d e = put-other (putIn (putIn b x u) y v) z w k e ∙ (put-other (putIn b x u) y v k d ∙ put-other b x u k a)
+  -- a store apart from k, after others
+  then : (b₁ : Block) (f v k : ℕ) → (k ≡ f → ⊥) → b₁ k ≡ b k → putIn b₁ f v k ≡ b k
+  then b₁ f v k n e = put-other b₁ f v k n ∙ e
 
-  pub scheduled-tidy : (m v : ℕ) → 0 < m → TidyBlock c (scheduledBlock i m v b)
-  unfolding scheduledBlock
+  pub scheduled-tidy : (m v : ℕ) → 0 < m → TidyBlock c (queuedBlock (scheduledBlock i m v b))
+  unfolding queuedBlock scheduledBlock
   scheduled-tidy m v pos =
+      let l : i < 16 = omega (arith, t .few) in
       let b₁ = putIn b (9 + i * 6) v in
       let b₂ = putIn b₁ (10 + i * 6) (m % 4294967296) in
-      one-variable-changed c b _ i within t
-      (λ k h g n. three (9 + i * 6) (10 + i * 6) (11 + i * 6) v (m % 4294967296) (m / 4294967296) k (λ e. n (omega arith) (omega arith)) (λ e. n (omega arith) (omega arith)) (λ e. n (omega arith) (omega arith)))
+      let b₃ = putIn b₂ (11 + i * 6) (m / 4294967296) in
+      one-variable-changed c b (putIn b₃ 7 1) i within t
+      (λ k h g s n.
+      then b₃ 7 1 k s (then b₂ (11 + i * 6) (m / 4294967296) k (λ e. n (omega arith) (omega arith))
+      (then b₁ (10 + i * 6) (m % 4294967296) k (λ e. n (omega arith) (omega arith)) (then b (9 + i * 6) v k (λ e. n (omega arith) (omega arith)) refl))))
       (λ e.
-      let high = put-same b₂ (11 + i * 6) (m / 4294967296) in
-      let low = put-other b₂ (11 + i * 6) (m / 4294967296) (10 + i * 6) (λ q. omega arith) ∙ put-same b₁ (10 + i * 6) (m % 4294967296) in
+      let high = put-other b₃ 7 1 (11 + i * 6) (λ q. omega arith) ∙ put-same b₂ (11 + i * 6) (m / 4294967296) in
+      let low = put-other b₃ 7 1 (10 + i * 6) (λ q. omega arith) ∙ (put-other b₂ (11 + i * 6) (m / 4294967296) (10 + i * 6) (λ q. omega arith) ∙ put-same b₁ (10 + i * 6) (m % 4294967296)) in
       absurd (let z : ⊥ = omega (arith, high, low, e) in z))
+      (λ z. let one = put-same b₃ 7 1 in absurd (let y : ⊥ = omega (arith, one, z) in y))
 
   pub unmarked-tidy : TidyBlock c (unmarkedBlock i b)
   unfolding unmarkedBlock
@@ -136,13 +160,17 @@ module _ (c : ℕ) (b : Block) (i : ℕ) (within : i < c) (t : TidyBlock c b) wh
       let b₂ = putIn b₁ (9 + i * 6) 0 in
       let b₃ = putIn b₂ (10 + i * 6) 0 in
       let b₄ = putIn b₃ (11 + i * 6) 0 in
+      let apart : (k : ℕ) → (8 + i * 6 ≤ k → k < 12 + i * 6 → ⊥) → b₄ k ≡ b k = λ k n.
+      then b₃ (11 + i * 6) 0 k (λ e. n (omega arith) (omega arith)) (then b₂ (10 + i * 6) 0 k (λ e. n (omega arith) (omega arith))
+      (then b₁ (9 + i * 6) 0 k (λ e. n (omega arith) (omega arith)) (then b (8 + i * 6) (b (9 + i * 6)) k (λ e. n (omega arith) (omega arith)) refl))) in
+      let same : SameBut i b b₄ = λ k h g s n. apart k n in
+      let idles : b₄ (10 + i * 6) + b₄ (11 + i * 6) * 4294967296 ≡ 0 → b₄ (9 + i * 6) ≡ 0 =
+      λ e. put-other b₃ (11 + i * 6) 0 (9 + i * 6) (λ q. omega arith) ∙ (put-other b₂ (10 + i * 6) 0 (9 + i * 6) (λ q. omega arith) ∙ put-same b₁ (9 + i * 6) 0) in
+      let low = put-other b₃ (11 + i * 6) 0 (10 + i * 6) (λ q. omega arith) ∙ put-same b₂ (10 + i * 6) 0 in
+      let high = put-same b₃ (11 + i * 6) 0 in
       store-loose c b₄ (128 + i) 1 (loose-high (128 + i) (omega arith))
-      (one-variable-changed c b b₄ i within t
-      (λ k h g n.
-      put-other b₃ (11 + i * 6) 0 k (λ e. n (omega arith) (omega arith)) ∙ (put-other b₂ (10 + i * 6) 0 k (λ e. n (omega arith) (omega arith)) ∙
-      (put-other b₁ (9 + i * 6) 0 k (λ e. n (omega arith) (omega arith)) ∙ put-other b (8 + i * 6) (b (9 + i * 6)) k (λ e. n (omega arith) (omega arith)))))
-      (λ e.
-      put-other b₃ (11 + i * 6) 0 (9 + i * 6) (λ q. omega arith) ∙ (put-other b₂ (10 + i * 6) 0 (9 + i * 6) (λ q. omega arith) ∙ put-same b₁ (9 + i * 6) 0)))
+      (one-variable-changed c b b₄ i within t same idles
+      (quiet-still c b b₄ i within t same idles (apart 7 (λ p q. omega arith)) (λ z. omega (arith, low, high))))
 
   pub due-tidy : (m : ℕ) → TidyBlock c (dueBlock i m b)
   unfolding dueBlock

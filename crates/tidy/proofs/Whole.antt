@@ -1,19 +1,19 @@
 -- A change of one block keeps all blocks tidy, if that block is tidy afterwards; and it is, for each change that the code makes to a slot's or the
 -- environment's block. Letters: b a block, s its number, i a variable's index, v a word, m a moment, n the number of environment variables.
-use mathlib.Core.Path.{_≡_, refl, sym, ap, _∙_, subst, fun-ext}
-use mathlib.Core.Bool.{Bool, true, false, cond, _&&_}
+use mathlib.Core.Path.{_≡_, refl, sym, _∙_, subst, fun-ext}
+use mathlib.Core.Bool.{Bool, true, false, cond}
 use mathlib.Core.List.{List}
-use Prim.Native.Nat.{ℕ, zero, suc, _+_, _*_, _≤_, _<_}
+use Prim.Native.Nat.{ℕ, _+_, _*_, _≤_, _<_}
 use native.Mathlib.Decide.{ℕ-discrete, decLt}
 use native.Mathlib.Omega.{arith}
-use lib.Dec.{eqb, leb, ltb}
+use lib.Dec.{eqb, ltb}
 use lib.ListN.{getD}
-use borrow.Author.Tests.{lt-ltb, le-ltb, le-leb, ltb-true, ltb-false}
+use borrow.Author.Tests.{lt-ltb, le-leb, ltb-true}
 use Rattle.machine.specs.Words.{blockAt}
 use Rattle.blocks.specs.Blocks.{Block, block}
-use Rattle.blocks.specs.Changes.{InBlock, putIn, cleared, placedBlock, assignedBlock, scheduledBlock, madeBlock, unmarkedBlock, dueBlock}
-use Rattle.tidy.specs.Tidy.{Blank, TidyBlock, TidySlot, TidyEnvironment, Tidy}
-use Rattle.tidy.proofs.Changes.{put-other, put-same, loose-low, loose-high, store-loose, assigned-tidy, scheduled-tidy, unmarked-tidy, made-tidy, due-tidy}
+use Rattle.blocks.specs.Changes.{InBlock, putIn, cleared, placedBlock, assignedBlock, scheduledBlock, queuedBlock, madeBlock, unmarkedBlock, dueBlock}
+use Rattle.tidy.specs.Tidy.{TidyBlock, TidySlot, TidyEnvironment, Tidy}
+use Rattle.tidy.proofs.Changes.{put-other, loose-low, loose-high, store-loose, assigned-tidy, scheduled-tidy, unmarked-tidy, made-tidy}
 
 -- ── the other blocks stay ─────────────────────────────────────────────────────────────────────────
 module _ {s : ℕ} {before after : List ℕ} {b : Block} (change : InBlock s before after b) where
@@ -81,13 +81,14 @@ module _ (b : Block) (i : ℕ) (t : TidySlot b) (within : i < b 4) where
       (put-other (putIn b (8 + i * 6) v) (128 + i) 1 4 (λ e. omega arith) ∙ put-other b (8 + i * 6) v 4 (λ e. omega arith))
       (unfold assignedBlock in assigned-tidy (b 4) b i within (t .tidy) v)
 
-  pub scheduled-slot : (m v : ℕ) → 0 < m → TidySlot (scheduledBlock i m v b)
-  unfolding scheduledBlock
-  scheduled-slot m v pos = in-use b _ with-variables (first 0 (omega arith)) (first 4 (omega arith)) (unfold scheduledBlock in scheduled-tidy (b 4) b i within (t .tidy) m v pos)
+  pub scheduled-slot : (m v : ℕ) → 0 < m → TidySlot (queuedBlock (scheduledBlock i m v b))
+  unfolding queuedBlock scheduledBlock
+  scheduled-slot m v pos =
+      in-use b _ with-variables (first 0 (omega arith)) (first 4 (omega arith)) (unfold queuedBlock scheduledBlock in scheduled-tidy (b 4) b i within (t .tidy) m v pos)
     where
-      first : (k : ℕ) → k < 8 → scheduledBlock i m v b k ≡ b k
-      first k h =
-          put-other _ (11 + i * 6) _ k (λ e. omega arith) ∙ (put-other _ (10 + i * 6) _ k (λ e. omega arith) ∙ put-other b (9 + i * 6) v k (λ e. omega arith))
+      first : (k : ℕ) → k < 7 → queuedBlock (scheduledBlock i m v b) k ≡ b k
+      first k h = put-other _ 7 1 k (λ e. omega arith) ∙ (put-other _ (11 + i * 6) _ k (λ e. omega arith) ∙
+          (put-other _ (10 + i * 6) _ k (λ e. omega arith) ∙ put-other b (9 + i * 6) v k (λ e. omega arith)))
 
   pub unmarked-slot : TidySlot (unmarkedBlock i b)
   unfolding unmarkedBlock
@@ -121,6 +122,7 @@ blank-slot b z =
         spareHigh = λ i h. z (13 + i * 6) (omega arith);
         past = λ i h g. record { value = z (8 + i * 6) (omega arith); waiting = z (9 + i * 6) (omega arith); low = z (10 + i * 6) (omega arith); high = z (11 + i * 6) (omega arith) };
         idle = λ i h e. z (9 + i * 6) (omega arith);
+        quiet = λ e i h. let low = z (10 + i * 6) (omega arith) in let high = z (11 + i * 6) (omega arith) in omega arith;
       });
       free = λ e. z;
     }
@@ -139,12 +141,12 @@ module _ (n : ℕ) (b : Block) (i : ℕ) (t : TidyEnvironment n b) (within : i <
         before = λ k h. put-other (putIn b (8 + i * 6) v) (128 + i) 1 k (λ e. omega arith) ∙ (put-other b (8 + i * 6) v k (λ e. omega arith) ∙ t .before k h);
       }
 
-  pub scheduled-environment : (m v : ℕ) → 0 < m → TidyEnvironment n (scheduledBlock i m v b)
-  unfolding scheduledBlock
+  pub scheduled-environment : (m v : ℕ) → 0 < m → TidyEnvironment n (queuedBlock (scheduledBlock i m v b))
+  unfolding queuedBlock scheduledBlock
   scheduled-environment m v pos =
       record {
-        tidy = unfold scheduledBlock in scheduled-tidy n b i within (t .tidy) m v pos;
-        before = λ k h. put-other _ (11 + i * 6) _ k (λ e. omega arith) ∙ (put-other _ (10 + i * 6) _ k (λ e. omega arith) ∙ (put-other b (9 + i * 6) v k (λ e. omega arith) ∙ t .before k h));
+        tidy = unfold queuedBlock scheduledBlock in scheduled-tidy n b i within (t .tidy) m v pos;
+        before = λ k h. put-other _ 7 1 k (λ e. omega arith) ∙ (put-other _ (11 + i * 6) _ k (λ e. omega arith) ∙ (put-other _ (10 + i * 6) _ k (λ e. omega arith) ∙ (put-other b (9 + i * 6) v k (λ e. omega arith) ∙ t .before k h)));
       }
 
   pub unmarked-environment : TidyEnvironment n (unmarkedBlock i b)

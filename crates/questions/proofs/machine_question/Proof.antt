@@ -62,7 +62,9 @@ machine-question-spec =
     (tie.spec
     check-machine-requires
     enum-told
+    returns
     enum-told-2
+    returns-2
     enum-known-check
     shared-slice-read-number
     number-requires
@@ -70,6 +72,4 @@ machine-question-spec =
     part-state-question-start
     part-state-question-end
     state-question-requires
-    returns
-    returns-2
     returns-3)

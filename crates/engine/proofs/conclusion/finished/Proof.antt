@@ -33,7 +33,7 @@ finish-requires : tie.Need-finish-requires
 finish-requires c κs =
     let p = c .before .before .before .before .before .before .before .before .before .before .before .before .before .before .before .before .before .pre in
     let s = whole-size (now (c .before .before .before .before .before .before .before .before .before .before .before .before .before .before .before .before .before .args .table)) (p .1 .table) _ _ (c .before .before .before .before .before .before .before .before .before .before .before .number .ensures .0) (c .before .before .before .before .before .before .before .before .before .number2 .ensures .0) in
-    (p .1 .size, s .1)
+    (p .1 .size, s .1, rw (s .0) (p .1 .tidy))
 
 due-at-requires : tie.Need-due-at-requires
 due-at-requires c κs = search needs

@@ -1,11 +1,11 @@
 use Rattle.finishing.proofs.OrderTurns.{built-below}
 use Rattle.finishing.proofs.PlaceTurns.{built-differ}
 use Rattle.finishing.proofs.Composed.{instant-ended}
-use Rattle.finishing.proofs.DueSlots.{all-due}
+use Rattle.finishing.proofs.DueSlots.{all-due, cleared-tidy}
 use Rattle.finishing.specs.Ended.{Ended}
 use Rattle.scheduler.specs.Order.{walkingOrder}
 use Rattle.blocks.specs.Blocks.{rowsOf}
-use mathlib.Core.Path.{_≡_, sym, subst}
+use mathlib.Core.Path.{sym, subst}
 use mathlib.Core.List.{List}
 use Prim.Native.Nat.{ℕ}
 use native.Mathlib.Omega.{arith}
@@ -21,7 +21,8 @@ sooner-of-variables-requires : tie.Need-sooner-of-variables-requires
 sooner-of-variables-requires c κs = search needs
 
 order-slots-requires : tie.Need-order-slots-requires
-order-slots-requires c κs = search needs
+order-slots-requires c κs =
+    (search needs, cleared-tidy (c .before .before .before .before .before .clear-header .ensures) (c .before .before .before .before .before .before .before .before .pre .2))
 
 set-places-requires : tie.Need-set-places-requires
 set-places-requires c κs =

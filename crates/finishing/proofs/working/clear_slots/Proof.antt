@@ -20,8 +20,8 @@ abbrev μ-loop : tie.MeasureT-loop
 loop-holds : tie.Need-loop-holds Inv-loop μ-loop
 loop-holds c = (search needs, none-mapped idleBlock (now (c .before .args .m)))
 
-clear-words-requires : tie.Need-clear-words-requires Inv-loop μ-loop
-clear-words-requires c κs = search needs
+clear-block-requires : tie.Need-clear-block-requires Inv-loop μ-loop
+clear-block-requires c κs = search needs
 
 add-s : tie.Need-add-s Inv-loop μ-loop
 add-s c = search needs
@@ -32,7 +32,7 @@ loop-less c = search needs
 loop-again : tie.Need-loop-again Inv-loop μ-loop
 loop-again c =
     let v = c .before .before .before .before .before .loop in
-    (search needs, one-more-cleared _ _ _ (v .s) (search needs) (v .inv .1) (c .before .before .clear-words .ensures))
+    (search needs, one-more-cleared _ _ _ (v .s) (search needs) (v .inv .1) (c .before .before .clear-block .ensures))
 
 same-length : tie.Need-same-length Inv-loop μ-loop
 same-length c = search needs
@@ -44,4 +44,4 @@ returns c =
     rw z at (v .inv .1)
 
 pub clear-slots-spec : {M : Type 1} → statement M
-clear-slots-spec = tie.close (tie.spec Inv-loop μ-loop loop-holds clear-words-requires add-s loop-less loop-again same-length returns)
+clear-slots-spec = tie.close (tie.spec Inv-loop μ-loop loop-holds clear-block-requires add-s loop-less loop-again same-length returns)

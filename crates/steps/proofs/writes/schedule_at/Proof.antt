@@ -1,17 +1,17 @@
--- `schedule_at` meets its contract.
+-- `steps::writes::schedule_at` meets its contract.
 use denote.Ref.{now}
-use mathlib.Core.Path.{_≡_, refl, ap}
-use Prim.Native.Nat.{ℕ, suc, _+_}
+use mathlib.Core.Path.{_≡_, ap}
+use Prim.Native.Nat.{_+_, suc}
 use native.Mathlib.Numerals.{add-one}
 use native.Mathlib.Omega.{arith}
-use borrow.Author.Needs.{needs}
 use Rattle.walk.specs.State.{Variable}
-use Rattle.scheduler.specs.Rows.{Row}
 use Rattle.scheduler.specs.Engine.{scheduled}
 use Rattle.blocks.specs.Blocks.{rowsOf}
+use Rattle.blocks.proofs.Queued.{then-queued}
 use Rattle.evaluate.proofs.Names.{names-few}
 use Rattle.steps.proofs.Stores.{placed-as}
-use Rattle.steps.proofs.Writing.{changes-name, scheduled-all}
+use Rattle.steps.proofs.Writing.{scheduled-all, changes-name}
+use borrow.Author.Needs.{needs}
 use Rattle.steps.proofs.writes.schedule_at.Statement.{statement}
 use Rattle.steps.proofs.writes.schedule_at.Tie as tie
 
@@ -25,10 +25,14 @@ place-requires : tie.Need-place-requires
 place-requires c κs = search needs
 
 add-next : tie.Need-add-next
-add-next c = let e = c .place .ensures in let n = c .before .before .before .before .before .pre .0 .runs .next in record { fits = omega arith }
+add-next c =
+    let e = c .place .ensures in let n = c .before .before .before .before .before .pre .0 .runs .next in record { fits = omega arith }
 
 schedule-requires : tie.Need-schedule-requires
 schedule-requires c κs = search needs
+
+put-word-requires : tie.Need-put-word-requires
+put-word-requires c κs = search needs
 
 set-place-requires : tie.Need-set-place-requires
 set-place-requires c κs = search needs
@@ -38,17 +42,27 @@ same-length c = search needs
 
 returns : tie.Need-returns
 returns c =
-    let a = c .before .before .before .before .before .before .before .before .before .before .before .before .before .args in
+    let o = c .before .before .before .before .before .before .before .before .before .before .before .before .before .before .before .before .before in
+    let a = o .args in
     let u = a .running in
-    let binding = c .before .before .before .before .before .before .before .before .before .before .owner .result in
-    let bound = c .before .before .before .before .before .before .before .before .before .before .owner .ensures in
+    let binding = c .before .before .before .before .before .before .before .before .before .before .before .before .before .before .owner .result in
+    let bound = c .before .before .before .before .before .before .before .before .before .before .before .before .before .before .owner .ensures in
     let here = (rowsOf (now (a .m)) (u .me)) .place in
-    let next : c .before .before .before .before .before .before .before .before .place .result + 1 ≡ suc here = rw add-one (ap suc (c .before .before .before .before .before .before .before .before .place .ensures)) in
-    let p = c .before .before .before .before .before .before .schedule .ensures in
-    let q = placed-as (c .before .before .before .before .before .before .before .before .place .result + 1) (suc here) next (c .before .before .set-place .ensures) in
-    changes-name u (a .name) binding bound (c .before .before .before .before .before .before .before .before .before .before .before .before .before .pre .0 .there) (c .before .before .before .before .before .before .before .before .before .before .before .before .before .pre .0 .runs .slot) (λ (y : Variable). scheduled y (a .moment) (a .value)) p q
-    (λ n there. scheduled-all (binding .index) (bound .block) there (a .moment) (a .value) (c .before .before .before .before .before .before .before .before .before .before .before .before .before .pre .1) p)
+    let next : c .before .before .before .before .before .before .before .before .before .before .before .before .place .result + 1 ≡ suc here = rw add-one (ap suc (c .before .before .before .before .before .before .before .before .before .before .before .before .place .ensures)) in
+    let p = then-queued (bound .block) (c .before .before .before .before .before .before .before .before .before .before .schedule .ensures) (c .before .before .before .before .before .before .put-word .ensures) in
+    let q = placed-as (c .before .before .before .before .before .before .before .before .before .before .before .before .place .result + 1) (suc here) next (c .before .before .set-place .ensures) in
+    changes-name u (a .name) binding bound (o .pre .0 .there) (o .pre .0 .runs .slot) (λ (y : Variable). scheduled y (a .moment) (a .value)) p q
+    (λ n there. scheduled-all (binding .index) (bound .block) there (a .moment) (a .value) (o .pre .1) p)
 
 pub schedule-at-spec : {M : Type 1} → statement M
 schedule-at-spec =
-    tie.close (tie.spec owner-requires place-requires add-next schedule-requires set-place-requires same-length returns)
+    tie.close
+    (tie.spec
+    owner-requires
+    place-requires
+    add-next
+    schedule-requires
+    put-word-requires
+    set-place-requires
+    same-length
+    returns)

@@ -1,0 +1,27 @@
+// The event queue at the beginning of an instant. A variable's place in it is its own record; word 7 of a block says whether a waiting
+// write may stand there, and the next moment due is looked for in just those blocks.
+ghost use mathlib.Core.Path.{_≡_};
+ghost use Prim.Native.Nat.{_≤_};
+ghost use lib.ListN.{length};
+ghost use Rattle.beginning.specs.Queue.{flagOf, Queued};
+
+fn flag(due: u64) -> u32
+    ensures { λ r. ⌜ r ≡ flagOf due ⌝ }
+{
+    if due == 0 {
+        return 0;
+    }
+    1
+}
+
+// Each block by its soonest moment due (0: none), as question 7's pass has kept it.
+pub fn queue_waiting(m: &mut [u32], dues: &[u64; 65])
+    requires { ⌜ (12288 ≤ length (now m)) × (length (now dues) ≡ 65) ⌝ }
+    ensures { λ _. ⌜ Queued 65 (now (dues .entry)) (now (m .entry)) (now (m .exit)) ⌝ }
+{
+    let mut s: usize = 0;
+    while s < 65 {
+        blocks::put_word(m, s, 7, flag(dues[s]));
+        s += 1;
+    }
+}

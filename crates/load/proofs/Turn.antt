@@ -23,12 +23,12 @@ use Rattle.records.specs.Records.{asLine}
 use Rattle.records.specs.declared.line.Line.the-variants as LV
 use Rattle.records.proofs.Lines.{NextLine, next-line}
 use Rattle.load.specs.Growing.{openedWith, withInstruction, lastCode, withLine, withLines}
-use Rattle.writer.specs.Lines.{WritesLine, lineAt}
+use Rattle.openings.specs.Lines.{WritesLine, lineAt}
 use Rattle.load.specs.Writing.{entered, advanced, wordsIn, Room, Fits, AllFit, Counted, Writing}
 use Rattle.load.specs.Writing as W
-use Rattle.writer.specs.declared.line.Holds.{Holds}
-use Rattle.writer.specs.declared.line.Holds.the-variants as HV
-use Rattle.writer.specs.declared.line.WrittenLine.{WrittenLine}
+use Rattle.openings.specs.declared.line.Holds.{Holds}
+use Rattle.openings.specs.declared.line.Holds.the-variants as HV
+use Rattle.openings.specs.declared.line.WrittenLine.{WrittenLine}
 use Rattle.load.specs.declared.progress.Progress.{Progress}
 use Rattle.load.proofs.Growing.{last-code, last-code-few, added, Grows, lines-grow}
 use Rattle.load.proofs.Words.{ports-written, opens-written, instruction-written}

@@ -12,8 +12,8 @@ use Rattle.table.specs.Areas.{tableWords, allCode, allCells}
 use Rattle.reader.specs.declared.place.Place.{Place}
 use Rattle.records.specs.Onward.{recordsFrom, Formed}
 use Rattle.load.specs.Growing.{lastCode, withLines}
-use Rattle.writer.specs.declared.line.Holds.{Holds}
-use Rattle.writer.specs.declared.line.Holds.the-variants as HV
+use Rattle.openings.specs.declared.line.Holds.{Holds}
+use Rattle.openings.specs.declared.line.Holds.the-variants as HV
 use Rattle.load.specs.declared.progress.Progress.{Progress}
 
 -- ── what a line that was read changes ────────────────────────────────────────────

@@ -1,10 +1,10 @@
 // How far a table is written, and what each line of the listing moves on.
 ghost use mathlib.Core.Path.{_≡_};
 ghost use Rattle.load.specs.Writing.{entered, advanced, Room};
+use cells::put::put;
+use cells::put::put_entry;
+use openings::Holds;
 use reader::Place;
-use writer::Holds;
-use writer::put::put;
-use writer::put::put_entry;
 
 // The reading place (offset, line); the routines, instructions and words of cells so far; the instructions of the last routine.
 pub struct Progress {

@@ -22,14 +22,14 @@ use Rattle.reader.proofs.Places.{left-open}
 use Rattle.records.specs.Records.{endNext}
 use Rattle.records.proofs.Chain.{Got, first, got-of, next-shut, left-none}
 use Rattle.writer.specs.Calls.{WritesCall}
-use Rattle.writer.specs.Cells.{cellsOf}
-use Rattle.writer.specs.Lines.{WritesRest}
-use Rattle.writer.specs.declared.cell.Cells.{Cells}
-use Rattle.writer.specs.declared.line.Holds.the-variants as HV
-use Rattle.writer.specs.declared.line.WrittenLine.{WrittenLine}
-use Rattle.writer.proofs.Fields.{both-true, stopOf, nextOf, each-more, each-none, each-length, name-cell, names-cells}
+use Rattle.cells.specs.Cells.{cellsOf}
+use Rattle.openings.specs.Lines.{WritesRest}
+use Rattle.cells.specs.declared.cell.Cells.{Cells}
+use Rattle.openings.specs.declared.line.Holds.the-variants as HV
+use Rattle.openings.specs.declared.line.WrittenLine.{WrittenLine}
+use Rattle.cells.proofs.Fields.{both-true, stopOf, nextOf, each-more, each-none, each-length, name-cell, names-cells}
 use Rattle.writer.proofs.Instructions.{IsWritten, writes-of, name-two, entry-is}
-use Rattle.writer.proofs.Stores.{sets-behind, first-anew, two-each}
+use Rattle.cells.proofs.Stores.{sets-behind, first-anew, two-each}
 
 -- ── a child field ────────────────────────────────────────────────────────────────
 -- what a child field that was read as a call is: its first figure, and the others

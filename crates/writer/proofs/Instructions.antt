@@ -20,15 +20,15 @@ use Rattle.reader.specs.Texts.{fieldsLeft, fieldPieces, Within}
 use Rattle.reader.specs.declared.place.Place.{Place}
 use Rattle.records.specs.Records.{endNext}
 use Rattle.records.proofs.Chain.{Got, first, next-shut, expression-length}
-use Rattle.writer.specs.Cells.{cellsOf, cellsAnswer, WritesCells}
-use Rattle.writer.specs.Words.{wordAnswer}
-use Rattle.writer.specs.Lines.{Writes, WritesRest}
-use Rattle.writer.specs.declared.word.Word.{Word}
-use Rattle.writer.specs.declared.cell.Cells.{Cells}
-use Rattle.writer.specs.declared.line.Holds.the-variants as HV
-use Rattle.writer.specs.declared.line.WrittenLine.{WrittenLine}
-use Rattle.writer.proofs.Fields.{both-true, tested-read, stopOf, nextOf, field-was, shut-was, last-was, low-word-is, word-read-is, each-length, pieces-cells, names-cells}
-use Rattle.writer.proofs.Stores.{sets-behind, two-each}
+use Rattle.cells.specs.Cells.{cellsOf, cellsAnswer, WritesCells}
+use Rattle.cells.specs.Words.{wordAnswer}
+use Rattle.openings.specs.Lines.{Writes, WritesRest}
+use Rattle.cells.specs.declared.word.Word.{Word}
+use Rattle.cells.specs.declared.cell.Cells.{Cells}
+use Rattle.openings.specs.declared.line.Holds.the-variants as HV
+use Rattle.openings.specs.declared.line.WrittenLine.{WrittenLine}
+use Rattle.cells.proofs.Fields.{both-true, tested-read, stopOf, nextOf, field-was, shut-was, last-was, WordIs, word-known, each-length, pieces-cells, names-cells}
+use Rattle.cells.proofs.Stores.{sets-behind, two-each}
 
 -- ── a reading that is an instruction ─────────────────────────────────────────────
 -- a line read as x, written as an instruction
@@ -91,16 +91,6 @@ expression-cells s c b x b' c' names g t h =
       number = sym (expression-length s c b b' c' x g);
       two = two-each pieceWords piece-two x;
     }
-
--- what a field of one figure gives
-pub record WordIs (s : List ℕ) (c : Place) (n : ℕ) (r : Word) : Type 0 where
-  pub next : r .next ≡ nextOf s c
-  pub value : n < wordRange → r .value ≡ n
-
-pub word-known : (s : List ℕ) (c : Place) (b n : ℕ) (r : Word) → first readNumber s c b ≡ some n → r ≡ wordAnswer s c b → WordIs s c n r
-word-known s c b n r i e =
-    let k = e ∙ word-read-is s c b n i in
-    record { next = ap (λ (v : Word). v .next) k; value = λ l. ap (λ (v : Word). v .value) k ∙ low-word-is n l }
 
 -- the words of an entry, from what they stand for
 pub entry-is : (t t₁ after ws : List ℕ) (e a kind v v' m m' n n' : ℕ) → after ≡ sets t₁ e (kind ∷ (v ∷ (a ∷ (m ∷ (n ∷ []))))) → t₁ ≡ sets t a ws → v ≡ v' → m ≡ m' → n ≡ n'

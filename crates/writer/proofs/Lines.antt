@@ -15,10 +15,10 @@ use Rattle.reader.specs.declared.place.Place.{Place}
 use Rattle.reader.specs.declared.place.Taken.{Taken}
 use Rattle.reader.proofs.Places.{before-slice}
 use Rattle.records.specs.Records.{endNext}
-use Rattle.writer.specs.Lines.{Writes, WritesRest, lineAt, WritesLine}
-use Rattle.writer.specs.declared.line.WrittenLine.{WrittenLine}
-use Rattle.writer.proofs.Fields.{stopOf, nextOf, FieldWas, field-was}
-use Rattle.writer.proofs.Openings.{one-read, one-stop, one-next, piece-in}
+use Rattle.openings.specs.Lines.{Writes, WritesRest, lineAt, WritesLine}
+use Rattle.openings.specs.declared.line.WrittenLine.{WrittenLine}
+use Rattle.cells.proofs.Fields.{stopOf, nextOf, FieldWas, field-was}
+use Rattle.openings.proofs.Openings.{one-read, one-stop, one-next, piece-in}
 
 -- ── readings that are the same, or none ──────────────────────────────────────────
 module _ (o : Option L.Line) (end : Place) (e a : ℕ) (before after : List ℕ) (r : WrittenLine) where

@@ -7,8 +7,8 @@ use lib.Seq.{sets}
 use Rattle.listing.specs.Bytes.{Bytes}
 use Rattle.reader.specs.Texts.{fieldPieces, Within}
 use Rattle.reader.specs.declared.place.Place.{Place}
-use Rattle.writer.specs.Cells.{cellsOf, cellsAnswer}
-use Rattle.writer.specs.declared.cell.Cells.{Cells}
+use Rattle.cells.specs.Cells.{cellsOf, cellsAnswer}
+use Rattle.cells.specs.declared.cell.Cells.{Cells}
 
 pub record WritesCall (s : Bytes) (p : Place) (a : ℕ) (before after : List ℕ) (r : Cells) : Type 0 where
   pub answer : r ≡ cellsAnswer s p

@@ -4,13 +4,13 @@ ghost use lib.ListN.{length};
 ghost use Rattle.listing.specs.Form.{readFork};
 ghost use Rattle.reader.specs.Texts.{Within};
 ghost use Rattle.writer.specs.Calls.{WritesCall};
-ghost use Rattle.writer.specs.Lines.{WritesRest};
-use crate::cell::Cells;
-use crate::cell::write_cells;
-use crate::line::Holds;
-use crate::line::WrittenLine;
-use crate::put::put;
-use crate::put::put_entry;
+ghost use Rattle.openings.specs.Lines.{WritesRest};
+use cells::cell::Cells;
+use cells::cell::write_cells;
+use cells::put::put;
+use cells::put::put_entry;
+use openings::Holds;
+use openings::WrittenLine;
 use reader::Place;
 
 // The cells of a child field: a head of its number of arguments and its routine, then the arguments' names.

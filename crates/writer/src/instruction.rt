@@ -3,12 +3,12 @@ ghost use Prim.Native.Nat.{_≤_};
 ghost use lib.ListN.{length};
 ghost use Rattle.listing.specs.Form.{readAssign, readSchedule, readBranch, readJump, readWait, readEnd};
 ghost use Rattle.reader.specs.Texts.{Within};
-ghost use Rattle.writer.specs.Lines.{WritesRest};
-use crate::cell::write_cells;
-use crate::line::Holds;
-use crate::line::WrittenLine;
-use crate::put::put_entry;
-use crate::word::word_field;
+ghost use Rattle.openings.specs.Lines.{WritesRest};
+use cells::cell::write_cells;
+use cells::put::put_entry;
+use cells::word::word_field;
+use openings::Holds;
+use openings::WrittenLine;
 use reader::Place;
 
 // Document 01: "`S|n|e` writes expression e to name n."

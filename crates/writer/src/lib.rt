@@ -1,13 +1,7 @@
 // Writes the table of a listing that has passed all questions: header, routine entries, instruction entries, cells.
 // The layout is that of docs/LAYOUT.md; the lines are read again, each part written as it is read.
-pub mod cell;
 pub mod fork;
 pub mod instruction;
 pub mod line;
-pub mod opens;
-pub mod put;
-pub mod word;
 
-pub use line::Holds;
-pub use line::WrittenLine;
 pub use line::write_line;

@@ -3,7 +3,7 @@ ghost use Prim.Native.Nat.{_≤_};
 ghost use lib.ListN.{length};
 ghost use Rattle.listing.specs.Form.{readByLetter};
 ghost use Rattle.reader.specs.Texts.{Within};
-ghost use Rattle.writer.specs.Lines.{WritesRest, WritesLine};
+ghost use Rattle.openings.specs.Lines.{WritesRest, WritesLine};
 use crate::fork::write_fork;
 use crate::instruction::write_assign;
 use crate::instruction::write_branch;
@@ -11,26 +11,12 @@ use crate::instruction::write_end;
 use crate::instruction::write_jump;
 use crate::instruction::write_schedule;
 use crate::instruction::write_wait;
-use crate::opens::hold_opens;
-use crate::opens::hold_ports;
+use openings::Holds;
+use openings::WrittenLine;
+use openings::opens::hold_opens;
+use openings::opens::hold_ports;
 use reader::Place;
 use reader::take_piece;
-
-// What a line holds that a table's header or a routine's entry needs; an instruction's cells and entry are written.
-pub enum Holds {
-    // inputs and outputs
-    Ports(u32, u32),
-    // arguments, their kinds as bits, locals
-    Opens(u32, u32, u32),
-    // the words of its cells
-    Instruction(usize),
-}
-
-// What the line holds, and the place past it.
-pub struct WrittenLine {
-    pub holds: Holds,
-    pub next: Place,
-}
 
 // The fields after a line's letter. Another letter is none, which question 2 rules out.
 fn write_rest(

@@ -2,7 +2,7 @@
 use denote.Ref.{now}
 use native.Mathlib.Omega.{arith}
 use Rattle.writer.proofs.Lines as lines
-use Rattle.writer.proofs.Openings as openings
+use Rattle.openings.proofs.Openings as openings
 use borrow.Author.Needs.{needs}
 use Rattle.writer.proofs.line.write_line.Statement.{statement}
 use Rattle.writer.proofs.line.write_line.Tie as tie

@@ -1,0 +1,4 @@
+pub mod CellLoop
+pub mod Entry
+pub mod Fields
+pub mod Stores

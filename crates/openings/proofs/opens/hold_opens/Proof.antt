@@ -1,0 +1,33 @@
+-- `openings::hold_opens` meets its contract.
+use denote.Ref.{now}
+use Rattle.openings.proofs.Openings as openings
+use borrow.Author.Needs.{needs}
+use Rattle.openings.proofs.opens.hold_opens.Statement.{statement}
+use Rattle.openings.proofs.opens.hold_opens.Tie as tie
+
+take-piece-requires : tie.Need-take-piece-requires
+take-piece-requires c κs = search needs
+
+kinds-of-requires : tie.Need-kinds-of-requires
+kinds-of-requires c κs =
+    let a = c .before .before .before .args in
+    openings.piece-in (now (a .s)) (a .place) (c .before .before .before .pre) _ (c .before .take-piece .ensures)
+
+word-field-requires : tie.Need-word-field-requires
+word-field-requires c κs =
+    let a = c .before .before .before .before .args in
+    openings.piece-next (now (a .s)) (a .place) (c .before .before .before .before .pre) _ (c .before .before .take-piece .ensures)
+
+returns : tie.Need-returns
+returns c =
+    let a = c .before .before .before .before .before .before .args in
+    openings.opens-held (now (a .s)) (a .place) (a .stop) (c .before .before .before .before .before .before .pre) _ (c .before .before .before .before .take-piece .ensures) _ (c .before .before .kinds-of .ensures) _ (c .before .word-field .ensures .0)
+
+pub hold-opens-spec : {M : Type 1} → statement M
+hold-opens-spec =
+    tie.close
+    (tie.spec
+    take-piece-requires
+    kinds-of-requires
+    word-field-requires
+    returns)

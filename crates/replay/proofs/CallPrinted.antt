@@ -16,13 +16,13 @@ use Rattle.walk.specs.Promises as promises
 use Rattle.walk.specs.Session.{ends, goesOn, Played, played, andThen, printed}
 use Rattle.layout.specs.Layout.{layout}
 use Rattle.replay.specs.Standing.{Runs}
-use Rattle.replay.specs.Made.{ResultPrinted}
-use Rattle.replay.specs.Made as specs
-use Rattle.replay.specs.declared.phase.Clock.{Clock}
-use Rattle.replay.specs.declared.calls.Made.{Made}
-use Rattle.replay.specs.declared.calls.Made.the-variants.{Ended, Went}
+use Rattle.printed_calls.specs.Made.{ResultPrinted}
+use Rattle.printed_calls.specs.Made as specs
+use Rattle.printed_calls.specs.declared.calls.Clock.{Clock}
+use Rattle.printed_calls.specs.declared.calls.Made.{Made}
+use Rattle.printed_calls.specs.declared.calls.Made.the-variants.{Ended, Went}
 use Rattle.replay.proofs.Outcomes.{Numbered, by-refusal, by-stop, without, Moved, moves}
-use Rattle.replay.proofs.PiecePrinted.{begins-take}
+use Rattle.printed_calls.proofs.PiecePrinted.{begins-take}
 use Rattle.replay.proofs.Printed.{printed-on, printed-end}
 
 -- A call of which p comes is made and printed: with its `X` line the session ends, or it goes on from a state for which the machine stands.

@@ -8,14 +8,14 @@ use native.Mathlib.Omega.{arith}
 use lib.ListN.{length, take}
 use lib.Seq.{length-take-le}
 use Rattle.walk.specs.Calls.{inputsOf, laterWords}
-use Rattle.replay.specs.Made.{InstantMade}
+use Rattle.printed_calls.specs.Made.{InstantMade}
 use Rattle.replay.specs.Phases.{FromStarting, FromToward, FromUntil}
 use Rattle.replay.specs.Phases as phases
 use Rattle.replay.specs.Advancing.{Steps}
-use Rattle.replay.specs.declared.phase.Clock.{Clock}
+use Rattle.printed_calls.specs.declared.calls.Clock.{Clock}
 use Rattle.replay.specs.declared.phase.Phase.the-variants.{Starting, Toward, Until}
 use Rattle.replay.specs.declared.phase.Step.{Step}
-use Rattle.replay.specs.declared.calls.Made.{Made}
+use Rattle.printed_calls.specs.declared.calls.Made.{Made}
 use Rattle.replay.proofs.Promised.{InstantPrinted, machine-past, start-printed, instant-printed}
 use Rattle.replay.proofs.Stepping.{ends-steps, starting-steps, due-toward-steps, call-toward-steps, too-many-steps, due-until-steps, end-until-is}
 

@@ -24,11 +24,11 @@ use Rattle.trace.specs.Groups.{CallIs, NextRead}
 use Rattle.trace.specs.declared.group.Next.{Next}
 use Rattle.trace.specs.declared.group.Next.the-variants as Next
 use Rattle.replay.specs.Standing.{Stands, opening, starting, reading, toward, until, Left}
-use Rattle.replay.specs.Made.{EndsWith, silent}
+use Rattle.replay.specs.After.{EndsWith, silent}
 use Rattle.replay.specs.Phases.{Loads, FromOpening, FromReading}
 use Rattle.replay.specs.Phases as phases
 use Rattle.replay.specs.Advancing.{Steps}
-use Rattle.replay.specs.declared.phase.Clock.{Clock}
+use Rattle.printed_calls.specs.declared.calls.Clock.{Clock}
 use Rattle.replay.specs.declared.phase.Phase.{Phase}
 use Rattle.replay.specs.declared.phase.Phase.the-variants.{Opening, Starting, Reading, Toward, Until, Over}
 use Rattle.replay.specs.declared.phase.Step.{Step}

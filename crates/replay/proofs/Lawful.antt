@@ -17,7 +17,7 @@ use Rattle.table.proofs.Table.{table-meets}
 use Rattle.table.proofs.WalkBounds.{ports-few}
 use Rattle.machine.proofs.MachineWords.{read-is-a-state}
 use Rattle.replay.specs.Standing.{Runs}
-use Rattle.replay.specs.declared.phase.Clock.{Clock}
+use Rattle.printed_calls.specs.declared.calls.Clock.{Clock}
 use Rattle.engine.proofs.Literals.{literals-are-words}
 use Rattle.questions.proofs.TableSize.{first-words32}
 

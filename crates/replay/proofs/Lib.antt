@@ -1,8 +1,7 @@
 pub mod OneDue
 pub mod Printed
 pub mod FewInputs
-pub mod Told
-pub mod PiecePrinted
+pub mod EndPrinted
 pub mod Lawful
 pub mod Outcomes
 pub mod CallPrinted

@@ -13,11 +13,11 @@ use Rattle.walk.specs.Calls.{laterWords}
 use Rattle.walk.specs.Session.{session}
 use Rattle.walk_laws.proofs.Booleans.{and-left, and-right}
 use Rattle.replay.specs.Standing.{Stands, opening, over, Left}
-use Rattle.replay.specs.Made.{silent}
+use Rattle.replay.specs.After.{silent}
 use Rattle.replay.specs.Phases.{FromOpening, FromReading, Memories, memories, Does, from-opening, from-starting, from-reading, from-toward, from-until, when-over}
 use Rattle.replay.specs.Advancing.{lengthsSuffice, longEnough, Steps, Moves, Advances, went}
 use Rattle.replay.specs.declared.phase.Phase.{Phase}
-use Rattle.replay.specs.declared.phase.Clock.{Clock}
+use Rattle.printed_calls.specs.declared.calls.Clock.{Clock}
 use Rattle.replay.specs.declared.phase.Phase.the-variants.{Opening, Starting, Reading, Toward, Until, Over}
 use Rattle.replay.specs.declared.phase.Step.{Step}
 use Rattle.replay.specs.declared.phase.Advanced.the-variants.{Went}

@@ -15,31 +15,17 @@ use Rattle.walk.specs.Promises as promises
 use Rattle.walk.specs.Session.{sessionAllowance, played, callFrom}
 use Rattle.layout.specs.Layout.{layout}
 use Rattle.replay.specs.Standing.{Runs}
-use Rattle.replay.specs.Made.{ResultPrinted, StartMade, InstantMade}
-use Rattle.replay.specs.Made as specs
-use Rattle.replay.specs.declared.phase.Clock.{Clock}
-use Rattle.replay.specs.declared.calls.Made.{Made}
-use Rattle.replay.specs.declared.calls.Made.the-variants.{Ended, Went}
+use Rattle.printed_calls.specs.Made.{ResultPrinted, StartMade, InstantMade}
+use Rattle.printed_calls.specs.Made as specs
+use Rattle.printed_calls.specs.declared.calls.Clock.{Clock}
+use Rattle.printed_calls.specs.declared.calls.Made.{Made}
+use Rattle.printed_calls.specs.declared.calls.Made.the-variants.{Ended, Went}
 use Rattle.replay.proofs.Outcomes.{start-numbered, instant-numbered, start-moves, instant-moves, start-is, instant-is}
 use Rattle.replay.proofs.Lawful.{is-state}
-use Rattle.replay.proofs.PiecePrinted.{begins-room}
+use Rattle.printed_calls.proofs.PiecePrinted.{begins-room}
 use Rattle.replay.proofs.CallPrinted.{CallPrinted, call-printed}
 
 -- ── what any outcome leaves ───────────────────────────────────────────────────────────────────────
-length-map : {A B : Type 0} (f : A → B) (xs : List A) → length (map f xs) ≡ length xs
-length-map f [] = refl
-length-map f (x ∷ xs) = rw (length-map f xs)
-
--- No more are listed than a list has places.
-pub listed-few : (table before machine numbersBefore valuesBefore numbers values : List ℕ) (o : Outcome) (result : Result) →
-    Keeps layout table before numbersBefore valuesBefore machine numbers values o result → length numbers ≡ length numbersBefore → result .listed ≤ length numbersBefore
-unfolding promises.resultOf numbersAfter
-listed-few table before machine numbersBefore valuesBefore numbers values o result keeps same =
-    let listed : result .listed ≡ length (outcomeListed o) = ap (λ (x : Result). x .listed) (keeps .result) in
-    let long : length numbers ≡ length (outcomeListed o) + (length numbersBefore - length (outcomeListed o)) =
-    rw (keeps .numbersAre) (simp (length-append, length-drop, length-map)) in
-    omega arith
-
 length-and-zeros : (k n m : ℕ) → suc n ≡ m → length (k ∷ replicate n 0) ≡ m
 length-and-zeros k n m e = ap suc (length-replicate {A = ℕ} n 0) ∙ e
 

@@ -14,17 +14,18 @@ use Rattle.walk.specs.Trace.{script, callAt, lastAt}
 use Rattle.walk.specs.Session.{Played, andThen, played, callFrom, printed, writeLines, endOf, endLine, endCode, play, playAll, sessionAllowance}
 use Rattle.engine.specs.Answers.{dueOf}
 use Rattle.replay.specs.Standing.{Runs, Stands, starting, reading, toward, until, over, Left}
-use Rattle.replay.specs.Made.{Soon, due-at, none-due, stepAfter, EndsWith}
+use Rattle.printed_calls.specs.Made.{Soon, due-at, none-due}
+use Rattle.replay.specs.After.{stepAfter, EndsWith}
 use Rattle.replay.specs.Advancing.{Steps}
-use Rattle.replay.specs.declared.phase.Clock.{Clock}
+use Rattle.printed_calls.specs.declared.calls.Clock.{Clock}
 use Rattle.replay.specs.declared.phase.Phase.{Phase}
 use Rattle.replay.specs.declared.phase.Phase.the-variants.{Starting, Reading, Toward, Until, Over}
 use Rattle.replay.specs.declared.phase.Step.{Step}
-use Rattle.replay.specs.declared.calls.Made.{Made}
-use Rattle.replay.specs.declared.calls.Made.the-variants.{Ended, Went}
+use Rattle.printed_calls.specs.declared.calls.Made.{Made}
+use Rattle.printed_calls.specs.declared.calls.Made.the-variants.{Ended, Went}
 use Rattle.engine.specs.declared.answers.Due.the-variants.{Never, At}
 use Rattle.replay.proofs.Lawful.{lawful, is-state}
-use Rattle.replay.proofs.PiecePrinted.{begins-take, begins-room}
+use Rattle.printed_calls.proofs.PiecePrinted.{begins-take, begins-room}
 use Rattle.replay.proofs.CallPrinted.{CallPrinted}
 use Rattle.replay.proofs.CallPrinted as call
 use Rattle.replay.proofs.Promised.{bytesOf, StartPrinted, InstantPrinted}

@@ -1,4 +1,4 @@
 pub mod Standing
-pub mod Made
+pub mod After
 pub mod Phases
 pub mod Advancing

@@ -17,12 +17,13 @@ use Rattle.layout.specs.Layout.{layout}
 use Rattle.engine.specs.Answers.{dueOf}
 use Rattle.engine.specs.declared.answers.Due.the-variants.{Never, At}
 use Rattle.trace.specs.Groups.{CallIs}
-use Rattle.replay.specs.Made.{Soon, StartMade, InstantMade, stepAfter, EndsWith, silent}
+use Rattle.printed_calls.specs.Made.{Soon, StartMade, InstantMade}
+use Rattle.replay.specs.After.{stepAfter, EndsWith, silent}
 use Rattle.replay.specs.declared.phase.Phase.{Phase}
 use Rattle.replay.specs.declared.phase.Phase.the-variants.{Opening, Starting, Reading, Toward, Until, Over}
-use Rattle.replay.specs.declared.phase.Clock.{Clock}
+use Rattle.printed_calls.specs.declared.calls.Clock.{Clock}
 use Rattle.replay.specs.declared.phase.Step.{Step}
-use Rattle.replay.specs.declared.calls.Made.{Made}
+use Rattle.printed_calls.specs.declared.calls.Made.{Made}
 
 -- After loading: a refusal is printed, or the start comes next.
 pub data Loads (out out′ : List ℕ) (step : Step) : Loading → Type 0 where

@@ -15,7 +15,7 @@ use Rattle.walk.specs.Trace.{script, callAt, lastAt}
 use Rattle.walk.specs.Session.{play, playAll, printed, session}
 use Rattle.layout.specs.Layout.{layout}
 use Rattle.engine.specs.Answers.{dueOf}
-use Rattle.replay.specs.declared.phase.Clock.{Clock}
+use Rattle.printed_calls.specs.declared.calls.Clock.{Clock}
 use Rattle.replay.specs.declared.phase.Phase.{Phase}
 use Rattle.replay.specs.declared.phase.Phase.the-variants.{Opening, Starting, Reading, Toward, Until, Over}
 

@@ -1,11 +1,5 @@
 // Where a session stands between two of its steps.
-use engine::Due;
-
-// What the last call's result gave: the present moment, and the next moment due.
-pub struct Clock {
-    pub now: u64,
-    pub due: Due,
-}
+use printed_calls::calls::Clock;
 
 pub enum Phase {
     // nothing is done yet

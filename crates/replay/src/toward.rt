@@ -7,16 +7,16 @@ ghost use Rattle.listing.specs.Listing.{Listing};
 ghost use Rattle.words.specs.Moments.{momentRange};
 ghost use Rattle.walk.specs.Session.{endCode};
 ghost use Rattle.replay.specs.Phases.{FromToward, FromUntil};
-use crate::calls::due_before;
-use crate::calls::due_until;
-use crate::calls::make_instant;
-use crate::calls::step_after;
+use crate::after::step_after;
 use crate::from_phase::end_with;
-use crate::phase::Clock;
 use crate::phase::Phase;
 use crate::phase::Step;
 use crate::phase::Then;
 use engine::Due;
+use printed_calls::calls::Clock;
+use printed_calls::calls::due_before;
+use printed_calls::calls::due_until;
+use printed_calls::calls::make_instant;
 
 // A due instant before the call, or the call.
 pub fn from_toward(

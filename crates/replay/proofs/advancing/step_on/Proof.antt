@@ -2,7 +2,7 @@
 use mathlib.Core.Path.{refl}
 use denote.Ref.{now}
 use Rattle.replay.specs.declared.phase.Phase.the-variants.{Opening, Starting, Over}
-use Rattle.replay.specs.Made.{silent}
+use Rattle.replay.specs.After.{silent}
 use Rattle.replay.specs.Phases.{memories}
 use Rattle.replay.specs.Phases as phases
 use Rattle.replay.proofs.Moving.{does-from}

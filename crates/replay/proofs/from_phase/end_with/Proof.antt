@@ -1,6 +1,6 @@
 -- `replay::from_phase::end_with` meets its contract.
 use native.Mathlib.Omega.{arith}
-use Rattle.replay.proofs.PiecePrinted.{end-printed}
+use Rattle.replay.proofs.EndPrinted.{end-printed}
 use borrow.Author.Needs.{needs}
 use Rattle.replay.proofs.from_phase.end_with.Statement.{statement}
 use Rattle.replay.proofs.from_phase.end_with.Tie as tie

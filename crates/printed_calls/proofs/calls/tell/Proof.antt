@@ -1,8 +1,8 @@
--- `replay::calls::tell` meets its contract.
-use Rattle.replay.proofs.Told.{refused-tells, stopped-tells, done-tells}
+-- `printed_calls::calls::tell` meets its contract.
+use Rattle.printed_calls.proofs.Told.{refused-tells, stopped-tells, done-tells}
 use borrow.Author.Needs.{needs}
-use Rattle.replay.proofs.calls.tell.Statement.{statement}
-use Rattle.replay.proofs.calls.tell.Tie as tie
+use Rattle.printed_calls.proofs.calls.tell.Statement.{statement}
+use Rattle.printed_calls.proofs.calls.tell.Tie as tie
 
 enum-known-answer : tie.Need-enum-known-answer
 enum-known-answer c = search needs

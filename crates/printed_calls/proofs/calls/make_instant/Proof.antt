@@ -1,13 +1,13 @@
--- `replay::calls::make_instant` meets its contract.
+-- `printed_calls::calls::make_instant` meets its contract.
 use mathlib.Core.Path.{sym, _∙_}
 use native.Mathlib.Omega.{arith}
 use denote.Ref.{now}
 use lib.Seq.{length-take-le}
-use Rattle.replay.proofs.Promised.{listed-few}
+use Rattle.printed_calls.proofs.FewListed.{listed-few}
 use Rattle.engine.specs.Answers.{resultOf}
 use borrow.Author.Needs.{needs}
-use Rattle.replay.proofs.calls.make_instant.Statement.{statement}
-use Rattle.replay.proofs.calls.make_instant.Tie as tie
+use Rattle.printed_calls.proofs.calls.make_instant.Statement.{statement}
+use Rattle.printed_calls.proofs.calls.make_instant.Tie as tie
 
 slice-aggregate-instant : tie.Need-slice-aggregate-instant
 slice-aggregate-instant c =

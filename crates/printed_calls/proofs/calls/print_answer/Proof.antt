@@ -1,10 +1,10 @@
--- `replay::calls::print_answer` meets its contract.
+-- `printed_calls::calls::print_answer` meets its contract.
 use mathlib.Core.Path.{refl}
 use native.Mathlib.Omega.{arith}
-use Rattle.replay.proofs.PiecePrinted.{ends-printed, goes-printed}
+use Rattle.printed_calls.proofs.PiecePrinted.{ends-printed, goes-printed}
 use borrow.Author.Needs.{needs}
-use Rattle.replay.proofs.calls.print_answer.Statement.{statement}
-use Rattle.replay.proofs.calls.print_answer.Tie as tie
+use Rattle.printed_calls.proofs.calls.print_answer.Statement.{statement}
+use Rattle.printed_calls.proofs.calls.print_answer.Tie as tie
 
 tell-requires : tie.Need-tell-requires
 tell-requires c κs = search needs

@@ -3,11 +3,7 @@ ghost use mathlib.Core.Path.{_≡_};
 ghost use Prim.Native.Nat.{suc, _≤_};
 ghost use lib.ListN.{length, take};
 ghost use Rattle.engine.specs.Answers.{dueOf, resultOf};
-ghost use Rattle.replay.specs.Made.{Soon, ResultPrinted, StartMade, InstantMade, stepAfter, onward};
-use crate::phase::Clock;
-use crate::phase::Phase;
-use crate::phase::Step;
-use crate::phase::Then;
+ghost use Rattle.printed_calls.specs.Made.{Soon, ResultPrinted, StartMade, InstantMade};
 use engine::Answer;
 use engine::Due;
 use engine::instant;
@@ -17,6 +13,12 @@ use printing::put_write_lines;
 
 // "allowance 10,000"
 const ALLOWANCE: u32 = 10000;
+
+// What the last call's result gave: the present moment, and the next moment due.
+pub struct Clock {
+    pub now: u64,
+    pub due: Due,
+}
 
 // How many bytes were printed: the session's end, or the writes of a call that went through.
 pub enum Made {
@@ -156,30 +158,4 @@ pub fn make_instant(
         ALLOWANCE,
     );
     print_answer(answer, present, t, out_numbers, out_values, out)
-}
-
-fn go_on(then: Then, clock: Clock) -> Phase
-    ensures { λ r. ⌜ r ≡ onward then clock ⌝ }
-{
-    match then {
-        Then::Read(at) => Phase::Reading(clock, at),
-        Then::Call(time, count, next) => Phase::Toward(clock, time, count, next),
-        Then::End(time, nothing_after) => Phase::Until(clock, time, nothing_after),
-    }
-}
-
-// The step after a call: "the first refusal or stop ends it", or the session goes on with what the call told.
-pub fn step_after(made: Made, then: Then) -> Step
-    ensures { λ r. ⌜ r ≡ stepAfter made (onward then) ⌝ }
-{
-    match made {
-        Made::Ended(printed) => Step {
-            phase: Phase::Over,
-            printed,
-        },
-        Made::Went(clock, printed) => {
-            let phase = go_on(then, clock);
-            Step { phase, printed }
-        }
-    }
 }

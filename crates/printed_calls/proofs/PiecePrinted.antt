@@ -12,14 +12,13 @@ use Rattle.walk.specs.Promises.{Result}
 use Rattle.walk.specs.Session.{writeLines, endLine}
 use Rattle.printing.specs.Puts.{Puts}
 use Rattle.engine.specs.Answers.{dueOf}
-use Rattle.replay.specs.Made.{Begins, ResultPrinted, EndsWith}
-use Rattle.replay.specs.Made as specs
-use Rattle.replay.specs.declared.phase.Clock.{Clock}
-use Rattle.replay.specs.declared.phase.Phase.the-variants.{Over}
-use Rattle.replay.specs.declared.calls.Made.the-variants.{Ended, Went}
+use Rattle.printed_calls.specs.Made.{Begins, ResultPrinted}
+use Rattle.printed_calls.specs.Made as specs
+use Rattle.printed_calls.specs.declared.calls.Clock.{Clock}
+use Rattle.printed_calls.specs.declared.calls.Made.the-variants.{Ended, Went}
 
 -- ── bytes at the beginning ────────────────────────────────────────────────────────────────────────
-put-begins : (before bytes after : List ℕ) (n : ℕ) → Puts before 0 bytes after n → n ≤ length before → Begins before bytes after n
+pub put-begins : (before bytes after : List ℕ) (n : ℕ) → Puts before 0 bytes after n → n ≤ length before → Begins before bytes after n
 put-begins before bytes after n p l =
     let long : n ≡ length bytes = omega (arith, p .past) in
     let fits : 0 + length bytes ≤ length before = omega arith in
@@ -36,7 +35,7 @@ module _ {before bytes after : List ℕ} {n : ℕ} (b : Begins before bytes afte
       let size : length after ≡ length bytes + length (drop n before) = ap length (b .is) ∙ length-append bytes (drop n before) in
       omega (arith, b .count)
 
--- ── the print of a result, and of the end ─────────────────────────────────────────────────────────
+-- ── the print of a result ─────────────────────────────────────────────────────────────────────────
 module _ (result : Result) (present t : ℕ) (numbers values before after : List ℕ) (n : ℕ) (long : 1100 ≤ length before) where
   pub ends-printed : (number : ℕ) → number ≡ result .number → number ≢ 0 → Puts before 0 (endLine number present) after n → n ≤ 0 + 44 →
       ResultPrinted result present t numbers values before after (Ended n)
@@ -48,7 +47,3 @@ module _ (result : Result) (present t : ℕ) (numbers values before after : List
   goes-printed number listed clock e f due now none few p l =
       let g = put-begins before (writeLines (eventsAt t (inputsOf (take listed numbers) (take listed values)))) after n p (omega arith) in
       specs.ResultPrinted.went (sym e ∙ none) (rw f at g) now due
-
-pub end-printed : (before after : List ℕ) (code present n : ℕ) → 1100 ≤ length before → Puts before 0 (endLine code present) after n → n ≤ 0 + 44 →
-    EndsWith before code present after (record { phase = Over; printed = n })
-end-printed before after code present n long p l = record { over = refl; prints = put-begins before (endLine code present) after n p (omega arith) }

@@ -1,10 +1,10 @@
--- `replay::calls::make_start` meets its contract.
+-- `printed_calls::calls::make_start` meets its contract.
 use native.Mathlib.Omega.{arith}
-use Rattle.replay.proofs.Promised.{listed-few}
+use Rattle.printed_calls.proofs.FewListed.{listed-few}
 use Rattle.engine.specs.Answers.{resultOf}
 use borrow.Author.Needs.{needs}
-use Rattle.replay.proofs.calls.make_start.Statement.{statement}
-use Rattle.replay.proofs.calls.make_start.Tie as tie
+use Rattle.printed_calls.proofs.calls.make_start.Statement.{statement}
+use Rattle.printed_calls.proofs.calls.make_start.Tie as tie
 
 start-requires : tie.Need-start-requires
 start-requires c κs = search needs

@@ -6,7 +6,7 @@ use borrow.Author.Tests.{le-ltb}
 use native.Mathlib.Omega.{arith}
 use Rattle.walk.specs.Calls.{dueBefore}
 use Rattle.engine.specs.Answers.{dueOf, resultOf}
-use Rattle.replay.specs.Made.{Soon, due-at, none-due}
+use Rattle.printed_calls.specs.Made.{Soon, due-at, none-due}
 use Rattle.engine.specs.declared.answers.Due.{Due}
 use Rattle.engine.specs.declared.answers.Due.the-variants.{Never, At}
 use Rattle.engine.specs.declared.answers.Figures.{Figures}

@@ -14,14 +14,9 @@ use Rattle.layout.specs.Layout.{layout}
 use Rattle.engine.specs.Answers.{dueOf}
 use Rattle.engine.specs.declared.answers.Due.{Due}
 use Rattle.engine.specs.declared.answers.Due.the-variants.{Never, At}
-use Rattle.replay.specs.declared.phase.Phase.{Phase}
-use Rattle.replay.specs.declared.phase.Phase.the-variants.{Reading, Toward, Until, Over}
-use Rattle.replay.specs.declared.phase.Clock.{Clock}
-use Rattle.replay.specs.declared.phase.Step.{Step}
-use Rattle.replay.specs.declared.phase.Then.{Then}
-use Rattle.replay.specs.declared.phase.Then.the-variants.{Read, Call, End}
-use Rattle.replay.specs.declared.calls.Made.{Made}
-use Rattle.replay.specs.declared.calls.Made.the-variants.{Ended, Went}
+use Rattle.printed_calls.specs.declared.calls.Clock.{Clock}
+use Rattle.printed_calls.specs.declared.calls.Made.{Made}
+use Rattle.printed_calls.specs.declared.calls.Made.the-variants.{Ended, Went}
 
 -- Of a next moment due: that moment if it is before t, or none.
 pub data Soon (due : NextDue) (t : ℕ) : Due → Type 0 where
@@ -56,23 +51,3 @@ StartMade table machine numbers values = CallMade (startCall layout table machin
 abbrev pub InstantMade : ℕ → ℕ → List ℕ → List ℕ → List ℕ → List ℕ → List ℕ → List ℕ → List ℕ → List ℕ → List ℕ → List ℕ → List ℕ → Made → Type 0
 InstantMade now t inNumbers inValues table machine numbers values =
     CallMade (instantCall layout table machine t inNumbers inValues numbers values sessionAllowance) now t table machine numbers values
-
--- The step after a call: "the first refusal or stop ends it", or the session goes on with what the call told.
-abbrev pub stepAfter : Made → (Clock → Phase) → Step
-stepAfter (Ended n) phase = record { phase = Over; printed = n }
-stepAfter (Went clock n) phase = record { phase = phase clock; printed = n }
-
--- The phase that comes then, with what the call told.
-abbrev pub onward : Then → Clock → Phase
-onward (Read at) clock = Reading clock at
-onward (Call time count next) clock = Toward clock time count next
-onward (End time nothingAfter) clock = Until clock time nothingAfter
-
--- The step that prints the `X` line.
-pub record EndsWith (before : List ℕ) (code present : ℕ) (after : List ℕ) (step : Step) : Type 0 where
-  pub over : step .phase ≡ Over
-  pub prints : Begins before (endLine code present) after (step .printed)
-
--- The step that prints nothing.
-abbrev pub silent : Phase → Step
-silent phase = record { phase = phase; printed = 0 }

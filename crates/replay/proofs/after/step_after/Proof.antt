@@ -1,10 +1,10 @@
--- `replay::calls::step_after` meets its contract.
+-- `replay::after::step_after` meets its contract.
 use mathlib.Core.Path.{sym, ap}
-use Rattle.replay.specs.declared.calls.Made.{Made}
-use Rattle.replay.specs.Made.{stepAfter, onward}
+use Rattle.printed_calls.specs.declared.calls.Made.{Made}
+use Rattle.replay.specs.After.{stepAfter, onward}
 use borrow.Author.Needs.{needs}
-use Rattle.replay.proofs.calls.step_after.Statement.{statement}
-use Rattle.replay.proofs.calls.step_after.Tie as tie
+use Rattle.replay.proofs.after.step_after.Statement.{statement}
+use Rattle.replay.proofs.after.step_after.Tie as tie
 
 enum-known-made : tie.Need-enum-known-made
 enum-known-made c = search needs

@@ -1,10 +1,10 @@
--- `replay::calls::go_on` meets its contract.
+-- `replay::after::go_on` meets its contract.
 use mathlib.Core.Path.{sym, ap}
 use Rattle.replay.specs.declared.phase.Then.{Then}
-use Rattle.replay.specs.Made.{onward}
+use Rattle.replay.specs.After.{onward}
 use borrow.Author.Needs.{needs}
-use Rattle.replay.proofs.calls.go_on.Statement.{statement}
-use Rattle.replay.proofs.calls.go_on.Tie as tie
+use Rattle.replay.proofs.after.go_on.Statement.{statement}
+use Rattle.replay.proofs.after.go_on.Tie as tie
 
 enum-known-then : tie.Need-enum-known-then
 enum-known-then c = search needs

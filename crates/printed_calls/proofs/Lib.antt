@@ -1,0 +1,3 @@
+pub mod FewListed
+pub mod PiecePrinted
+pub mod Told

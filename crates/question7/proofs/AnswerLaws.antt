@@ -14,8 +14,8 @@ use Rattle.machine.proofs.MachineWords.{words-due-is-next-due}
 use Rattle.machine.proofs.InPlace.{knows-place, in-place}
 use Rattle.machine.proofs.PassingWordsHold.{Words32, own-rests}
 use Rattle.machine_words.specs.Tests.{Dues}
-use Rattle.question7.specs.Tables.{TableBounds}
-use Rattle.question7.specs.Scan.{Ready, whole}
+use Rattle.child_fields.specs.Tables.{TableBounds}
+use Rattle.tree_scan.specs.Scan.{Ready, whole}
 use Rattle.question7.specs.Answer.{answerOf, checkOf}
 use Rattle.question7.specs.declared.MachineCheck.the-variants.{NotAState, Stopped, Running}
 

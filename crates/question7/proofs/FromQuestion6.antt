@@ -11,7 +11,7 @@ use Rattle.table.proofs.Table.{table-meets}
 use Rattle.table.proofs.Entry.{fetched}
 use Rattle.table.proofs.WalkBounds.{owned-few, code-few, ports-few, children-few}
 use Rattle.machine.specs.Limits.{WithinLimits}
-use Rattle.question7.specs.Tables.{TableBounds}
+use Rattle.child_fields.specs.Tables.{TableBounds}
 
 pub table-bounds : (w : List ℕ) → isTable w ≡ true → TableBounds w
 table-bounds w h =

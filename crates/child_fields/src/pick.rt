@@ -1,0 +1,50 @@
+// The child field that made a record, looked for among those that may still come.
+use crate::routines::head_after;
+use machine_words::number;
+ghost use mathlib.Core.Path.{_≡_};
+ghost use mathlib.Core.Bool.{false};
+ghost use lib.ListN.{length};
+ghost use Rattle.child_fields.specs.Tables.{HeadsFit};
+ghost use Rattle.child_fields.specs.Picking.{Picked};
+
+// What made a record: its routine, and behind its child field the next head and how many are left.
+pub struct Maker {
+    pub found: bool,
+    pub routine: usize,
+    pub head: usize,
+    pub left: usize,
+}
+
+pub fn nobody() -> Maker
+    ensures { λ r. ⌜ r .found ≡ false ⌝ }
+{
+    Maker {
+        found: false,
+        routine: 0,
+        head: 0,
+        left: 0,
+    }
+}
+
+// The child field numbered `child` among the `left` ones from `next` on, the first head at `first`.
+pub fn pick(t: &[u32], first: usize, left: usize, next: usize, child: usize) -> Maker
+    requires { ⌜ (length (now t) ≡ 12288) × HeadsFit (now t) first left ⌝ }
+    ensures { λ r. ⌜ Picked (now (t .entry)) first left next child (r .found) (r .routine) (r .head) (r .left) ⌝ }
+{
+    if child < next {
+        return nobody();
+    }
+    let skip = child - next;
+    if left <= skip {
+        return nobody();
+    }
+    let head = head_after(t, first, left, skip);
+    let routine = number(t[head + 1]);
+    let after = head + (2 + 2 * number(t[head]));
+    Maker {
+        found: true,
+        routine: routine,
+        head: after,
+        left: left - skip - 1,
+    }
+}

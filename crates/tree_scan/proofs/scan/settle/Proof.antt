@@ -1,0 +1,132 @@
+-- `tree_scan::scan::settle` meets its contract.
+use Prim.Native.Nat.{_<_}
+use mathlib.Core.Path.{_≡_}
+use native.Mathlib.Omega.{arith}
+use Rattle.tree_scan.specs.Scan.{recordOf}
+use Rattle.tree_scan.proofs.ScanLaws.{no-sleep, too-deep, level-from, child-from, place-from}
+use Rattle.tree_scan.proofs.StepLaws.{refused-step, waiting-step, forking-step}
+use borrow.Author.Needs.{needs}
+use Rattle.tree_scan.proofs.scan.settle.Statement.{statement}
+use Rattle.tree_scan.proofs.scan.settle.Tie as tie
+
+block-of-requires : tie.Need-block-of-requires
+block-of-requires c κs =
+    (c .before .before .pre .1, omega (arith, c .before .before .pre .3 .few, c .before .before .pre .2), c .before .before .pre .3 .slot (c .before .before .args .k) (c .before .before .pre .2))
+
+add-number : tie.Need-add-number
+add-number c = search needs
+
+mul-number : tie.Need-mul-number
+mul-number c = search needs
+
+shared-slice-read-number : tie.Need-shared-slice-read-number
+shared-slice-read-number c = search needs
+
+number-requires : tie.Need-number-requires
+number-requires c κs = search needs
+
+add-number-2 : tie.Need-add-number-2
+add-number-2 c = search needs
+
+mul-number-2 : tie.Need-mul-number-2
+mul-number-2 c = search needs
+
+shared-slice-read-number-2 : tie.Need-shared-slice-read-number-2
+shared-slice-read-number-2 c = search needs
+
+number-requires-2 : tie.Need-number-requires-2
+number-requires-2 c κs = search needs
+
+add-number-3 : tie.Need-add-number-3
+add-number-3 c = search needs
+
+mul-number-3 : tie.Need-mul-number-3
+mul-number-3 c = search needs
+
+shared-slice-read-number-3 : tie.Need-shared-slice-read-number-3
+shared-slice-read-number-3 c = search needs
+
+number-requires-3 : tie.Need-number-requires-3
+number-requires-3 c κs = search needs
+
+entered-requires : tie.Need-entered-requires
+entered-requires c κs =
+    let a = c .before .before .before .before .before .before .before .before .before .args in
+    let e : c .before .before .before .before .number .result ≡ recordOf (a .m .now) (a .k) .level = level-from (a .m .now) (a .k) _ _ (c .before .before .before .before .before .before .block-of .ensures .0) (c .before .before .before .before .number .ensures .0) in
+    let s : c .before .before .before .before .number .result < 11 = rw e (c .before .before .before .before .before .before .before .before .before .pre .5 .shallow) in
+    (s, c .before .before .number2 .ensures .1)
+
+line-at-requires : tie.Need-line-at-requires
+line-at-requires c κs =
+    (c .before .before .before .before .before .before .before .before .before .before .pre .0, c .before .before .before .before .before .before .before .before .before .before .pre .5 .there, c .before .before .before .before .before .before .before .before .before .before .pre .3 .table)
+
+returns : tie.Need-returns
+returns c =
+    let a = c .before .before .before .before .before .before .before .before .before .before .before .before .args in
+    let e : c .before .before .before .before .before .before .before .number .result ≡ recordOf (a .m .now) (a .k) .level = level-from (a .m .now) (a .k) _ _ (c .before .before .before .before .before .before .before .before .before .block-of .ensures .0) (c .before .before .before .before .before .before .before .number .ensures .0) in
+    let f : c .before .before .before .before .before .number2 .result ≡ recordOf (a .m .now) (a .k) .child = child-from (a .m .now) (a .k) _ _ (c .before .before .before .before .before .before .before .before .before .block-of .ensures .0) (c .before .before .before .before .before .number2 .ensures .0) in
+    let g : c .before .before .before .number3 .result ≡ recordOf (a .m .now) (a .k) .place = place-from (a .m .now) (a .k) _ _ (c .before .before .before .before .before .before .before .before .before .block-of .ensures .0) (c .before .before .before .number3 .ensures .0) in
+    waiting-step (a .t .now) (a .m .now) (a .k) (a .p) (a .made .routine) (a .made .head) (a .made .left) (c .before .before .before .before .before .before .before .before .before .before .before .before .pre .2) (c .before .before .before .before .before .before .before .before .before .before .before .before .pre .3) (c .before .before .before .before .before .before .before .before .before .before .before .before .pre .4) (c .before .before .before .before .before .before .before .before .before .before .before .before .pre .5) (c .before .before .before .before .before .before .before .before .before .before .before .before .pre .6)
+    _ (rw (e, f) at (c .before .before .entered .ensures)) _ _ _ (c .if1 .taken) (rw g at (c .before .line-at .ensures))
+
+refused-requires : tie.Need-refused-requires
+refused-requires c κs = search needs
+
+returns-2 : tie.Need-returns-2
+returns-2 c =
+    let a = c .before .before .before .before .before .before .before .before .before .before .before .before .before .before .args in
+    let g : c .before .before .before .before .before .number3 .result ≡ recordOf (a .m .now) (a .k) .place = place-from (a .m .now) (a .k) _ _ (c .before .before .before .before .before .before .before .before .before .before .before .block-of .ensures .0) (c .before .before .before .before .before .number3 .ensures .0) in
+    refused-step _ _ _ _ (c .refused .ensures)
+    (no-sleep (a .t .now) (a .m .now) (a .k) (a .p) (a .made .routine) (a .made .head) (a .made .left) (c .before .before .before .before .before .before .before .before .before .before .before .before .before .before .pre .2) (c .before .before .before .before .before .before .before .before .before .before .before .before .before .before .pre .3) (c .before .before .before .before .before .before .before .before .before .before .before .before .before .before .pre .4) (c .before .before .before .before .before .before .before .before .before .before .before .before .before .before .pre .5) (c .before .before .before .before .before .before .before .before .before .before .before .before .before .before .pre .6)
+    _ _ _ (c .before .before .if1 .left) (c .before .if2 .taken) (rw g at (c .before .before .before .line-at .ensures)))
+
+refused-requires-2 : tie.Need-refused-requires-2
+refused-requires-2 c κs = search needs
+
+returns-3 : tie.Need-returns-3
+returns-3 c =
+    let a = c .before .before .before .before .before .before .before .before .before .before .before .before .before .before .before .args in
+    let e : c .before .before .before .before .before .before .before .before .before .before .number .result ≡ recordOf (a .m .now) (a .k) .level = level-from (a .m .now) (a .k) _ _ (c .before .before .before .before .before .before .before .before .before .before .before .before .block-of .ensures .0) (c .before .before .before .before .before .before .before .before .before .before .number .ensures .0) in
+    let g : c .before .before .before .before .before .before .number3 .result ≡ recordOf (a .m .now) (a .k) .place = place-from (a .m .now) (a .k) _ _ (c .before .before .before .before .before .before .before .before .before .before .before .before .block-of .ensures .0) (c .before .before .before .before .before .before .number3 .ensures .0) in
+    refused-step _ _ _ _ (c .refused2 .ensures)
+    (too-deep (a .t .now) (a .m .now) (a .k) (a .p) (a .made .routine) (a .made .head) (a .made .left) (c .before .before .before .before .before .before .before .before .before .before .before .before .before .before .before .pre .2) (c .before .before .before .before .before .before .before .before .before .before .before .before .before .before .before .pre .3) (c .before .before .before .before .before .before .before .before .before .before .before .before .before .before .before .pre .4) (c .before .before .before .before .before .before .before .before .before .before .before .before .before .before .before .pre .5) (c .before .before .before .before .before .before .before .before .before .before .before .before .before .before .before .pre .6)
+    _ _ _ (c .before .before .if2 .left) (rw e at (c .before .if3 .taken)) (rw g at (c .before .before .before .before .line-at .ensures)))
+
+pushed-requires : tie.Need-pushed-requires
+pushed-requires c κs = search needs
+
+returns-4 : tie.Need-returns-4
+returns-4 c =
+    let a = c .before .before .before .before .before .before .before .before .before .before .before .before .before .before .before .args in
+    let e : c .before .before .before .before .before .before .before .before .before .before .number .result ≡ recordOf (a .m .now) (a .k) .level = level-from (a .m .now) (a .k) _ _ (c .before .before .before .before .before .before .before .before .before .before .before .before .block-of .ensures .0) (c .before .before .before .before .before .before .before .before .before .before .number .ensures .0) in
+    let f : c .before .before .before .before .before .before .before .before .number2 .result ≡ recordOf (a .m .now) (a .k) .child = child-from (a .m .now) (a .k) _ _ (c .before .before .before .before .before .before .before .before .before .before .before .before .block-of .ensures .0) (c .before .before .before .before .before .before .before .before .number2 .ensures .0) in
+    let g : c .before .before .before .before .before .before .number3 .result ≡ recordOf (a .m .now) (a .k) .place = place-from (a .m .now) (a .k) _ _ (c .before .before .before .before .before .before .before .before .before .before .before .before .block-of .ensures .0) (c .before .before .before .before .before .before .number3 .ensures .0) in
+    forking-step (a .t .now) (a .m .now) (a .k) (a .p) (a .made .routine) (a .made .head) (a .made .left) (c .before .before .before .before .before .before .before .before .before .before .before .before .before .before .before .pre .2) (c .before .before .before .before .before .before .before .before .before .before .before .before .before .before .before .pre .3) (c .before .before .before .before .before .before .before .before .before .before .before .before .before .before .before .pre .4) (c .before .before .before .before .before .before .before .before .before .before .before .before .before .before .before .pre .5) (c .before .before .before .before .before .before .before .before .before .before .before .before .before .before .before .pre .6)
+    _ (rw (e, f) at (c .before .before .before .before .before .entered .ensures)) _ _ _ (rw e at (c .pushed .ensures)) (rw e at (c .before .if3 .left)) _ (c .before .before .if2 .left) (rw g at (c .before .before .before .before .line-at .ensures))
+
+pub settle-spec : {M : Type 1} → statement M
+settle-spec =
+    tie.close
+    (tie.spec
+    block-of-requires
+    add-number
+    mul-number
+    shared-slice-read-number
+    number-requires
+    add-number-2
+    mul-number-2
+    shared-slice-read-number-2
+    number-requires-2
+    add-number-3
+    mul-number-3
+    shared-slice-read-number-3
+    number-requires-3
+    entered-requires
+    line-at-requires
+    returns
+    refused-requires
+    returns-2
+    refused-requires-2
+    returns-3
+    pushed-requires
+    returns-4)

@@ -1,0 +1,81 @@
+-- `tree_scan::scan::step` meets its contract.
+use mathlib.Core.Path.{_≡_, sym, _∙_}
+use lib.ListN.{length}
+use native.Mathlib.Omega.{arith}
+use borrow.Author.Tests.{not-true, not-false}
+use Rattle.tree_scan.specs.Scan.{recordOf}
+use Rattle.tree_scan.proofs.ScanLaws.{size-from, wrong-size}
+use Rattle.tree_scan.proofs.StepLaws.{refused-step}
+use borrow.Author.Needs.{needs}
+use Rattle.tree_scan.proofs.scan.step.Statement.{statement}
+use Rattle.tree_scan.proofs.scan.step.Tie as tie
+
+made-by-requires : tie.Need-made-by-requires
+made-by-requires c κs = search needs
+
+refused-requires : tie.Need-refused-requires
+refused-requires c κs = search needs
+
+returns : tie.Need-returns
+returns c =
+    refused-step _ _ _ _ (c .refused .ensures) (c .before .before .before .made-by .ensures .nobody (not-true _ (c .before .if1 .taken)))
+
+block-of-requires : tie.Need-block-of-requires
+block-of-requires c κs =
+    (c .before .before .before .before .before .pre .1, omega (arith, c .before .before .before .before .before .pre .3 .few, c .before .before .before .before .before .pre .2), c .before .before .before .before .before .pre .3 .slot (c .before .before .before .before .before .args .k) (c .before .before .before .before .before .pre .2))
+
+owned-by-requires : tie.Need-owned-by-requires
+owned-by-requires c κs =
+    (c .before .before .before .before .before .before .pre .0, c .before .before .before .made-by .ensures .somebody (not-false _ (c .before .if1 .left)) .there, c .before .before .before .before .before .before .pre .3 .table .most)
+
+add-number : tie.Need-add-number
+add-number c = search needs
+
+mul-number : tie.Need-mul-number
+mul-number c = search needs
+
+shared-slice-read-number : tie.Need-shared-slice-read-number
+shared-slice-read-number c = search needs
+
+number-requires : tie.Need-number-requires
+number-requires c κs = search needs
+
+refused-requires-2 : tie.Need-refused-requires-2
+refused-requires-2 c κs = search needs
+
+returns-2 : tie.Need-returns-2
+returns-2 c =
+    let a = c .before .before .before .before .before .before .before .before .before .before .before .args in
+    let e : c .before .before .number .result ≡ length (recordOf (a .m .now) (a .k) .own) = size-from (a .m .now) (a .k) _ _ (c .before .before .before .before .before .block-of .ensures .0) (c .before .before .number .ensures .0) in
+    let C = c .before .before .before .before .before .before .before .before .made-by .ensures .somebody (not-false _ (c .before .before .before .before .before .before .if1 .left)) in
+    refused-step _ _ _ _ (c .refused2 .ensures)
+    (wrong-size (a .t .now) (a .m .now) (a .k) (a .p) _ _ _ (c .before .before .before .before .before .before .before .before .before .before .before .pre .2) (c .before .before .before .before .before .before .before .before .before .before .before .pre .3) (c .before .before .before .before .before .before .before .before .before .before .before .pre .4) C (λ z. c .before .if2 .taken (e ∙ z ∙ sym (c .before .before .before .before .owned-by .ensures))))
+
+settle-requires : tie.Need-settle-requires
+settle-requires c κs =
+    let a = c .before .before .before .before .before .before .before .before .before .before .args in
+    let e : c .before .number .result ≡ length (recordOf (a .m .now) (a .k) .own) = size-from (a .m .now) (a .k) _ _ (c .before .before .before .before .block-of .ensures .0) (c .before .number .ensures .0) in
+    let C = c .before .before .before .before .before .before .before .made-by .ensures .somebody (not-false _ (c .before .before .before .before .before .if1 .left)) in
+    (c .before .before .before .before .before .before .before .before .before .before .pre .0, c .before .before .before .before .before .before .before .before .before .before .pre .1, c .before .before .before .before .before .before .before .before .before .before .pre .2, c .before .before .before .before .before .before .before .before .before .before .pre .3, c .before .before .before .before .before .before .before .before .before .before .pre .4, C, sym e ∙ c .if2 .left ∙ c .before .before .before .owned-by .ensures)
+
+returns-3 : tie.Need-returns-3
+returns-3 c =
+    c .settle .ensures
+
+pub step-spec : {M : Type 1} → statement M
+step-spec =
+    tie.close
+    (tie.spec
+    made-by-requires
+    refused-requires
+    returns
+    block-of-requires
+    owned-by-requires
+    add-number
+    mul-number
+    shared-slice-read-number
+    number-requires
+    refused-requires-2
+    returns-2
+    settle-requires
+    returns-3)

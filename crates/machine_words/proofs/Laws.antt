@@ -1,14 +1,12 @@
--- One more turn of each test over a row of words, variables, slots or places.
-use Prim.Native.Nat.{ℕ, zero, suc, _+_, _*_, _-_, _<_, _≤_}
+-- One more turn of each test over a row of words or variables.
+use Prim.Native.Nat.{ℕ, suc, _+_, _*_, _-_, _<_, _≤_}
 use mathlib.Core.Path.{_≡_, refl, sym, _∙_}
 use mathlib.Core.Bool.{Bool, true, false, _&&_}
 use mathlib.Core.List.{List}
 use lib.ListN.{getD}
 use native.Mathlib.Omega.{arith}
-use lib.Dec.{leb, eqb}
-use borrow.Author.Tests.{eq-eqb, ne-eqb, leb-true, le-leb}
-use Rattle.machine.proofs.Basics.{and-left, and-right}
-use Rattle.machine.specs.Words.{zeroFrom, variableRests, variablesRest, blockRests, slotHolds, slotsHold, knowsPlace, knowPlaces, headerInPlace}
+use borrow.Author.Tests.{eq-eqb, ne-eqb, le-leb}
+use Rattle.machine.specs.Words.{zeroFrom, variableRests, variablesRest, blockRests}
 
 and-true : (x : Bool) → x && true ≡ x
 and-true true = refl
@@ -73,17 +71,3 @@ module _ (t : ℕ) (w : List ℕ) (a k : ℕ) (few : k ≤ 16) where
       go : (b : Bool) → variablesRest t w (a + 8) k ≡ b → blockRests t w a k ≡ false
       go true f = by-zeros true false f e
       go false f = by-zeros false false f e
-
-pub one-slot : (n t : ℕ) (w : List ℕ) (s : ℕ) (b : Bool) → 0 < s → slotHolds n t w (s - 1) ≡ b → slotsHold n t w s ≡ b && slotsHold n t w (s - 1)
-unfolding slotsHold
-one-slot n t w zero b l e = absurd (let z : ⊥ = omega arith in z)
-one-slot n t w (suc s) b l e = let p : suc s - 1 ≡ s = omega arith in rw (p, rw p at e)
-
-pub one-place : (w : List ℕ) (s : ℕ) (b : Bool) → 0 < s → knowsPlace w (s - 1) ≡ b → knowPlaces w s ≡ b && knowPlaces w (s - 1)
-unfolding knowPlaces
-one-place w zero b l e = absurd (let z : ⊥ = omega arith in z)
-one-place w (suc s) b l e = let p : suc s - 1 ≡ s = omega arith in rw (p, rw p at e)
-
-pub few-routines : (w : List ℕ) → headerInPlace w ≡ true → getD w 3 0 ≤ 64
-unfolding headerInPlace
-few-routines w e = leb-true _ _ (and-left (leb (getD w 3 0) 64) _ (and-right (eqb (getD w 0 0) 0) _ e))

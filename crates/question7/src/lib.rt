@@ -1,10 +1,10 @@
 // Question 7: is the machine memory the stopped form or one state of the walk on this table?
 // The tree is scanned once, record by record in walking order, against the child fields of the table.
 
+use machine_in_place::stopped_words;
+use machine_in_place::words_in_place;
 use machine_words::Test;
 use machine_words::number;
-use machine_words::stopped_words;
-use machine_words::words_in_place;
 use tree_scan::scan::tree_passes;
 ghost use mathlib.Core.Path.{_≡_};
 ghost use Prim.Native.Nat.{_≤_};

@@ -1,14 +1,14 @@
--- `machine_words::know_places` meets its contract.
+-- `machine_in_place::know_places` meets its contract.
 use Prim.Native.Nat.{_≤_}
 use mathlib.Core.Path.{_≡_, sym, _∙_}
 use mathlib.Core.Bool.{true, false}
 use native.Mathlib.Omega.{arith}
 use borrow.Author.Tests.{not-true, not-false}
 use Rattle.machine.specs.Words.{knowPlaces}
-use Rattle.machine_words.proofs.Laws.{one-place}
+use Rattle.machine_in_place.proofs.Laws.{one-place}
 use borrow.Author.Needs.{needs}
-use Rattle.machine_words.proofs.know_places.Statement.{statement}
-use Rattle.machine_words.proofs.know_places.Tie as tie
+use Rattle.machine_in_place.proofs.know_places.Statement.{statement}
+use Rattle.machine_in_place.proofs.know_places.Tie as tie
 
 abbrev Inv-loop : tie.InvT-loop
 Inv-loop m n k₀ k =

@@ -1,10 +1,10 @@
--- `machine_words::stopped_words` meets its contract.
+-- `machine_in_place::stopped_words` meets its contract.
 use Rattle.machine.specs.ReadMachine.{stoppedWords}
 use Rattle.walk.specs.Calls.{isStop}
 use borrow.Author.Tests.{le-leb, lt-leb}
 use borrow.Author.Needs.{needs}
-use Rattle.machine_words.proofs.stopped_words.Statement.{statement}
-use Rattle.machine_words.proofs.stopped_words.Tie as tie
+use Rattle.machine_in_place.proofs.stopped_words.Statement.{statement}
+use Rattle.machine_in_place.proofs.stopped_words.Tie as tie
 
 shared-slice-read-k : tie.Need-shared-slice-read-k
 shared-slice-read-k c = search needs

@@ -1,10 +1,10 @@
--- `machine_words::header_in_place` meets its contract.
+-- `machine_in_place::header_in_place` meets its contract.
 use mathlib.Core.Path.{sym, _∙_}
 use borrow.Author.Tests.{le-leb, lt-leb, eq-eqb, ne-eqb, not-true, not-false}
 use Rattle.machine.specs.Words.{headerInPlace}
 use borrow.Author.Needs.{needs}
-use Rattle.machine_words.proofs.header_in_place.Statement.{statement}
-use Rattle.machine_words.proofs.header_in_place.Tie as tie
+use Rattle.machine_in_place.proofs.header_in_place.Statement.{statement}
+use Rattle.machine_in_place.proofs.header_in_place.Tie as tie
 
 shared-slice-read-if1 : tie.Need-shared-slice-read-if1
 shared-slice-read-if1 c = search needs

@@ -1,14 +1,15 @@
--- `machine_words::slots_hold` meets its contract.
+-- `machine_in_place::slots_hold` meets its contract.
 use mathlib.Core.Path.{_≡_, sym, _∙_}
 use mathlib.Core.Bool.{true, false}
 use lib.ListN.{length, length-set}
 use native.Mathlib.Omega.{arith}
 use Rattle.machine_words.specs.Tests.{SlotDues}
-use Rattle.machine_words.proofs.Laws.{one-slot}
-use Rattle.machine_words.proofs.TestLaws.{fails, not-both, has-failed, has-passed, SlotsLeft, slots-begin, slots-go-on, slots-end, no-slot-kept, one-more-kept}
+use Rattle.machine_in_place.proofs.Laws.{one-slot}
+use Rattle.machine_words.proofs.TestLaws.{fails, not-both, has-failed, has-passed}
+use Rattle.machine_in_place.proofs.SlotLaws.{SlotsLeft, slots-begin, slots-go-on, slots-end, no-slot-kept, one-more-kept}
 use borrow.Author.Needs.{needs}
-use Rattle.machine_words.proofs.slots_hold.Statement.{statement}
-use Rattle.machine_words.proofs.slots_hold.Tie as tie
+use Rattle.machine_in_place.proofs.slots_hold.Statement.{statement}
+use Rattle.machine_in_place.proofs.slots_hold.Tie as tie
 
 abbrev Inv-loop : tie.InvT-loop
 Inv-loop m n present soonest dues₀ found₀ s₀ dues found s =

@@ -1,13 +1,14 @@
--- `machine_words::words_in_place` meets its contract.
+-- `machine_in_place::words_in_place` meets its contract.
 use mathlib.Core.Path.{_≡_, sym, _∙_}
 use mathlib.Core.Bool.{false}
 use borrow.Author.Tests.{not-true, not-false}
 use Rattle.machine.specs.Words.{wordsInPlace}
-use Rattle.machine_words.proofs.Laws.{few-routines}
-use Rattle.machine_words.proofs.TestLaws.{fails, not-both, words-by-blocks, blocks-of-words}
+use Rattle.machine_in_place.proofs.Laws.{few-routines}
+use Rattle.machine_words.proofs.TestLaws.{fails, not-both}
+use Rattle.machine_in_place.proofs.SlotLaws.{words-by-blocks, blocks-of-words}
 use borrow.Author.Needs.{needs}
-use Rattle.machine_words.proofs.words_in_place.Statement.{statement}
-use Rattle.machine_words.proofs.words_in_place.Tie as tie
+use Rattle.machine_in_place.proofs.words_in_place.Statement.{statement}
+use Rattle.machine_in_place.proofs.words_in_place.Tie as tie
 
 header-in-place-requires : tie.Need-header-in-place-requires
 header-in-place-requires c κs = search needs

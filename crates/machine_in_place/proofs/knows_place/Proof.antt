@@ -1,9 +1,9 @@
--- `machine_words::knows_place` meets its contract.
+-- `machine_in_place::knows_place` meets its contract.
 use borrow.Author.Tests.{lt-ltb, le-ltb}
 use Rattle.machine.specs.Words.{knowsPlace}
 use borrow.Author.Needs.{needs}
-use Rattle.machine_words.proofs.knows_place.Statement.{statement}
-use Rattle.machine_words.proofs.knows_place.Tie as tie
+use Rattle.machine_in_place.proofs.knows_place.Statement.{statement}
+use Rattle.machine_in_place.proofs.knows_place.Tie as tie
 
 add-number : tie.Need-add-number
 add-number c = search needs

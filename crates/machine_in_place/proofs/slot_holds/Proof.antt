@@ -1,14 +1,14 @@
--- `machine_words::slot_holds` meets its contract.
+-- `machine_in_place::slot_holds` meets its contract.
 use mathlib.Core.Path.{sym, _∙_}
 use borrow.Author.Tests.{le-leb, lt-leb, eq-eqb, ne-eqb, not-true, not-false}
 use Rattle.machine.specs.Words.{slotHolds}
 use Rattle.machine.specs.Due.{dueAt}
 use Rattle.machine_words.specs.Tests.{slotDue}
 use Rattle.machine_words.proofs.DueOrder.{none-in-free}
 use Rattle.machine_words.proofs.TestLaws.{fails, passes}
 use borrow.Author.Needs.{needs}
-use Rattle.machine_words.proofs.slot_holds.Statement.{statement}
-use Rattle.machine_words.proofs.slot_holds.Tie as tie
+use Rattle.machine_in_place.proofs.slot_holds.Statement.{statement}
+use Rattle.machine_in_place.proofs.slot_holds.Tie as tie
 
 mul-at : tie.Need-mul-at
 mul-at c = search needs

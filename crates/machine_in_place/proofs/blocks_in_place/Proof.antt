@@ -1,14 +1,15 @@
--- `machine_words::blocks_in_place` meets its contract.
+-- `machine_in_place::blocks_in_place` meets its contract.
 use denote.Ref.{now}
 use mathlib.Core.Path.{_≡_, sym, _∙_}
 use mathlib.Core.Bool.{false}
 use borrow.Author.Tests.{not-true, not-false}
 use Rattle.machine.specs.Words.{blocksInPlace, slotsHold}
 use Rattle.machine_words.specs.Tests.{blocksDue}
-use Rattle.machine_words.proofs.TestLaws.{fails, not-both, has-failed, has-passed, all-kept}
+use Rattle.machine_words.proofs.TestLaws.{fails, not-both, has-failed, has-passed}
+use Rattle.machine_in_place.proofs.SlotLaws.{all-kept}
 use borrow.Author.Needs.{needs}
-use Rattle.machine_words.proofs.blocks_in_place.Statement.{statement}
-use Rattle.machine_words.proofs.blocks_in_place.Tie as tie
+use Rattle.machine_in_place.proofs.blocks_in_place.Statement.{statement}
+use Rattle.machine_in_place.proofs.blocks_in_place.Tie as tie
 
 moment-at-requires : tie.Need-moment-at-requires
 moment-at-requires c κs = search needs

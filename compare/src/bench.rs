@@ -5,8 +5,6 @@ use crate::layout::WORDS;
 use crate::listing::{self, Program};
 use crate::plain::Plain;
 use crate::stack;
-use std::cmp::Reverse;
-use std::collections::BinaryHeap;
 use std::hint::black_box;
 
 const ROUNDS: usize = 31;
@@ -259,57 +257,78 @@ fn due_instants(locals: usize) -> (f64, f64) {
     (idle, due)
 }
 
-/// Each of 56 routines has a waiting write on so many of its 14 locals, at as many moments.
-fn waiting(writes: usize) -> String {
-    let lines: String = (2..2 + writes).map(|name| format!("A\t{name}\t#{}\t#1\n", 2_000 - 97 * name)).collect();
-    sleepers(&format!("R\trr\t14\n{lines}W\t0\nG\t{writes}\n"))
+/// 49 sleepers of 14 variables each. So many variables of the last one, or of each, have a waiting
+/// write a long time ahead; or the instructions that would put them there are passed over.
+fn waiting(writes: usize, each: bool, put: bool) -> String {
+    let first = if put { 1 } else { 1 + writes };
+    let lines: String = (2..2 + writes).map(|name| format!("A\t{name}\t#{}\t#1\n", 2_000_000_000 - 97 * name)).collect();
+    let waits = format!("R\trr\t14\nG\t{first}\n{lines}W\t0\nG\t{}\n", 1 + writes);
+    let sleeper = if each { waits.clone() } else { "R\trr\t14\nW\t0\nG\t0\n".to_string() };
+    let (middles, leaves) = ("\t1 0 1".repeat(6), "\t2 0 1".repeat(8));
+    format!("P\t1\t1\nR\trr\t0\nF{middles}\t3 0 1\nE\nR\trr\t0\nF{leaves}\nE\n{sleeper}{waits}")
 }
 
-/// The moments of a block's variables, 0 for none (docs/LAYOUT.md).
-fn moments(block: &[u32]) -> impl Iterator<Item = u64> + '_ {
-    let variables = block[8..].chunks_exact(6).take(block[4] as usize);
-    variables.map(|v| u64::from(v[2]) + (u64::from(v[3]) << 32))
+/// The waiting writes in a machine's words, block by block (docs/LAYOUT.md): variable and moment.
+fn waiting_writes(machine: &[u32]) -> impl Iterator<Item = (usize, u64)> + '_ {
+    let blocks = machine[328..].chunks_exact(184).enumerate().filter(|(_, block)| block[0] != 0);
+    let variables = blocks.flat_map(|(s, block)| block[8..].chunks_exact(6).take(block[4] as usize).enumerate().map(move |(i, v)| (16 * s + i, v)));
+    variables.map(|(place, v)| (place, u64::from(v[2]) + (u64::from(v[3]) << 32))).filter(|&(_, due)| due != 0)
 }
 
-fn live_blocks(machine: &[u32]) -> impl Iterator<Item = &[u32]> + '_ {
-    machine[328..].chunks_exact(184).filter(|block| block[0] != 0)
+/// An event queue by moment, one place a variable: a heap that knows where each variable stands, so
+/// that a new waiting write can take the place of the old one.
+struct Queue {
+    heap: Vec<(u64, usize)>,
+    places: Vec<u16>,
 }
 
-/// The soonest of the moments that are not 0, and not this one.
-fn soonest(due: impl Iterator<Item = u64>, but: u64) -> u64 {
-    due.filter(|&due| due != 0 && due != but).min().unwrap_or(0)
-}
-
-/// What is due at the soonest moment, and the moment due after it, in two ways. As the library does:
-/// one pass keeps the soonest of each block; the blocks that have it are looked at once more, and at
-/// the end those in which a write waits. And with a queue: one pass puts every waiting write into it.
-fn due_times(text: &str) -> (f64, f64) {
-    let machine = started(text.as_bytes()).machine;
-    let mut room = Vec::with_capacity(1_024);
-    let mut by_block = || {
-        let machine = black_box(&machine);
-        let mut dues = [0; 64];
-        for (due, block) in dues.iter_mut().zip(live_blocks(machine)) {
-            *due = soonest(moments(block), 0);
+impl Queue {
+    fn insert(&mut self, variable: usize, due: u64) {
+        let mut at = self.heap.len();
+        self.heap.push((due, variable));
+        while at > 0 && self.heap[(at - 1) / 2].0 > due {
+            self.heap[at] = self.heap[(at - 1) / 2];
+            self.places[self.heap[at].1] = at as u16;
+            at = (at - 1) / 2;
         }
-        let now = soonest(dues.iter().copied(), 0);
-        let with = |&(&due, _): &(&u64, &[u32])| due == now;
-        let due: usize = dues.iter().zip(live_blocks(machine)).filter(with).map(|(_, block)| moments(block).filter(|&due| due == now).count()).sum();
-        let waits = dues.iter().zip(live_blocks(machine)).filter(|(&due, _)| due != 0);
-        let next = waits.map(|(_, block)| soonest(moments(block), now)).filter(|&due| due != 0).min();
-        black_box((due, next));
+        self.heap[at] = (due, variable);
+        self.places[variable] = at as u16;
+    }
+
+    fn clear(&mut self) {
+        self.heap.drain(..).for_each(|(_, variable)| self.places[variable] = u16::MAX);
+    }
+}
+
+/// What waiting writes add: to an instant of the library in which none is due; and, were there such
+/// a queue made anew in each call, to a pass that tests each moment, if it also puts each into the
+/// queue; the next moment due is looked at and the queue cleared.
+fn waiting_times(writes: usize, each: bool) -> (f64, f64) {
+    let [mut without, mut with] = [false, true].map(|put| {
+        let mut lent = started(waiting(writes, each, put).as_bytes());
+        let mut t = 0;
+        move || {
+            t += 1;
+            assert_eq!(instant(&mut lent, t, (&[], &[]), 10).number, 0);
+        }
+    });
+    let machine = started(waiting(writes, each, true).as_bytes()).machine;
+    let mut queue = Queue { heap: Vec::with_capacity(1_040), places: vec![u16::MAX; 1_040] };
+    let mut pass = || {
+        black_box(waiting_writes(black_box(&machine)).any(|(_, due)| due < 2));
     };
     let mut queued = || {
-        room.clear();
-        room.extend(live_blocks(black_box(&machine)).flat_map(moments).filter(|&due| due != 0).map(Reverse));
-        let mut queue = BinaryHeap::from(std::mem::take(&mut room));
-        let now = queue.peek().copied();
-        while queue.peek().copied() == now && queue.pop().is_some() {}
-        black_box(queue.peek());
-        room = queue.into_vec();
+        for (variable, due) in waiting_writes(black_box(&machine)) {
+            if due < 2 {
+                return;
+            }
+            queue.insert(variable, due);
+        }
+        black_box(queue.heap.first());
+        queue.clear();
     };
-    let [block, queue] = beside([&mut by_block, &mut queued]);
-    (block, queue)
+    let [without, with, pass, queued] = beside([&mut without, &mut with, &mut pass, &mut queued]);
+    (with - without, queued - pass)
 }
 
 fn load_times(text: &str) -> (f64, f64) {
@@ -398,10 +417,10 @@ fn due_found() {
         let (idle, due) = due_instants(locals);
         println!("| of {locals} variables each | {idle:.1} | {due:.1} | {:.1} |", due - idle);
     }
-    println!("\n| finding what is due, and what next | block by block | a queue made by one pass | ratio |\n|---|---|---|---|");
-    for (count, text) in [(1, ticking(14, true)), (56, waiting(1)), (784, waiting(14))] {
-        let (block, queue) = due_times(&text);
-        println!("| of {count} waiting writes | {block:.1} | {queue:.1} | {:.2} |", block / queue);
+    println!("\n| waiting writes, of 49 routines with 14 variables each | an instant, over one without them | a queue made anew, over the pass alone |\n|---|---|---|");
+    for (count, writes, each) in [(1, 1, false), (49, 1, true), (686, 14, true)] {
+        let (library, queue) = waiting_times(writes, each);
+        println!("| {count} | {library:.1} | {queue:.1} |");
     }
 }
 

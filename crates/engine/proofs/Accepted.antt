@@ -25,11 +25,11 @@ use Rattle.machine.proofs.MachineWords.{running-first-word-is-0}
 use Rattle.layout.specs.Layout.{layout}
 use Rattle.engine.proofs.Ways.{StateWay, not-after, due-before, not-rising, walks, InstantWay, no-state, stopped-before, from-state, instant-way, start-way}
 use Rattle.engine.proofs.Ways as ways
-use Rattle.engine.specs.declared.answers.Answer.{Answer}
-use Rattle.engine.specs.declared.answers.Answer.the-variants as answers
+use Rattle.conclusion.specs.declared.answers.Answer.{Answer}
+use Rattle.conclusion.specs.declared.answers.Answer.the-variants as answers
 use Rattle.questions.specs.Asked.{longEnough, asked, InstantAsked, StartAsked}
-use Rattle.engine.specs.Answers.{resultOf}
-use Rattle.engine.specs.Conclusions.{Leaves, leaves-stopped, leaves-state, Concludes}
+use Rattle.conclusion.specs.Answers.{resultOf}
+use Rattle.conclusion.specs.Conclusions.{Leaves, leaves-stopped, leaves-state, Concludes}
 use Rattle.engine.specs.Works.{MayInstant}
 use Rattle.questions.proofs.Calling.{Long, long}
 

@@ -23,8 +23,8 @@ use Rattle.run.specs.Whole.{MayRunOn, ranBy, RunsOn}
 use Rattle.run.specs.declared.whole.Ran.{Ran}
 use Rattle.beginning.specs.Begun.{BegunStart}
 use Rattle.beginning.proofs.Filled.{table-fits}
-use Rattle.engine.specs.declared.answers.Answer.{Answer}
-use Rattle.engine.specs.Conclusions.{Concludes, MayConclude}
+use Rattle.conclusion.specs.declared.answers.Answer.{Answer}
+use Rattle.conclusion.specs.Conclusions.{Concludes, MayConclude}
 use Rattle.engine.proofs.Literals.{literals-are-words}
 use Rattle.engine.proofs.Working.{concludes-from}
 

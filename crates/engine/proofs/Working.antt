@@ -34,8 +34,8 @@ use Rattle.run.specs.Whole.{MayBeginRun, ranBy, RunsReady}
 use Rattle.run.specs.declared.whole.Ran.{Ran}
 use Rattle.beginning.specs.Begun.{MayBegin, BegunFrom, Begun}
 use Rattle.beginning.proofs.Filled.{table-fits}
-use Rattle.engine.specs.declared.answers.Answer.{Answer}
-use Rattle.engine.specs.Conclusions.{Leaves, leaves-stopped, leaves-state, Concludes, MayConclude}
+use Rattle.conclusion.specs.declared.answers.Answer.{Answer}
+use Rattle.conclusion.specs.Conclusions.{Leaves, leaves-stopped, leaves-state, Concludes, MayConclude}
 use Rattle.engine.specs.Works.{MayInstant}
 use Rattle.questions.proofs.TableSize.{first-words32}
 use Rattle.engine.proofs.Literals.{literals-are-words, inputs-are-words}

@@ -7,11 +7,11 @@ ghost use Rattle.walk.specs.Calls.{inputsOf};
 ghost use Rattle.walk.specs.Promises.{InstantPromise};
 ghost use Rattle.table.specs.Decode.{tableListing};
 ghost use Rattle.layout.specs.Layout.{layout};
-ghost use Rattle.engine.specs.Answers.{resultOf};
-ghost use Rattle.engine.specs.Conclusions.{Concludes};
+ghost use Rattle.conclusion.specs.Answers.{resultOf};
+ghost use Rattle.conclusion.specs.Conclusions.{Concludes};
 ghost use Rattle.engine.specs.Works.{MayInstant};
-use crate::answers::Answer;
-use crate::conclusion::conclude;
+use conclusion::Answer;
+use conclusion::conclude;
 use questions::instant_question;
 use words::Moment;
 

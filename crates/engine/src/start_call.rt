@@ -8,10 +8,10 @@ ghost use Rattle.walk.specs.Promises.{StartPromise};
 ghost use Rattle.table.specs.Decode.{tableListing};
 ghost use Rattle.table.specs.Question6.{isTable};
 ghost use Rattle.layout.specs.Layout.{layout};
-ghost use Rattle.engine.specs.Answers.{resultOf};
-ghost use Rattle.engine.specs.Conclusions.{Concludes};
-use crate::answers::Answer;
-use crate::conclusion::conclude;
+ghost use Rattle.conclusion.specs.Answers.{resultOf};
+ghost use Rattle.conclusion.specs.Conclusions.{Concludes};
+use conclusion::Answer;
+use conclusion::conclude;
 use questions::start_question;
 use words::Moment;
 

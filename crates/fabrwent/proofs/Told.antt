@@ -10,12 +10,12 @@ use Rattle.walk.specs.Calls.{Outcome}
 use Rattle.walk.specs.Promises.{LoadPromise, Keeps}
 use Rattle.walk.specs.Comparison.{Compared, notCompared, compared, comparedNumber, comparedPlace, comparedAlike, alikeCall}
 use Rattle.layout.specs.Layout.{layout}
-use Rattle.engine.specs.Answers.{resultOf, dueOf}
+use Rattle.conclusion.specs.Answers.{resultOf, dueOf}
 use Rattle.comparison.specs.Compared.{comparedOf}
-use Rattle.engine.specs.declared.answers.Due.{Due}
-use Rattle.engine.specs.declared.answers.Due.the-variants.{Never, At}
-use Rattle.engine.specs.declared.answers.Answer.{Answer}
-use Rattle.engine.specs.declared.answers.Answer.the-variants.{Refused, Stopped, Done}
+use Rattle.conclusion.specs.declared.answers.Due.{Due}
+use Rattle.conclusion.specs.declared.answers.Due.the-variants.{Never, At}
+use Rattle.conclusion.specs.declared.answers.Answer.{Answer}
+use Rattle.conclusion.specs.declared.answers.Answer.the-variants.{Refused, Stopped, Done}
 use Rattle.fabrwent.specs.Loading.{largestPlace, LoadFigures}
 use Rattle.fabrwent.specs.Figures.{dueIn, resultIn, DueTold, goneThrough, ofAnswer, bit, AlikeFigures}
 use Rattle.fabrwent.specs.declared.loading.FabrwentLoad.{FabrwentLoad}

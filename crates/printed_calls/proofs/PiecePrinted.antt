@@ -11,7 +11,7 @@ use Rattle.walk.specs.Events.{eventsAt}
 use Rattle.walk.specs.Promises.{Result}
 use Rattle.walk.specs.Session.{writeLines, endLine}
 use Rattle.printing.specs.Puts.{Puts}
-use Rattle.engine.specs.Answers.{dueOf}
+use Rattle.conclusion.specs.Answers.{dueOf}
 use Rattle.printed_calls.specs.Made.{Begins, ResultPrinted}
 use Rattle.printed_calls.specs.Made as specs
 use Rattle.printed_calls.specs.declared.calls.Clock.{Clock}

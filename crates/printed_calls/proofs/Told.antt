@@ -5,13 +5,13 @@ use Prim.Native.Nat.{ℕ, suc, _≤_, _<_}
 use borrow.Author.Tests.{le-ltb}
 use native.Mathlib.Omega.{arith}
 use Rattle.walk.specs.Calls.{dueBefore}
-use Rattle.engine.specs.Answers.{dueOf, resultOf}
+use Rattle.conclusion.specs.Answers.{dueOf, resultOf}
 use Rattle.printed_calls.specs.Made.{Soon, due-at, none-due}
-use Rattle.engine.specs.declared.answers.Due.{Due}
-use Rattle.engine.specs.declared.answers.Due.the-variants.{Never, At}
-use Rattle.engine.specs.declared.answers.Figures.{Figures}
-use Rattle.engine.specs.declared.answers.Answer.{Answer}
-use Rattle.engine.specs.declared.answers.Answer.the-variants.{Refused, Stopped, Done}
+use Rattle.conclusion.specs.declared.answers.Due.{Due}
+use Rattle.conclusion.specs.declared.answers.Due.the-variants.{Never, At}
+use Rattle.conclusion.specs.declared.answers.Figures.{Figures}
+use Rattle.conclusion.specs.declared.answers.Answer.{Answer}
+use Rattle.conclusion.specs.declared.answers.Answer.the-variants.{Refused, Stopped, Done}
 
 pub soon-at : (d : Due) (m t : ℕ) → d ≡ At m → m < t → Soon (dueOf d) t (At m)
 unfolding dueOf

@@ -11,9 +11,9 @@ use Rattle.walk.specs.Events.{eventsAt}
 use Rattle.walk.specs.Promises.{Result, Keeps}
 use Rattle.walk.specs.Session.{sessionAllowance, writeLines, endLine}
 use Rattle.layout.specs.Layout.{layout}
-use Rattle.engine.specs.Answers.{dueOf}
-use Rattle.engine.specs.declared.answers.Due.{Due}
-use Rattle.engine.specs.declared.answers.Due.the-variants.{Never, At}
+use Rattle.conclusion.specs.Answers.{dueOf}
+use Rattle.conclusion.specs.declared.answers.Due.{Due}
+use Rattle.conclusion.specs.declared.answers.Due.the-variants.{Never, At}
 use Rattle.printed_calls.specs.declared.calls.Clock.{Clock}
 use Rattle.printed_calls.specs.declared.calls.Made.{Made}
 use Rattle.printed_calls.specs.declared.calls.Made.the-variants.{Ended, Went}

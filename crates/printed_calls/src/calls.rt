@@ -2,7 +2,7 @@
 ghost use mathlib.Core.Path.{_≡_};
 ghost use Prim.Native.Nat.{suc, _≤_};
 ghost use lib.ListN.{length, take};
-ghost use Rattle.engine.specs.Answers.{dueOf, resultOf};
+ghost use Rattle.conclusion.specs.Answers.{dueOf, resultOf};
 ghost use Rattle.printed_calls.specs.Made.{Soon, ResultPrinted, StartMade, InstantMade};
 use engine::Answer;
 use engine::Due;

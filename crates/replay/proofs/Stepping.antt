@@ -12,7 +12,7 @@ use Rattle.walk.specs.State.{State}
 use Rattle.walk.specs.Calls.{dueBefore, inputsOf, startOn}
 use Rattle.walk.specs.Trace.{script, callAt, lastAt}
 use Rattle.walk.specs.Session.{Played, andThen, played, callFrom, printed, writeLines, endOf, endLine, endCode, play, playAll, sessionAllowance}
-use Rattle.engine.specs.Answers.{dueOf}
+use Rattle.conclusion.specs.Answers.{dueOf}
 use Rattle.replay.specs.Standing.{Runs, Stands, starting, reading, toward, until, over, Left}
 use Rattle.printed_calls.specs.Made.{Soon, due-at, none-due}
 use Rattle.replay.specs.After.{stepAfter, EndsWith}
@@ -23,7 +23,7 @@ use Rattle.replay.specs.declared.phase.Phase.the-variants.{Starting, Rea
 use Rattle.replay.specs.declared.phase.Step.{Step}
 use Rattle.printed_calls.specs.declared.calls.Made.{Made}
 use Rattle.printed_calls.specs.declared.calls.Made.the-variants.{Ended, Went}
-use Rattle.engine.specs.declared.answers.Due.the-variants.{Never, At}
+use Rattle.conclusion.specs.declared.answers.Due.the-variants.{Never, At}
 use Rattle.replay.proofs.Lawful.{lawful, is-state}
 use Rattle.printed_calls.proofs.PiecePrinted.{begins-take, begins-room}
 use Rattle.replay.proofs.CallPrinted.{CallPrinted}

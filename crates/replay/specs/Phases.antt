@@ -14,8 +14,8 @@ use Rattle.walk.specs.Promises.{LoadPromise}
 use Rattle.walk.specs.Session.{endCode}
 use Rattle.walk.specs.Trace.{script, lastAt, broken}
 use Rattle.layout.specs.Layout.{layout}
-use Rattle.engine.specs.Answers.{dueOf}
-use Rattle.engine.specs.declared.answers.Due.the-variants.{Never, At}
+use Rattle.conclusion.specs.Answers.{dueOf}
+use Rattle.conclusion.specs.declared.answers.Due.the-variants.{Never, At}
 use Rattle.trace.specs.Groups.{CallIs}
 use Rattle.printed_calls.specs.Made.{Soon, StartMade, InstantMade}
 use Rattle.replay.specs.After.{stepAfter, EndsWith, silent}

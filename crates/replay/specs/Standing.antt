@@ -14,7 +14,7 @@ use Rattle.walk.specs.Calls.{Words32, running, firstWords, inputsOf}
 use Rattle.walk.specs.Trace.{script, callAt, lastAt}
 use Rattle.walk.specs.Session.{play, playAll, printed, session}
 use Rattle.layout.specs.Layout.{layout}
-use Rattle.engine.specs.Answers.{dueOf}
+use Rattle.conclusion.specs.Answers.{dueOf}
 use Rattle.printed_calls.specs.declared.calls.Clock.{Clock}
 use Rattle.replay.specs.declared.phase.Phase.{Phase}
 use Rattle.replay.specs.declared.phase.Phase.the-variants.{Opening, Starting, Reading, Toward, Until, Over}

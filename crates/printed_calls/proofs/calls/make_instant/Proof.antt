@@ -4,7 +4,7 @@ use native.Mathlib.Omega.{arith}
 use denote.Ref.{now}
 use lib.Seq.{length-take-le}
 use Rattle.printed_calls.proofs.FewListed.{listed-few}
-use Rattle.engine.specs.Answers.{resultOf}
+use Rattle.conclusion.specs.Answers.{resultOf}
 use borrow.Author.Needs.{needs}
 use Rattle.printed_calls.proofs.calls.make_instant.Statement.{statement}
 use Rattle.printed_calls.proofs.calls.make_instant.Tie as tie

@@ -1,7 +1,7 @@
 -- `printed_calls::calls::make_start` meets its contract.
 use native.Mathlib.Omega.{arith}
 use Rattle.printed_calls.proofs.FewListed.{listed-few}
-use Rattle.engine.specs.Answers.{resultOf}
+use Rattle.conclusion.specs.Answers.{resultOf}
 use borrow.Author.Needs.{needs}
 use Rattle.printed_calls.proofs.calls.make_start.Statement.{statement}
 use Rattle.printed_calls.proofs.calls.make_start.Tie as tie

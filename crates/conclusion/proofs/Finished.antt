@@ -23,11 +23,11 @@ use Rattle.blocks.specs.Blocks.{block, variableIn, variablesIn, rowsOf, environ
 use Rattle.instants.specs.Outputs.{Listed}
 use Rattle.finishing.specs.Ended.{Ended}
 use Rattle.finishing.proofs.EndedIsRead.{ended-is-read}
-use Rattle.engine.specs.declared.answers.Due.{Due}
-use Rattle.engine.specs.declared.answers.Due.the-variants.{Never, At}
-use Rattle.engine.specs.declared.answers.Answer.the-variants as answers
-use Rattle.engine.specs.Answers.{dueOf, resultOf}
-use Rattle.engine.specs.Conclusions.{MayFinish, FinishedAs}
+use Rattle.conclusion.specs.declared.answers.Due.{Due}
+use Rattle.conclusion.specs.declared.answers.Due.the-variants.{Never, At}
+use Rattle.conclusion.specs.declared.answers.Answer.the-variants as answers
+use Rattle.conclusion.specs.Answers.{dueOf, resultOf}
+use Rattle.conclusion.specs.Conclusions.{MayFinish, FinishedAs}
 
 -- ── a moment due, or none ─────────────────────────────────────────────────────────────────────────
 pub due-never : (t : ℕ) → t ≡ 0 → dueOf Never ≡ dueAt t

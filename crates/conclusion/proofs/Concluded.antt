@@ -20,10 +20,10 @@ use Rattle.run.specs.Whole.{ranBy}
 use Rattle.run.specs.declared.whole.Left.{Left}
 use Rattle.run.specs.declared.whole.Ran.{Ran}
 use Rattle.run.specs.declared.whole.Ran.the-variants.{Ended, Halted}
-use Rattle.engine.specs.declared.answers.Answer.{Answer}
-use Rattle.engine.specs.declared.answers.Answer.the-variants.{Stopped}
-use Rattle.engine.specs.Answers.{resultOf}
-use Rattle.engine.specs.Conclusions.{leaves-stopped, leaves-state, Concludes, MayFinish, FinishedAs, MayConclude}
+use Rattle.conclusion.specs.declared.answers.Answer.{Answer}
+use Rattle.conclusion.specs.declared.answers.Answer.the-variants.{Stopped}
+use Rattle.conclusion.specs.Answers.{resultOf}
+use Rattle.conclusion.specs.Conclusions.{leaves-stopped, leaves-state, Concludes, MayFinish, FinishedAs, MayConclude}
 
 -- ── the cases of the same outcome ─────────────────────────────────────────────────────────────────
 stop-of : {listing : Listing} {t allowance : ℕ} {o : walk.Result Done} {r : RowsResult} → SameOutcome listing t allowance o r → (k : ℕ) → r ≡ halts k → o ≡ walk.stop k

@@ -1,8 +1,8 @@
--- `engine::conclusion::conclude` meets its contract.
-use Rattle.engine.proofs.Concluded.{concluded-stop, left-within, may-finish, concluded-end}
+-- `conclusion::ending::conclude` meets its contract.
+use Rattle.conclusion.proofs.Concluded.{concluded-stop, left-within, may-finish, concluded-end}
 use borrow.Author.Needs.{needs}
-use Rattle.engine.proofs.conclusion.conclude.Statement.{statement}
-use Rattle.engine.proofs.conclusion.conclude.Tie as tie
+use Rattle.conclusion.proofs.ending.conclude.Statement.{statement}
+use Rattle.conclusion.proofs.ending.conclude.Tie as tie
 
 enum-known-ran : tie.Need-enum-known-ran
 enum-known-ran c = search needs

@@ -1,12 +1,12 @@
--- `engine::conclusion::finished` meets its contract.
+-- `conclusion::ending::finished` meets its contract.
 use native.Mathlib.Omega.{arith}
 use denote.Ref.{now}
 use Prim.Native.Nat.{_+_}
 use Rattle.questions.proofs.TableSize.{whole-size}
-use Rattle.engine.proofs.Finished.{finished-as, listed-below}
+use Rattle.conclusion.proofs.Finished.{finished-as, listed-below}
 use borrow.Author.Needs.{needs}
-use Rattle.engine.proofs.conclusion.finished.Statement.{statement}
-use Rattle.engine.proofs.conclusion.finished.Tie as tie
+use Rattle.conclusion.proofs.ending.finished.Statement.{statement}
+use Rattle.conclusion.proofs.ending.finished.Tie as tie
 
 shared-slice-read-number : tie.Need-shared-slice-read-number
 shared-slice-read-number c = search needs

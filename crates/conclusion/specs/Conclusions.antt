@@ -25,8 +25,8 @@ use Rattle.run.specs.Whole.{ranBy}
 use Rattle.run.specs.declared.whole.Left.{Left}
 use Rattle.run.specs.declared.whole.Ran.{Ran}
 use Rattle.run.specs.declared.whole.Ran.the-variants.{Ended}
-use Rattle.engine.specs.declared.answers.Answer.{Answer}
-use Rattle.engine.specs.Answers.{resultOf}
+use Rattle.conclusion.specs.declared.answers.Answer.{Answer}
+use Rattle.conclusion.specs.Answers.{resultOf}
 
 -- The machine's words after a call from these words, whose walk's answer is o.
 pub data Leaves (listing : Listing) (before after : List ℕ) : walk.Result Done → Type 0 where

@@ -1,10 +1,10 @@
 -- The answer of a start or an instant call, by its cases: document 01's number and values for each.
 use Rattle.walk.specs.Instant.{NextDue, never, moment}
 use Rattle.walk.specs.Promises.{Result}
-use Rattle.engine.specs.declared.answers.Due.{Due}
-use Rattle.engine.specs.declared.answers.Due.the-variants.{Never, At}
-use Rattle.engine.specs.declared.answers.Answer.{Answer}
-use Rattle.engine.specs.declared.answers.Answer.the-variants.{Refused, Stopped, Done}
+use Rattle.conclusion.specs.declared.answers.Due.{Due}
+use Rattle.conclusion.specs.declared.answers.Due.the-variants.{Never, At}
+use Rattle.conclusion.specs.declared.answers.Answer.{Answer}
+use Rattle.conclusion.specs.declared.answers.Answer.the-variants.{Refused, Stopped, Done}
 
 -- "the next moment due or none"
 unfoldable pub dueOf : Due → NextDue

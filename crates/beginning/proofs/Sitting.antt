@@ -25,7 +25,7 @@ use Rattle.scheduler.proofs.Reading.{bound-owner}
 use Rattle.scheduler.proofs.Bounds.{length-owners}
 use Rattle.scheduler.proofs.Folding.{slots-live}
 use Rattle.scheduler.proofs.Holds.{Holds}
-use Rattle.blocks.specs.Bindings.{variablesBeside}
+use Rattle.variables.specs.Bindings.{variablesBeside}
 use Rattle.evaluate.specs.Bound.{numberOf, Bound}
 
 -- Where a live routine hangs: main under the environment, any other under a live routine that is at an `F` with such a child field.

@@ -2,4 +2,3 @@ pub mod Tabulate
 pub mod Blocks
 pub mod Store
 pub mod Changes
-pub mod Bindings

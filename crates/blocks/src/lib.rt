@@ -2,7 +2,6 @@
 // changed. Every contract says what the words stand for as rows and environment. `m` is the machine's memory, `s` a slot.
 pub mod memory;
 pub mod row;
-pub mod variable;
 
 pub use memory::clear_words;
 pub use memory::put_word;
@@ -21,12 +20,3 @@ pub use row::routine;
 pub use row::set_children;
 pub use row::set_place;
 pub use row::used;
-pub use variable::Binding;
-pub use variable::assign;
-pub use variable::due;
-pub use variable::make_due;
-pub use variable::owner;
-pub use variable::schedule;
-pub use variable::unmark;
-pub use variable::value;
-pub use variable::written;

@@ -10,7 +10,7 @@ use Rattle.scheduler.specs.Rows.{Owner, inEnvironment, inSlot, Row, Rows, varia
 use Rattle.blocks.specs.Blocks.{Block, block, rowAt, rowsOf, environmentOf}
 use Rattle.blocks.specs.Store.{storeOf}
 use Rattle.blocks.specs.Changes.{InBlock}
-use Rattle.blocks.specs.Bindings.{variablesBeside}
+use Rattle.variables.specs.Bindings.{variablesBeside}
 use Rattle.blocks.proofs.RowChanges.{with-row-other, rows-in-block, environment-stays}
 use Rattle.evaluate.specs.Bound.{numberOf, Bound, bindingsOf, variableNamed}
 

@@ -17,7 +17,7 @@ use Rattle.scheduler.proofs.Children.{one, usedBelow, freeSlot-free, used-withR
 use Rattle.blocks.specs.Blocks.{block, rowsOf, environmentOf}
 use Rattle.blocks.specs.Store.{Store, storeOf, withSlot}
 use Rattle.blocks.specs.Changes.{SameOutside, SameTriggers}
-use Rattle.blocks.specs.Bindings.{variablesBeside}
+use Rattle.variables.specs.Bindings.{variablesBeside}
 use Rattle.blocks.proofs.RowChanges.{with-row-same, with-row-other}
 use Rattle.blocks.proofs.Staying.{outside-start, outside-then, triggers-start, triggers-then}
 use Rattle.tidy.specs.Tidy.{Tidy}

@@ -19,7 +19,7 @@ use Rattle.blocks.specs.Blocks.{Block, block, ownerAt, ownerIn}
 use Rattle.blocks.specs.Changes.{InBlock, putIn}
 use Rattle.blocks.proofs.Puts.{put-same, put-other}
 use Rattle.blocks.proofs.InBlocks.{in-block-start, in-block-then, other-block}
-use Rattle.blocks.proofs.Readings.{binding-of}
+use Rattle.variables.proofs.Readings.{binding-of}
 use Rattle.evaluate.specs.Bound.{bindingsOf}
 use Rattle.children.specs.Naming.{MayBind, ArgumentsBound}
 use Rattle.children.proofs.Lists.{tabulate-next, moved-over}

@@ -4,10 +4,10 @@ ghost use Prim.Native.Nat.{_+_, _≤_, _<_};
 ghost use lib.ListN.{length};
 ghost use Rattle.evaluate.specs.Bound.{bindingsOf, FromNames};
 ghost use Rattle.children.specs.Passing.{MayPass, ValuesPassed, ValuePassed};
-use blocks::owner;
 use blocks::put_word;
-use blocks::value;
 use table_read::name_at;
+use variables::owner;
+use variables::value;
 
 // What the caller's name holds.
 fn named_value(m: &[u32], me: usize, name: usize) -> u32

@@ -15,7 +15,7 @@ use Rattle.scheduler.specs.Rows.{Owner, inSlot, Row, Rows, ownerOf}
 use Rattle.scheduler.proofs.Place.{Tree, Frame, plug, memoryOf}
 use Rattle.scheduler.proofs.Held.{Entry, pickOwner, ownerAt, ownersAt, pathOf, rowFor, HeldUp, held-top, held-under}
 use Rattle.scheduler.proofs.Steady.{nameCount, SteadyTree, steady-record}
-use Rattle.blocks.specs.Bindings.{variablesBeside}
+use Rattle.variables.specs.Bindings.{variablesBeside}
 use Rattle.evaluate.specs.Bound.{numberOf, Bound}
 
 -- an owner's variable is there

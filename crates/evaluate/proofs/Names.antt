@@ -10,8 +10,8 @@ use Rattle.walk.specs.State.{Variable}
 use Rattle.scheduler.specs.Rows.{Owner, Row, inEnvironment, inSlot, variableOf, ownerOf, named}
 use Rattle.blocks.specs.Blocks.{block, ownerAt, ownerIn, bindingsIn, rowAt, rowsOf, environmentOf}
 use Rattle.blocks.specs.Store.{storeOf, variableFrom}
-use Rattle.blocks.specs.Bindings.{BoundTo, ReadOf, variablesBeside}
-use Rattle.blocks.specs.declared.variable.Binding.{Binding}
+use Rattle.variables.specs.Bindings.{BoundTo, ReadOf, variablesBeside}
+use Rattle.variables.specs.declared.Binding.{Binding}
 use Rattle.blocks.proofs.Tabulated.{length-tabulate}
 use Rattle.blocks.proofs.RowChanges.{row-of}
 use Rattle.evaluate.specs.Bound.{numberOf, bindingsOf, FromNames}

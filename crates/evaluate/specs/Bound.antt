@@ -7,7 +7,7 @@ use Rattle.walk.specs.State.{Variable}
 use Rattle.scheduler.specs.Rows.{Owner, inEnvironment, inSlot, ownerOf, named}
 use Rattle.blocks.specs.Blocks.{rowsOf, environmentOf}
 use Rattle.blocks.specs.Store.{Store, storeOf}
-use Rattle.blocks.specs.Bindings.{variablesBeside}
+use Rattle.variables.specs.Bindings.{variablesBeside}
 
 -- The variable's number among those beside it.
 unfoldable pub numberOf : Owner → ℕ

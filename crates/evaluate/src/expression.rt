@@ -8,9 +8,9 @@ ghost use Rattle.evaluate.specs.Bound.{bindingsOf, FromNames};
 ghost use Rattle.evaluate.specs.Evaluable.{Evaluable, MayCome, Past};
 use crate::stack::operate;
 use crate::stack::push;
-use blocks::owner;
-use blocks::value;
-use blocks::written;
+use variables::owner;
+use variables::value;
+use variables::written;
 
 // "`n` (a name's value)"
 fn value_of(m: &[u32], me: usize, name: u32) -> u32

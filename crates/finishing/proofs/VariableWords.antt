@@ -17,7 +17,7 @@ use Rattle.blocks.specs.Store.{unmarkedVariable}
 use Rattle.blocks.specs.Changes.{cleared}
 use Rattle.blocks.proofs.Tabulated.{getD-tabulate, length-tabulate}
 use Rattle.blocks.proofs.Puts.{put-other, cleared-inside, cleared-below}
-use Rattle.blocks.proofs.Readings.{moment-of}
+use Rattle.variables.proofs.Readings.{moment-of}
 use Rattle.tidy.specs.Tidy.{TidyBlock}
 use Rattle.finishing.specs.Ended.{idleBlock}
 

@@ -13,7 +13,7 @@ use Rattle.scheduler.proofs.Taking.{used-keep}
 use Rattle.blocks.specs.Blocks.{Block, block, rowsOf, environmentOf}
 use Rattle.blocks.specs.Store.{Store, storeOf, withSlot}
 use Rattle.blocks.specs.Changes.{Changes, putIn}
-use Rattle.blocks.specs.Bindings.{variablesBeside}
+use Rattle.variables.specs.Bindings.{variablesBeside}
 use Rattle.table.specs.Entry.{ChildStands}
 use Rattle.table.specs.Decode.{headAfter}
 use Rattle.tidy.specs.Tidy.{Tidy}

@@ -16,8 +16,8 @@ use Rattle.blocks.specs.Store.{dueVariable}
 use Rattle.blocks.specs.Changes.{dueBlock}
 use Rattle.blocks.proofs.Tabulated.{tabulate-same}
 use Rattle.blocks.proofs.RowChanges.{variable-same, bindings-same}
-use Rattle.blocks.proofs.VariableChanges.{InVariable, other-variable}
-use Rattle.blocks.proofs.VariableBlocks.{due-within, due-variable}
+use Rattle.variables.proofs.VariableChanges.{InVariable, other-variable}
+use Rattle.variables.proofs.VariableBlocks.{due-within, due-variable}
 use Rattle.tidy.specs.Tidy.{TidySlot, TidyEnvironment}
 use Rattle.tidy.proofs.Whole.{due-slot, due-environment}
 use Rattle.instants.specs.Passes.{dueFirst, dueSlot}

@@ -18,10 +18,10 @@ use Rattle.scheduler.specs.Triggers.{wakesNow, triggersOf}
 use Rattle.scheduler.proofs.Sorted.{In, in-left, in-right, in-cases, Either, this, that}
 use Rattle.scheduler.proofs.Waking.{rowAwaits}
 use Rattle.blocks.specs.Blocks.{Block, block, variableIn, ownerAt, rowsOf, environmentOf}
-use Rattle.blocks.specs.Bindings.{variablesBeside}
+use Rattle.variables.specs.Bindings.{variablesBeside}
 use Rattle.blocks.specs.Changes.{SameTriggers, Changes}
 use Rattle.blocks.specs.Store.{Store, storeOf, variableFrom, withVariable}
-use Rattle.blocks.proofs.Readings.{variable-of}
+use Rattle.variables.proofs.Readings.{variable-of}
 use Rattle.blocks.proofs.RowChanges.{row-past, with-row-same}
 use Rattle.ready.proofs.SameLows.{insert-all-same-lows, low-with-owner}
 use Rattle.triggers.specs.Chains.{triggersAt}

@@ -14,12 +14,12 @@ use Rattle.scheduler.specs.Rows.{Owner, Row, rowsWith}
 use Rattle.scheduler.specs.Engine.{assigned}
 use Rattle.scheduler.specs.Ready.{insertAll}
 use Rattle.blocks.specs.Blocks.{Block, block, variableIn, ownerAt, rowAt, rowsOf, environmentOf}
-use Rattle.blocks.specs.Bindings.{variablesBeside}
+use Rattle.variables.specs.Bindings.{variablesBeside}
 use Rattle.blocks.specs.Changes.{InBlock, Changes, dueBlock, assignedBlock}
 use Rattle.blocks.specs.Store.{Store, storeOf, variableFrom, withVariable, dueVariable}
-use Rattle.blocks.proofs.Readings.{variable-of, length-variables}
+use Rattle.variables.proofs.Readings.{variable-of, length-variables}
 use Rattle.blocks.proofs.RowChanges.{row-of}
-use Rattle.blocks.proofs.VariableBlocks.{due-variable}
+use Rattle.variables.proofs.VariableBlocks.{due-variable}
 use Rattle.ready.specs.Ordered.{Ordered}
 use Rattle.ready.proofs.Distinct.{ordered-same-lows}
 use Rattle.ready.proofs.SameLows.{low-with-owner}

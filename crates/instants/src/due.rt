@@ -5,7 +5,7 @@ ghost use mathlib.Core.Path.{_≡_};
 ghost use Prim.Native.Nat.{ℕ, _≤_, _<_, min};
 ghost use lib.ListN.{length, getD};
 ghost use Rattle.blocks.specs.Blocks.{block, ownerAt, rowsOf};
-ghost use Rattle.blocks.specs.Bindings.{variablesBeside};
+ghost use Rattle.variables.specs.Bindings.{variablesBeside};
 ghost use Rattle.blocks.specs.Changes.{InBlock};
 ghost use Rattle.blocks.specs.Store.{storeOf};
 ghost use Rattle.ready.specs.Slots.{slotsOf};
@@ -20,7 +20,7 @@ fn wake_if_written(m: &[u32], ready: ReadyList, s: usize, index: usize) -> Ready
     requires { ⌜ (12288 ≤ length (now m)) × (s ≤ 64) × (index < 16) × (Ordered (rowsOf (now m)) (slotsOf ready)) ⌝ }
     ensures { λ r. ⌜ ReachesOne (now (m .entry)) s index (slotsOf ready) (slotsOf r) ⌝ }
 {
-    if blocks::written(m, s, index) {
+    if variables::written(m, s, index) {
         return triggers::wake_all(m, ready, s, index);
     }
     ready
@@ -37,7 +37,7 @@ fn make_due_in(m: &mut [u32], ready: ReadyList, s: usize, count: usize, t: u64) 
     let mut i: usize = 0;
     let mut woken = ready;
     while i < count {
-        blocks::make_due(m, s, i, t);
+        variables::make_due(m, s, i, t);
         woken = wake_if_written(m, woken, s, i);
         i += 1;
     }

@@ -23,7 +23,7 @@ pub fn write_inputs(m: &mut [u32], ready: ReadyList, numbers: &[u32], values: &[
     while k < numbers.len() {
         let number = numbers[k] as usize;
         let value = values[k];
-        blocks::assign(m, 64, number, value);
+        variables::assign(m, 64, number, value);
         woken = triggers::wake_all(m, woken, 64, number);
         k += 1;
     }

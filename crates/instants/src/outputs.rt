@@ -11,9 +11,9 @@ fn list_output(m: &[u32], i: usize, numbers: &mut [u32], values: &mut [u32], cou
     requires { ⌜ (12288 ≤ length (now m)) × (i < 16) × (count < 16) × (16 ≤ length (now numbers)) × (16 ≤ length (now values)) ⌝ }
     ensures { λ r. ⌜ ListedOne (now (m .entry)) i count (now (numbers .entry)) (now (values .entry)) (now (numbers .exit)) (now (values .exit)) r ⌝ }
 {
-    if blocks::written(m, 64, i) {
+    if variables::written(m, 64, i) {
         numbers[count] = i as u32;
-        values[count] = blocks::value(m, 64, i);
+        values[count] = variables::value(m, 64, i);
         return count + 1;
     }
     count

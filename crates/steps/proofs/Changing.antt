@@ -16,8 +16,8 @@ use Rattle.scheduler.specs.Ready.{insertAll}
 use Rattle.scheduler.specs.Triggers.{triggered}
 use Rattle.scheduler.specs.Engine.{RowsRunner, assigned, scheduled, orHalt, executeRows}
 use Rattle.blocks.specs.Blocks.{ownerAt, rowsOf, environmentOf}
-use Rattle.blocks.specs.Bindings.{BoundTo}
-use Rattle.blocks.specs.declared.variable.Binding.{Binding}
+use Rattle.variables.specs.Bindings.{BoundTo}
+use Rattle.variables.specs.declared.Binding.{Binding}
 use Rattle.ready.specs.Slots.{slotsOf}
 use Rattle.triggers.specs.Chains.{triggersAt}
 use Rattle.evaluate.specs.Bound.{bindingsOf, FromNames}

@@ -12,8 +12,8 @@ use Rattle.scheduler.specs.Rows.{Owner, Row, atPlace, ownerOf, withRow, rowsWit
 use Rattle.blocks.specs.Blocks.{Block, block, ownerAt, variableIn, variablesIn, rowAt, rowsOf, environmentOf}
 use Rattle.blocks.specs.Store.{Store, storeOf, withSlot, withVariable, variableFrom}
 use Rattle.blocks.specs.Changes.{Changes, placedBlock, assignedBlock, scheduledBlock, queuedBlock}
-use Rattle.blocks.specs.Bindings.{BoundTo, variablesBeside}
-use Rattle.blocks.specs.declared.variable.Binding.{Binding}
+use Rattle.variables.specs.Bindings.{BoundTo, variablesBeside}
+use Rattle.variables.specs.declared.Binding.{Binding}
 use Rattle.blocks.proofs.RowChanges.{row-of}
 use Rattle.blocks.proofs.Tabulated.{length-tabulate}
 use Rattle.tidy.specs.Tidy.{TidySlot, TidyEnvironment, Tidy}

@@ -30,14 +30,14 @@ pub fn assign_step(
     let live = running.live;
     let woken = running.woken;
     let value = evaluate::evaluate(t, m, me, cells, pieces);
-    let binding = blocks::owner(m, me, name);
+    let binding = variables::owner(m, me, name);
     let block = binding.block;
     let index = binding.index;
     let low = blocks::low(m, me);
     let q = running.ready;
     let ready = triggers::wake(m, q, block, index, low);
     let next = blocks::place(m, me) + 1;
-    blocks::assign(m, block, index, value);
+    variables::assign(m, block, index, value);
     blocks::set_place(m, me, next);
     Stepped {
         answer: Answer::Goes,
@@ -57,11 +57,11 @@ fn schedule_at(m: &mut [u32], running: Running, name: usize, moment: u64, value:
     ensures { λ r. ⌜ ChangesName (now (m .entry)) (now (m .exit)) running name (λ x. scheduled x moment value) r ⌝ }
 {
     let me = running.me;
-    let binding = blocks::owner(m, me, name);
+    let binding = variables::owner(m, me, name);
     let block = binding.block;
     let index = binding.index;
     let next = blocks::place(m, me) + 1;
-    blocks::schedule(m, block, index, moment, value);
+    variables::schedule(m, block, index, moment, value);
     blocks::put_word(m, block, 7, 1);
     blocks::set_place(m, me, next);
     Stepped {

@@ -140,7 +140,7 @@ fn list_name(m: &mut [u32], s: usize, j: usize, name: usize)
         × ((lists : Owner → List ℕ) → Chains (now (m .entry)) (4 * s + j) lists
         → Chains (now (m .exit)) (suc (4 * s + j)) (λ o. consIf (sameOwner (ownerOf ((rowsOf (now (m .entry)) s) .bindings) name) o) s (lists o))) ⌝ }
 {
-    let binding = blocks::owner(m, s, name);
+    let binding = variables::owner(m, s, name);
     let block = binding.block;
     let index = binding.index;
     let first = blocks::word_at(m, block, 144 + index);

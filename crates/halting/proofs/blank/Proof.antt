@@ -4,9 +4,6 @@ use denote.Ref.{now}
 use borrow.Author.Needs.{needs}
 use Rattle.halting.proofs.blank.Statement.{statement}
 use Rattle.halting.proofs.blank.Tie as tie
-use Rattle.halting.proofs.blank.Reads as reads
-use Rattle.halting.proofs.blank.Lts as lts
-use Rattle.halting.proofs.clear_from.Reads as clear-from-reads
 
 clear-from-requires : tie.Need-clear-from-requires
 clear-from-requires c κs = search needs

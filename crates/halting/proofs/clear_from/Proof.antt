@@ -10,8 +10,6 @@ use denote.Ref.{now}
 use borrow.Author.Needs.{needs}
 use Rattle.halting.proofs.clear_from.Statement.{statement}
 use Rattle.halting.proofs.clear_from.Tie as tie
-use Rattle.halting.proofs.clear_from.Reads as reads
-use Rattle.halting.proofs.clear_from.Lts as lts
 
 abbrev Inv-loop : tie.InvT-loop
 Inv-loop m₀ from k₀ m k = (from ≤ k) × (k ≤ 12288) × (length m ≡ length m₀) × (m ≡ zeroed from k m₀)

@@ -6,9 +6,6 @@ use denote.Ref.{now}
 use borrow.Author.Needs.{needs}
 use Rattle.halting.proofs.halt.Statement.{statement}
 use Rattle.halting.proofs.halt.Tie as tie
-use Rattle.halting.proofs.halt.Reads as reads
-use Rattle.halting.proofs.halt.Lts as lts
-use Rattle.halting.proofs.clear_from.Reads as clear-from-reads
 
 slice-write-m : tie.Need-slice-write-m
 slice-write-m c = search needs

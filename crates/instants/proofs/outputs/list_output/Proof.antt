@@ -4,10 +4,6 @@ use denote.Ref.{now}
 use borrow.Author.Needs.{needs}
 use Rattle.instants.proofs.outputs.list_output.Statement.{statement}
 use Rattle.instants.proofs.outputs.list_output.Tie as tie
-use Rattle.instants.proofs.outputs.list_output.Reads as reads
-use Rattle.instants.proofs.outputs.list_output.Lts as lts
-use Rattle.blocks.proofs.written.Reads as written-reads
-use Rattle.blocks.proofs.value.Reads as value-reads
 
 written-requires : tie.Need-written-requires
 written-requires c κs = search needs

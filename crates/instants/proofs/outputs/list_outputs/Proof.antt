@@ -9,9 +9,6 @@ use denote.Ref.{now}
 use borrow.Author.Needs.{needs}
 use Rattle.instants.proofs.outputs.list_outputs.Statement.{statement}
 use Rattle.instants.proofs.outputs.list_outputs.Tie as tie
-use Rattle.instants.proofs.outputs.list_outputs.Reads as reads
-use Rattle.instants.proofs.outputs.list_outputs.Lts as lts
-use Rattle.instants.proofs.outputs.list_output.Reads as list-output-reads
 
 abbrev Inv-loop : tie.InvT-loop
 Inv-loop m inputs outputs numbers₀ values₀ end i₀ count₀ numbers values i count =

@@ -1,0 +1,3 @@
+pub mod VariableChanges
+pub mod VariableBlocks
+pub mod Readings

@@ -1,0 +1,114 @@
+// Variables by block s and index (block 64 has the environment's), and the names bound to them, read and changed. Every contract
+// says what the words stand for as rows and environment. `m` is the machine's memory, `s` a slot or 64.
+ghost use mathlib.Core.Path.{_≡_};
+ghost use Prim.Native.Nat.{_≤_, _<_};
+ghost use lib.ListN.{length};
+ghost use Rattle.machine.specs.Layout.{waitingMoment};
+ghost use Rattle.scheduler.specs.Engine.{assigned, scheduled};
+ghost use Rattle.blocks.specs.Blocks.{block, ownerAt, rowsOf};
+ghost use Rattle.blocks.specs.Store.{withVariable, dueVariable, unmarkedVariable};
+ghost use Rattle.blocks.specs.Changes.{InBlock, Changes, madeBlock, assignedBlock, scheduledBlock, dueBlock, unmarkedBlock};
+ghost use Rattle.variables.specs.Bindings.{ReadOf, BoundTo};
+use blocks::put_word;
+use blocks::word_at;
+
+// 2 to the 32: a moment's low word counts to here.
+const SIZE: u64 = 4294967296;
+
+// The variable that a name stands for.
+pub struct Binding {
+    pub block: usize,
+    pub index: usize,
+}
+
+// The variable of a name of the routine in slot s.
+pub fn owner(m: &[u32], s: usize, name: usize) -> Binding
+    requires { ⌜ (12288 ≤ length (now m)) × (s < 64) × (name < 16) ⌝ }
+    ensures { λ r. ⌜ BoundTo (rowsOf (now (m .entry)) s) name r ⌝ }
+{
+    let word = word_at(m, s, 112 + name);
+    let index = (word % 16) as usize;
+    let block = (word / 16) as usize;
+    if block < 64 {
+        return Binding { block, index };
+    }
+    Binding { block: 64, index }
+}
+
+// Its value.
+pub fn value(m: &[u32], s: usize, index: usize) -> u32
+    requires { ⌜ (12288 ≤ length (now m)) × (s ≤ 64) × (index < 16) ⌝ }
+    ensures { λ r. ⌜ ReadOf (now (m .entry)) s index (λ x. x .value) r ⌝ }
+{
+    word_at(m, s, 8 + index * 6)
+}
+
+// Whether it was written in this instant.
+pub fn written(m: &[u32], s: usize, index: usize) -> bool
+    requires { ⌜ (12288 ≤ length (now m)) × (s ≤ 64) × (index < 16) ⌝ }
+    ensures { λ r. ⌜ ReadOf (now (m .entry)) s index (λ x. x .written) r ⌝ }
+{
+    word_at(m, s, 128 + index) != 0
+}
+
+// The moment of its waiting write, 0 without one.
+pub fn due(m: &[u32], s: usize, index: usize) -> u64
+    requires { ⌜ (12288 ≤ length (now m)) × (s ≤ 64) × (index < 16) ⌝ }
+    ensures { λ r. ⌜ ReadOf (now (m .entry)) s index (λ x. waitingMoment (x .waiting)) r ⌝ }
+{
+    let first = word_at(m, s, 10 + index * 6) as u64;
+    let second = word_at(m, s, 11 + index * 6) as u64;
+    first + second * SIZE
+}
+
+// A write: the value, and the mark of this instant.
+pub fn assign(m: &mut [u32], s: usize, index: usize, v: u32)
+    requires { ⌜ (12288 ≤ length (now m)) × (s ≤ 64) × (index < 16) ⌝ }
+    ensures { λ _. ⌜ Changes s (now (m .entry)) (now (m .exit)) (assignedBlock index v (block (now (m .entry)) s)) (withVariable (ownerAt s index) (λ x. assigned x v)) ⌝ }
+{
+    put_word(m, s, 8 + index * 6, v);
+    put_word(m, s, 128 + index, 1);
+}
+
+// A waiting write of v due at t; it replaces the old one.
+pub fn schedule(m: &mut [u32], s: usize, index: usize, t: u64, v: u32)
+    requires { ⌜ (12288 ≤ length (now m)) × (s ≤ 64) × (index < 16) × (0 < t) ⌝ }
+    ensures { λ _. ⌜ Changes s (now (m .entry)) (now (m .exit)) (scheduledBlock index t v (block (now (m .entry)) s)) (withVariable (ownerAt s index) (λ x. scheduled x t v)) ⌝ }
+{
+    put_word(m, s, 9 + index * 6, v);
+    put_word(m, s, 10 + index * 6, (t % SIZE) as u32);
+    put_word(m, s, 11 + index * 6, (t / SIZE) as u32);
+}
+
+// The waiting write is made, and is gone.
+fn make(m: &mut [u32], s: usize, index: usize)
+    requires { ⌜ (12288 ≤ length (now m)) × (s ≤ 64) × (index < 16) ⌝ }
+    ensures { λ _. ⌜ InBlock s (now (m .entry)) (now (m .exit)) (madeBlock index (block (now (m .entry)) s)) ⌝ }
+{
+    let waiting = word_at(m, s, 9 + index * 6);
+    put_word(m, s, 8 + index * 6, waiting);
+    put_word(m, s, 9 + index * 6, 0);
+    put_word(m, s, 10 + index * 6, 0);
+    put_word(m, s, 11 + index * 6, 0);
+    put_word(m, s, 128 + index, 1);
+}
+
+// "Every waiting write due at t is made, and is gone": that of one variable, which is unwritten otherwise.
+pub fn make_due(m: &mut [u32], s: usize, index: usize, t: u64)
+    requires { ⌜ (12288 ≤ length (now m)) × (s ≤ 64) × (index < 16) × (0 < t) ⌝ }
+    ensures { λ _. ⌜ Changes s (now (m .entry)) (now (m .exit)) (dueBlock index t (block (now (m .entry)) s)) (withVariable (ownerAt s index) (λ x. dueVariable t x)) ⌝ }
+{
+    if due(m, s, index) == t {
+        make(m, s, index);
+        return;
+    }
+    put_word(m, s, 128 + index, 0);
+}
+
+// The mark of this instant taken away.
+pub fn unmark(m: &mut [u32], s: usize, index: usize)
+    requires { ⌜ (12288 ≤ length (now m)) × (s ≤ 64) × (index < 16) ⌝ }
+    ensures { λ _. ⌜ Changes s (now (m .entry)) (now (m .exit)) (unmarkedBlock index (block (now (m .entry)) s)) (withVariable (ownerAt s index) (λ x. unmarkedVariable x)) ⌝ }
+{
+    put_word(m, s, 128 + index, 0);
+}

@@ -18,6 +18,9 @@ const SUMS: &str = "P\t1\t1\nR\trr\t2\nW\t0\nS\t2\t#0\nU\t2 0 <\t0\nS\t3\t3 2 +\
 const FORKS: &str =
     "P\t1\t1\nR\trr\t1\nW\t0\nS\t2\t0\nU\t2\t0\nF\t1 2\t2 1\nS\t2\t2 #1 -\nG\t2\nR\tv\t1\nE\nR\tr\t1\nE\n";
 
+/// As many turns as input 0 says, each with a waiting write that replaces the last one: four steps.
+const TIMERS: &str = "P\t1\t1\nR\trr\t2\nW\t0\nS\t2\t#0\nU\t2 0 <\t0\nA\t3\t#1000000000\t2\nS\t2\t2 #1 +\nG\t2\n";
+
 /// The memories of one board.
 struct Lent {
     table: Vec<u32>,
@@ -342,7 +345,7 @@ fn load_times(text: &str) -> (f64, f64) {
 /// The most stack that each call used over the benchmark's listings.
 fn stacks() -> [(&'static str, usize); 4] {
     let (mut load, mut start, mut tick, mut alike) = (0, 0, 0, 0);
-    for text in [PRESS, SUMS, FORKS, &full()] {
+    for text in [PRESS, SUMS, FORKS, TIMERS, &full()] {
         let mut lent = started(text.as_bytes());
         let Lent { table, machine, out } = &mut lent;
         load = load.max(stack::used(|| {
@@ -389,6 +392,7 @@ fn steps_and_calls(full: &str) {
     println!("| what | library | plain engine | ratio | aim |\n|---|---|---|---|---|");
     row("a step: sums, tests and jumps", step_times(SUMS), Some(STEP_AIM));
     row("a step: forks, ends and joins", step_times(FORKS), Some(STEP_AIM));
+    row("a step: every fourth one puts a waiting write", step_times(TIMERS), Some(STEP_AIM));
     row("a step: every third one wakes", waking_times(), Some(STEP_AIM));
     row("a small instant, the whole call: a press or its timeout", small_instants(), None);
     row(&format!("loading, a byte of {}; beside the model's loader", full.len()), load_times(full), None);

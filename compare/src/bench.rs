@@ -72,6 +72,16 @@ fn beside<const N: usize>(mut works: [&mut dyn FnMut(); N]) -> [f64; N] {
     least
 }
 
+/// By how much a turn of the second takes longer than one of the first: the median over many short
+/// batches that take turns, so that what else the machine does falls on both.
+fn longer(first: &mut dyn FnMut(), second: &mut dyn FnMut()) -> f64 {
+    const BATCHES: usize = 1_001;
+    const TURNS: usize = 20;
+    let mut differences: Vec<f64> = (0..BATCHES).map(|_| -taken(first, TURNS) + taken(second, TURNS)).collect();
+    differences.sort_by(f64::total_cmp);
+    differences[BATCHES / 2]
+}
+
 fn program(text: &[u8]) -> Program {
     listing::load(text).expect("the benchmark's listings load")
 }
@@ -246,7 +256,7 @@ fn ticking(locals: usize, ticks: bool) -> String {
 }
 
 /// An instant with nothing due and one in which a write is due, which wakes one routine for three steps.
-fn due_instants(locals: usize) -> (f64, f64) {
+fn due_instants(locals: usize) -> (f64, f64, f64) {
     let mut works = [false, true].map(|ticks| {
         let mut lent = started(ticking(locals, ticks).as_bytes());
         let mut t = 0;
@@ -256,8 +266,9 @@ fn due_instants(locals: usize) -> (f64, f64) {
         }
     });
     let [idle, due] = &mut works;
+    let over = longer(idle, due);
     let [idle, due] = beside([idle, due]);
-    (idle, due)
+    (idle, due, over)
 }
 
 /// 49 sleepers of 14 variables each. So many variables of the last one, or of each, have a waiting
@@ -330,8 +341,7 @@ fn waiting_times(writes: usize, each: bool) -> (f64, f64) {
         black_box(queue.heap.first());
         queue.clear();
     };
-    let [without, with, pass, queued] = beside([&mut without, &mut with, &mut pass, &mut queued]);
-    (with - without, queued - pass)
+    (longer(&mut without, &mut with), longer(&mut pass, &mut queued))
 }
 
 fn load_times(text: &str) -> (f64, f64) {
@@ -418,8 +428,8 @@ fn woken() {
 fn due_found() {
     println!("\n| a write due, beside 48 sleepers | nothing due | one write due, three steps | over |\n|---|---|---|---|");
     for locals in [0, 14] {
-        let (idle, due) = due_instants(locals);
-        println!("| of {locals} variables each | {idle:.1} | {due:.1} | {:.1} |", due - idle);
+        let (idle, due, over) = due_instants(locals);
+        println!("| of {locals} variables each | {idle:.1} | {due:.1} | {over:.1} |");
     }
     println!("\n| waiting writes, of 49 routines with 14 variables each | an instant, over one without them | a queue made anew, over the pass alone |\n|---|---|---|");
     for (count, writes, each) in [(1, 1, false), (49, 1, true), (686, 14, true)] {

@@ -3,6 +3,7 @@ pub mod Gather
 pub mod Letters
 pub mod Numbers
 pub mod OnField
+pub mod Passing
 pub mod Pieces
 pub mod Places
 pub mod Rows

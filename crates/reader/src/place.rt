@@ -4,6 +4,7 @@ ghost use Prim.Native.Nat.{_+_, _≤_};
 ghost use lib.ListN.{length, drop};
 ghost use Rattle.reader.specs.Texts.{firstPiece, endsPiece, Within};
 ghost use Rattle.reader.specs.Answers.{takenAt};
+use crate::past::closing_byte;
 use crate::past::place_past;
 
 // The offset of the next byte, and the number of its line, from 1.
@@ -21,19 +22,20 @@ pub struct Taken {
 }
 
 // Whether a byte closes a piece: a tab, a line feed or a space.
-fn ends_piece(b: u8) -> bool
+pub fn ends_piece(b: u8) -> bool
     ensures { λ r. ⌜ r ≡ endsPiece b ⌝ }
 {
-    if b == 9 {
+    if b == b'\t' {
         return true;
     }
-    if b == 10 {
+    if b == b'\n' {
         return true;
     }
-    b == 32
+    b == b' '
 }
 
-fn piece_end(s: &[u8], at: usize) -> usize
+// Where the piece at an offset ends.
+pub fn piece_end(s: &[u8], at: usize) -> usize
     requires { ⌜ at ≤ length (now s) ⌝ }
     ensures { λ r. ⌜ r ≡ at + length (firstPiece (drop at (now (s .entry)))) ⌝ }
 {
@@ -52,21 +54,22 @@ pub fn take_piece(s: &[u8], place: Place) -> Taken
     requires { ⌜ Within (now s) (place .offset) (place .line) ⌝ }
     ensures { λ r. ⌜ r ≡ takenAt (now (s .entry)) place ⌝ }
 {
-    let at = place.offset;
-    let to = piece_end(s, at);
-    let next = place_past(s, place, to);
-    if to < s.len() {
+    let from = place.offset;
+    let next = place_past(s, place);
+    let past = next.offset;
+    let stop = closing_byte(s, from, past);
+    if stop == 0 {
         return Taken {
-            from: at,
-            to: to,
-            stop: s[to],
+            from: from,
+            to: past,
+            stop: 0,
             next: next,
         };
     }
     Taken {
-        from: at,
-        to: to,
-        stop: 0,
+        from: from,
+        to: past - 1,
+        stop: stop,
         next: next,
     }
 }

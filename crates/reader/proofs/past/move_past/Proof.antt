@@ -1,5 +1,5 @@
--- `reader::move_past` meets its contract: a walk of its MIR, by hand. `offset_past` is called on the slice and the offset; then the borrow of the
--- place is opened, the result is written to its offset, and the borrow is closed at the new place.
+-- `reader::move_past` meets its contract: a walk of its MIR, by hand. The borrow of the place is opened and its offset is read; `offset_past` is
+-- called on the slice and the offset; the result is written to the place's offset, and the borrow is closed at the new place.
 use mathlib.Core.Path.{_≡_, refl, ap}
 use Prim.Native.Nat.{ℕ, _<_, _≤_, _^_}
 use mathlib.Core.List.{[], _∷_, List}
@@ -19,13 +19,13 @@ use contract.Running.{givenOf, tables, tablesOf}
 use contract.Lifetimes.{AllOutlive}
 use types.Kit.{Given, ‵, raw, some, later, _⊛_, ⋆, _$_, _∵_, !, qed, by, move, keep, drop, use1, use2, split, join, pick, rewrite, fsplit, fsplit3, fjoin, fjoin3, feqI, suffices, frame, await, done}
 use types.Run.{look, init, forget, stop, hop, fld, from, load, unit-lit, of-opd, and-then, no-more, assigns, land, returns, enter, alloc1, alloc0, params1, pass1, pass0, free1, free0}
-use types.Part.{whole, sub, store-in}
+use types.Part.{whole, sub, look-in, store-in}
 use types.SemTy.{Body}
 use sound.WpLaws.{FmC, fmOf, WpFn-mono}
 use denote.RattleType.{owns}
 use denote.Memory.{mem}
 use denote.Laws.{Is, shows}
-use denote.Plain.{uint-vals, uint-tells, uint-lawful}
+use denote.Plain.{uint-makes, uint-lawful}
 use denote.Builtin.{u8, usize}
 use denote.Ref.{RefT, MutRef, ptr-vals, mut-tells, now}
 use denote.Slice.{sliceVal, ShrSlice, slice-vals, shr-slice-tells, shr-slice-lawful}
@@ -58,22 +58,25 @@ abbrev slot : Slot 2
 slot = shrSliceOf (1 ∷ []) tt (plain (λ _. u8))
 
 abbrev stayed : Stays (self.ended .signature .params) (self.ended .kept)
-stayed = (stay-ref (0 ∷ []) tt (plain (λ _. T.the-row)), (stay-dropped slot yes, (stay-dropped (plain (λ _. usize)) yes, tt)))
+stayed = (stay-ref (0 ∷ []) tt (plain (λ _. T.the-row)), (stay-dropped slot yes, tt))
 
 -- the contract that the proof cites
 abbrev Called : {M : Type 1} (𝓤 : URA M) (H : Heap 𝓤) (A : Atoms 𝓤) (mem : Memory → SProp 𝓤) (run : Routine → Fun 𝓤) → Contract 𝓤
 Called 𝓤 H A mem run = tripleOf 𝓤 H A callee.signature (callee.spec 𝓤 H A mem run)
 
 module _ {M : Type 1} (𝓤 : URA M) (H : Heap 𝓤) (A : Atoms 𝓤) (W : Given 𝓤 H A) (at-mem : Memory → SProp 𝓤) (run : Routine → Fun 𝓤) (κ κ′ : Lft) (bounds : AllOutlive 2 (self.signature .outlives) (κ, (κ′, tt))) (q q′ : Share)
-    (b o : ℕ) (γ : GName) (h : Place) (s : RefT (List ℕ)) (n : ℕ) (n-fits : n < 2 ^ 64) where
+    (b o : ℕ) (γ : GName) (h : Place) (s : RefT (List ℕ)) where
   abbrev v : Val
   v = sliceVal (s .ptr) (length (s .now))
 
-  abbrev x : RefT Place × (RefT (List ℕ) × (ℕ × Unit {0}))
-  x = (record { ptr = (b, o); name = γ; now = h }, (s, (n, tt)))
+  abbrev x : RefT Place × (RefT (List ℕ) × Unit {0})
+  x = (record { ptr = (b, o); name = γ; now = h }, (s, tt))
 
-  abbrev vals : List Val × (List Val × (List Val × Unit {0}))
-  vals = (vptr b o ∷ [], (v ∷ [], (vint w64 n ∷ [], tt)))
+  abbrev vals : List Val × (List Val × Unit {0})
+  vals = (vptr b o ∷ [], (v ∷ [], tt))
+
+  abbrev n : ℕ
+  n = h .offset
 
   abbrev h′ : ℕ → Place
   h′ r = record { offset = r; line = h .line }
@@ -97,31 +100,39 @@ module _ {M : Type 1} (𝓤 : URA M) (H : Heap 𝓤) (A : Atoms 𝓤) (W : Given
   exits : (r : ℕ) → r ≡ offsetPast (now s) n → ent 𝓤 (⋆ 𝓤 H A (‵ (fobs γ (T.the-row .coded .code (h′ r))) ∷ ‵ (fbor κ (Body (mem T.the-row) b o γ)) ∷ ‵ (flft κ q) ∷ (‵ (flft κ′ q′) ⊛ ‵ ftrue) ∷ [])) (Post vunit)
   exits r e =
       qed W (‵ (fobs γ (T.the-row .coded .code (h′ r))) ∷ ‵ (fbor κ (Body (mem T.the-row) b o γ)) ∷ ‵ (flft κ q) ∷ (‵ (flft κ′ q′) ⊛ ‵ ftrue) ∷ []) ∵
-      suffices ! _ (ends-at 𝓤 H A self.ended stayed (self.clauses 𝓤 H A at-mem run) W (((κ, (κ′, tt)), (q, (q′, tt)), bounds, x, vals), tt) vunit tt (h′ r, (tt, (tt, tt))) (tt, (tt, (tt, tt)))) $ says ! (ap h′ e) $
+      suffices ! _ (ends-at 𝓤 H A self.ended stayed (self.clauses 𝓤 H A at-mem run) W (((κ, (κ′, tt)), (q, (q′, tt)), bounds, x, vals), tt) vunit tt (h′ r, (tt, tt)) (tt, (tt, tt))) $ says ! (ap h′ e) $
       move ! (2 ∷ 3 ∷ []) $ join ! $ frame ! $ feqI ! (List Val) (vptr b o ∷ []) (vptr b o ∷ []) refl $ fjoin3 ! $
-      nothing ! $ nothing ! $ fjoin ! $ nothing ! $ fjoin ! $ move ! (1 ∷ 0 ∷ []) $ fjoin ! $ feqI ! (List Val) (vunit ∷ []) (vunit ∷ []) refl $ move ! (1 ∷ 0 ∷ []) $ done !
+      nothing ! $ nothing ! $ fjoin ! $ move ! (1 ∷ 0 ∷ []) $ fjoin ! $ feqI ! (List Val) (vunit ∷ []) (vunit ∷ []) refl $ move ! (1 ∷ 0 ∷ []) $ done !
 
-  -- what closing the borrow asks
+  -- what whoever holds the place knows of its fields, and what closing the borrow asks
+  offset-fits : Is T.the-row h (T′.lowered h ∷ []) → n < 2 ^ 64
+  offset-fits was = LL.owed T.the-type T′.the-laws h _ was .0 .1
+
   made : (r : ℕ) → r < 2 ^ 64 → Is T.the-row h (T′.lowered h ∷ []) → Is T.the-row (h′ r) (T′.lowered (h′ r) ∷ [])
   made r fits was = LL.owes T.the-type T′.the-laws (h′ r) ((refl, fits), ((refl, LL.owed T.the-type T′.the-laws h _ was .1 .0 .1), tt))
 
   module _ (C : Calls 𝓤 H) (Λ : Loops 𝓤 H) (fm : FmC 𝓤 H (W .laws) C) (known : Triple 𝓤 (C #callee) (Called 𝓤 H A at-mem run)) where
-    walk : Is (ShrSlice (named 1) κ′ u8) s (v ∷ []) → n ≤ length (now s) → ent 𝓤 (onEntry 𝓤 H A self.signature (κ, (κ′, tt)) (q, (q′, tt)) x vals) (WpFn 𝓤 H C Λ code.function (vptr b o ∷ v ∷ vint w64 n ∷ []) Post)
+    walk : Is (ShrSlice (named 1) κ′ u8) s (v ∷ []) → n ≤ length (now s) → ent 𝓤 (onEntry 𝓤 H A self.signature (κ, (κ′, tt)) (q, (q′, tt)) x vals) (WpFn 𝓤 H C Λ code.function (vptr b o ∷ v ∷ []) Post)
     walk p within =
-        qed W ((‵ (flft κ q) ⊛ ‵ (flft κ′ q′) ⊛ ‵ ftrue) ∷ ‵ (owns (MutRef (named 0) κ T.the-row ∷ ShrSlice (named 1) κ′ u8 ∷ usize ∷ []) x vals) ∷ []) ∵ enter ! C Λ code.function (vptr b o ∷ v ∷ vint w64 n ∷ []) _ $
-        alloc1 ! (λ l₀. alloc1 ! (λ l₁. alloc1 ! (λ l₂. alloc1 ! (λ l₃. alloc1 ! (λ l₄. alloc0 ! $ params1 ! $ pass1 ! (init ! 6 refl (tt, tt)) $ pass1 ! (init ! 4 refl (shr-slice-lawful 𝓤 H A W (named 1) κ′ u8 .typed s (v ∷ []) p .0)) $ pass1 ! (init ! 2 refl (tt, record { fits = n-fits })) $ pass0 ! $
-        -- what the slice and the offset own goes to the callee, beside the lifetime's token
-        move ! (11 ∷ []) $ fsplit ! $ move ! (12 ∷ []) $ split ! $ move ! (1 ∷ 3 ∷ []) $ use2 W (raw (Called 𝓤 H A at-mem run .pre to)) (asked within) $
-        -- [what is asked; the token; what the place's borrow owns; _4; …; _3; …; _2; …; _1; …; room for _0; …]
-        calls-at ! fm (Called 𝓤 H A at-mem run) known to (and-then ! (load ! (from ! (stop !)) (look ! 7 refl)) (and-then ! (load ! (from ! (stop !)) (look ! 5 refl)) (no-more !))) (λ w.
-        use1 W (later (some (λ (r : ℕ). ((‵ (flft κ′ q′) ⊛ ‵ ftrue) ⊛ ‵ (usize .own r (w ∷ []))) ⊛ raw (ensured 𝓤 H A callee.ended (callee.clauses 𝓤 H A at-mem run) (κ′, tt) (s, (n, tt)) tt r)))) (id⊢ 𝓤 _) $ await ! tt $ pick ! (λ r.
-        split ! $ move ! (1 ∷ []) $ use1 W (raw (fact 𝓤 (r ≡ offsetPast (now s) n))) (said r) $ heard ! (r ≡ offsetPast (now s) n) (λ e. split ! $ move ! (1 ∷ []) $
-        -- [the result; the slice's token; the token; what the place's borrow owns; _4; …; _3; …; _2; …; _1; …; room for _0; …]
-        peeks ! usize (Is usize) (shows 𝓤 H A usize) r (w ∷ []) (λ is.
-        land ! (from ! (stop !)) (init ! 4 refl (uint-lawful 𝓤 H A W w64 .typed r _ is .0)) $ rewrite ! 4 (λ (u : Val). ‵ (fat fullShare (tyInt w64) l₄ 0 u)) (ap only (is .0)) refl $
-        move ! (3 ∷ []) $ fsplit3 ! $ drop ! $ move ! (0 ∷ 1 ∷ 4 ∷ []) $
+        qed W ((‵ (flft κ q) ⊛ ‵ (flft κ′ q′) ⊛ ‵ ftrue) ∷ ‵ (owns (MutRef (named 0) κ T.the-row ∷ ShrSlice (named 1) κ′ u8 ∷ []) x vals) ∷ []) ∵ enter ! C Λ code.function (vptr b o ∷ v ∷ []) _ $
+        alloc1 ! (λ l₀. alloc1 ! (λ l₁. alloc1 ! (λ l₂. alloc1 ! (λ l₃. alloc1 ! (λ l₄. alloc0 ! $ params1 ! $ pass1 ! (init ! 6 refl (tt, tt)) $ pass1 ! (init ! 4 refl (shr-slice-lawful 𝓤 H A W (named 1) κ′ u8 .typed s (v ∷ []) p .0)) $ pass0 ! $
+        -- the borrow is opened, and the offset is read
+        move ! (11 ∷ []) $ fsplit ! $ move ! (12 ∷ []) $ split ! $ move ! (2 ∷ []) $ fsplit3 ! $ drop ! $
         opens ! tt T.the-row {h = h} b o (λ vs. spelt ! T.the-row (Is T.the-row) (shows 𝓤 H A T.the-row) (LL.vals T.the-type T′.the-laws) (LL.tells T.the-type T′.the-laws) fullShare h vs b o $
         move ! (1 ∷ []) $ peeks ! T.the-row (Is T.the-row) (shows 𝓤 H A T.the-row) h (T′.lowered h ∷ []) (λ was. move ! (1 ∷ 0 ∷ []) $
+        -- [the place's cell; what it owns; the open borrow; obs; auth; the slice's token; what the slice owns; _4; …; _3; …; _2; …; _1; …; room for _0; …]
+        assigns ! (of-opd ! (load ! (from ! (hop ! (look ! 13 refl) (fld ! refl (stop !)))) (look-in ! 0 (sub ! 0 refl (whole !))))) (from ! (stop !)) (init ! 9 refl (tt, record { fits = offset-fits was })) $
+        -- what the slice and the offset own goes to the callee, beside the lifetime's token
+        move ! (6 ∷ []) $ fsplit ! $ move ! (1 ∷ []) $ drop ! $ nothing ! $ owned ! usize (Is usize) (uint-makes 𝓤 H A W w64) n _ (refl, offset-fits was) $ fjoin ! $ move ! (1 ∷ 0 ∷ []) $ fjoin ! $
+        move ! (6 ∷ 0 ∷ []) $ use2 W (raw (Called 𝓤 H A at-mem run .pre to)) (asked within) $
+        -- [what is asked; the place's cell; what it owns; the open borrow; obs; auth; _4; …; _3; …; _2; …; _1; …; room for _0; …]
+        calls-at ! fm (Called 𝓤 H A at-mem run) known to (and-then ! (load ! (from ! (stop !)) (look ! 10 refl)) (and-then ! (load ! (from ! (stop !)) (look ! 8 refl)) (no-more !))) (λ w.
+        use1 W (later (some (λ (r : ℕ). ((‵ (flft κ′ q′) ⊛ ‵ ftrue) ⊛ ‵ (usize .own r (w ∷ []))) ⊛ raw (ensured 𝓤 H A callee.ended (callee.clauses 𝓤 H A at-mem run) (κ′, tt) (s, (n, tt)) tt r)))) (id⊢ 𝓤 _) $ await ! tt $ pick ! (λ r.
+        split ! $ move ! (1 ∷ []) $ use1 W (raw (fact 𝓤 (r ≡ offsetPast (now s) n))) (said r) $ heard ! (r ≡ offsetPast (now s) n) (λ e. split ! $ move ! (1 ∷ []) $
+        -- [the result; the slice's token; the place's cell; what it owns; the open borrow; obs; auth; _4; …; _3; …; _2; …; _1; …; room for _0; …]
+        peeks ! usize (Is usize) (shows 𝓤 H A usize) r (w ∷ []) (λ is.
+        land ! (from ! (stop !)) (init ! 7 refl (uint-lawful 𝓤 H A W w64 .typed r _ is .0)) $ rewrite ! 7 (λ (u : Val). ‵ (fat fullShare (tyInt w64) l₄ 0 u)) (ap only (is .0)) refl $
+        move ! (2 ∷ 3 ∷ 4 ∷ 5 ∷ 6 ∷ []) $
         -- [the place's cell; what it owns; the open borrow; obs; auth; the result; the slice's token; _4; …; _3; …; _2; …; _1; …; room for _0; …]
         assigns ! (of-opd ! (load ! (from ! (stop !)) (look ! 7 refl))) (from ! (hop ! (look ! 13 refl) (fld ! refl (stop !)))) (store-in ! 0 (sub ! 0 refl (whole !)) (tt, record { fits = is .1 })) $
         assigns ! (of-opd ! (unit-lit !)) (from ! (stop !)) (init ! 15 refl (tt, tt)) $
@@ -133,12 +144,12 @@ module _ {M : Type 1} (𝓤 : URA M) (H : Heap 𝓤) (A : Atoms 𝓤) (W : Given
 
 module _ {M : Type 1} (𝓤 : URA M) (H : Heap 𝓤) (A : Atoms 𝓤) (W : Given 𝓤 H A) (mem : Memory → SProp 𝓤) (run : Routine → Fun 𝓤) where
   walks : (C : Calls 𝓤 H) (Λ : Loops 𝓤 H) → FmC 𝓤 H (W .laws) C → Triple 𝓤 (C #callee) (Called 𝓤 H A mem run) → Walks 𝓤 H A self.ended stayed (WpFn 𝓤 H C Λ code.function) (self.clauses 𝓤 H A mem run)
-  walks C Λ fm known = walked 𝓤 H A self.ended stayed (self.clauses 𝓤 H A mem run) (WpFn 𝓤 H C Λ code.function) (λ κs. (ptr-vals, (slice-vals, (uint-vals w64, tt)))) (λ κs. (mut-tells (named 0) (κs .0) T.the-row, (shr-slice-tells (named 1) (κs .1 .0) u8, (uint-tells w64, tt))))
-      (λ κs qs bounds a g are. needs 𝓤 (a .1 .1 .0 ≤ length (now (a .1 .0))) _
-      (walk 𝓤 H A W mem run (κs .0) (κs .1 .0) bounds (qs .0) (qs .1 .0) (a .0 .ptr .0) (a .0 .ptr .1) (a .0 .name) (a .0 .now) (a .1 .0) (a .1 .1 .0) (are .1 .1 .0 .1) C Λ fm known (are .1 .0)))
+  walks C Λ fm known = walked 𝓤 H A self.ended stayed (self.clauses 𝓤 H A mem run) (WpFn 𝓤 H C Λ code.function) (λ κs. (ptr-vals, (slice-vals, tt))) (λ κs. (mut-tells (named 0) (κs .0) T.the-row, (shr-slice-tells (named 1) (κs .1 .0) u8, tt)))
+      (λ κs qs bounds a g are. needs 𝓤 (a .0 .now .offset ≤ length (now (a .1 .0))) _
+      (walk 𝓤 H A W mem run (κs .0) (κs .1 .0) bounds (qs .0) (qs .1 .0) (a .0 .ptr .0) (a .0 .ptr .1) (a .0 .name) (a .0 .now) (a .1 .0) C Λ fm known (are .1 .0)))
 
   goes : AllGo 𝓤 H A W 2 (self.signature .params) (self.ended .kept) stayed
-  goes = (goes-ref 𝓤 H A W 2 0 tt (plain (λ _. T.the-row)), (goes-dropped 𝓤 H A W 2 slot yes (λ κs x f. refl), (goes-dropped 𝓤 H A W 2 (plain (λ _. usize)) yes (λ κs x f. refl), tt)))
+  goes = (goes-ref 𝓤 H A W 2 0 tt (plain (λ _. T.the-row)), (goes-dropped 𝓤 H A W 2 slot yes (λ κs x f. refl), tt))
 
 meets : {M : Type 1} (𝓤 : URA M) (H : Heap 𝓤) (A : Atoms 𝓤) → Given 𝓤 H A → (mem : Memory → SProp 𝓤) (run : Routine → Fun 𝓤) (𝓣 : Tables 𝓤 H) → Triple 𝓤 (𝓣 .C #callee) (Called 𝓤 H A mem run)
     → Meets 𝓤 H A self.signature (WpFn 𝓤 H (𝓣 .C) (𝓣 .Λ) code.function) (self.spec 𝓤 H A mem run)

@@ -4,14 +4,17 @@ use borrow.Author.Needs.{needs}
 use Rattle.reader.proofs.past.offset_past.Statement.{statement}
 use Rattle.reader.proofs.past.offset_past.Tie as tie
 
+piece-end-requires : tie.Need-piece-end-requires
+piece-end-requires c κs = search needs
+
 add-result : tie.Need-add-result
 add-result c = search needs
 
 returns : tie.Need-returns
-returns c = rw (lt-ltb _ _ (c .if1 .taken))
+returns c = rw (← c .before .piece-end .ensures, lt-ltb _ _ (c .if1 .taken))
 
 returns-2 : tie.Need-returns-2
-returns-2 c = rw (le-ltb _ _ (c .if1 .left))
+returns-2 c = rw (← c .before .piece-end .ensures, le-ltb _ _ (c .if1 .left))
 
 pub offset-past-spec : {M : Type 1} → statement M
-offset-past-spec = tie.close (tie.spec add-result returns returns-2)
+offset-past-spec = tie.close (tie.spec piece-end-requires add-result returns returns-2)

@@ -1,37 +1,34 @@
 -- `reader::take_piece` meets its contract.
 use denote.Ref.{now}
-use mathlib.Core.Path.{_≡_}
-use native.Mathlib.Omega.{arith}
-use lib.ListN.{getD, List·getD-eq-default}
-use Rattle.reader.specs.Texts.{endsPiece}
-use Rattle.reader.proofs.Places.{end-in}
+use mathlib.Core.Path.{refl}
+use Rattle.reader.proofs.Passing as passing
 use borrow.Author.Needs.{needs}
 use Rattle.reader.proofs.place.take_piece.Statement.{statement}
 use Rattle.reader.proofs.place.take_piece.Tie as tie
 
-piece-end-requires : tie.Need-piece-end-requires
-piece-end-requires c κs = search needs
-
 place-past-requires : tie.Need-place-past-requires
-place-past-requires c κs =
-    let a = c .before .before .args in
-    let e = end-in endsPiece (now (a .s)) (a .place .offset) (c .before .before .pre .inside) in
-    (omega (arith, e, c .piece-end .ensures), omega (arith, c .piece-end .ensures, c .before .before .pre .counted))
+place-past-requires c κs = search needs
 
-shared-slice-read-t9 : tie.Need-shared-slice-read-t9
-shared-slice-read-t9 c = search needs
+closing-byte-requires : tie.Need-closing-byte-requires
+closing-byte-requires c κs =
+    let a = c .before .before .args in
+    passing.next-in (now (a .s)) (a .place) _ _ (c .before .before .pre) (c .place-past .ensures) refl
 
 returns : tie.Need-returns
 returns c =
-    rw (c .before .before .place-past .ensures, ← c .before .before .before .piece-end .ensures)
+    let a = c .before .before .before .before .args in
+    passing.taken-open (now (a .s)) (a .place) _ _ (c .before .before .before .before .pre) (c .before .before .place-past .ensures) (c .before .closing-byte .ensures) (c .if1 .taken)
+
+sub-t8 : tie.Need-sub-t8
+sub-t8 c =
+    let a = c .before .before .before .before .args in
+    passing.next-past (now (a .s)) (a .place) _ _ (c .before .before .before .before .pre) (c .before .before .place-past .ensures) (c .before .closing-byte .ensures) (c .if1 .left)
 
 returns-2 : tie.Need-returns-2
 returns-2 c =
-    let s = now (c .before .before .before .before .args .s) in
-    let none : getD s (c .before .before .piece-end .result) 0 ≡ 0 = List·getD-eq-default s 0 (c .if1 .left) in
-    rw (c .before .place-past .ensures, ← c .before .before .piece-end .ensures, none)
+    let a = c .before .before .before .before .args in
+    passing.taken-closed (now (a .s)) (a .place) _ _ (c .before .before .before .before .pre) (c .before .before .place-past .ensures) (c .before .closing-byte .ensures) (c .if1 .left)
 
 pub take-piece-spec : {M : Type 1} → statement M
 take-piece-spec =
-    tie.close
-    (tie.spec piece-end-requires place-past-requires shared-slice-read-t9 returns returns-2)
+    tie.close (tie.spec place-past-requires closing-byte-requires returns sub-t8 returns-2)

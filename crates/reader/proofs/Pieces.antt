@@ -21,7 +21,7 @@ negative-of none = refl
 negative-of (some n) = go (leb 1 n) (leb n 2147483648) refl refl
   where
     go : (t u : Bool) → leb 1 n ≡ t → leb n 2147483648 ≡ u
-        → asPiece (when (t && u) (L.Piece.literal (4294967296 - n))) ≡ cond (leb 1 (min n cap)) (cond (leb (min n cap) 2147483648) (PV.Literal (4294967296 - min n cap)) PV.Bad) PV.Bad
+        → asPiece (when (t && u) (L.Piece.literal (4294967296 - n))) ≡ cond (leb 1 (min n cap) && leb (min n cap) 2147483648) (PV.Literal (4294967296 - min n cap)) PV.Bad
     go true true e f =
         let hi : n ≤ 2147483648 = leb-true n 2147483648 f in
         let m : min n cap ≡ n = omega arith in
@@ -56,6 +56,15 @@ marking-of (some n) = refl
 valuing-of : (o : Option ℕ) → asPiece (bind o (λ n. some (L.Piece.valueOf n))) ≡ valuing (asFigure o)
 valuing-of none = refl
 valuing-of (some n) = refl
+
+-- a figure that a minus may stand before
+pub negative-in : (n : ℕ) → (leb 1 n && leb n 2147483648) ≡ true → (1 ≤ n) × (n ≤ 2147483648)
+negative-in n = go (leb 1 n) (leb n 2147483648) refl refl
+  where
+    go : (t u : Bool) → leb 1 n ≡ t → leb n 2147483648 ≡ u → (t && u) ≡ true → (1 ≤ n) × (n ≤ 2147483648)
+    go true true e f h = (leb-true 1 n e, leb-true n 2147483648 f)
+    go true false e f h = absurd (let z : _≡_ {A = ℕ} 0 1 = cc in omega arith)
+    go false u e f h = absurd (let z : _≡_ {A = ℕ} 0 1 = cc in omega arith)
 
 pub literal-none : (s : List ℕ) (i to : ℕ) → i ≡ to → asPiece (readLiteral (slice i to s)) ≡ PV.Bad
 unfolding readLiteral

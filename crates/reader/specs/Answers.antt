@@ -1,5 +1,5 @@
 -- What the reader gives for a piece, a figure, a number's field and a field of kinds.
-use mathlib.Core.Bool.{Bool, cond, _||_}
+use mathlib.Core.Bool.{Bool, cond, _&&_, _||_}
 use mathlib.Core.List.{List}
 use mathlib.Core.Option.{Option, none, some}
 use Prim.Native.Nat.{ℕ, _+_, _-_, _^_, min}
@@ -68,7 +68,7 @@ ifAlone from to p = cond (eqb from to) p PV.Bad
 -- a literal by its figure, after a minus and without one
 abbrev pub negative : Figure → Piece
 negative FV.Bad = PV.Bad
-negative (FV.Value v) = cond (leb 1 v) (cond (leb v halfRange) (PV.Literal (wordRange - v)) PV.Bad) PV.Bad
+negative (FV.Value v) = cond (leb 1 v && leb v halfRange) (PV.Literal (wordRange - v)) PV.Bad
 
 abbrev pub positive : Figure → Piece
 positive FV.Bad = PV.Bad

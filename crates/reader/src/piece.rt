@@ -1,10 +1,12 @@
 // Pieces of an expression. Document 01: "the pieces `#v` (a signed 32-bit literal), `n` (a name's value), `@n` .., `+ - * <`."
 ghost use mathlib.Core.Path.{_≡_};
+ghost use mathlib.Core.Bool.{_&&_};
 ghost use Prim.Native.Nat.{_≤_};
+ghost use lib.Dec.{leb};
 ghost use lib.ListN.{length};
 ghost use lib.Seq.{slice};
-ghost use Rattle.listing.specs.Expressions.{readLiteral};
-ghost use Rattle.reader.specs.Answers.{asPiece, pieceAnswer, ifAlone};
+ghost use Rattle.listing.specs.Expressions.{halfRange, readLiteral};
+ghost use Rattle.reader.specs.Answers.{asPiece, pieceAnswer, ifAlone, negative, positive};
 use crate::figure::Figure;
 use crate::figure::figure_of;
 
@@ -19,6 +21,42 @@ pub enum Piece {
     Bad,
 }
 
+// Whether a minus may stand before a figure. Document 01: "never `-0`".
+fn may_be_negative(n: u64) -> bool
+    ensures { λ r. ⌜ r ≡ (leb 1 n && leb n halfRange) ⌝ }
+{
+    if n < 1 {
+        return false;
+    }
+    n <= 2147483648
+}
+
+// A literal by its figure, after a minus.
+fn negative_literal(figure: Figure) -> Piece
+    ensures { λ r. ⌜ r ≡ negative figure ⌝ }
+{
+    let Figure::Value(n) = figure else {
+        return Piece::Bad;
+    };
+    if may_be_negative(n) {
+        return Piece::Literal((4294967296 - n) as u32);
+    }
+    Piece::Bad
+}
+
+// A literal by its figure, without a minus.
+fn positive_literal(figure: Figure) -> Piece
+    ensures { λ r. ⌜ r ≡ positive figure ⌝ }
+{
+    let Figure::Value(n) = figure else {
+        return Piece::Bad;
+    };
+    if n < 2147483648 {
+        return Piece::Literal(n as u32);
+    }
+    Piece::Bad
+}
+
 // A literal, from the byte after its sign #.
 fn literal_of(s: &[u8], from: usize, to: usize) -> Piece
     requires { ⌜ (from ≤ to) × (to ≤ length (now s)) ⌝ }
@@ -27,25 +65,10 @@ fn literal_of(s: &[u8], from: usize, to: usize) -> Piece
     if from == to {
         return Piece::Bad;
     }
-    if s[from] == 45 {
-        let Figure::Value(n) = figure_of(s, from + 1, to) else {
-            return Piece::Bad;
-        };
-        if n < 1 {
-            return Piece::Bad;
-        }
-        if n <= 2147483648 {
-            return Piece::Literal((4294967296 - n) as u32);
-        }
-        return Piece::Bad;
+    if s[from] == b'-' {
+        return negative_literal(figure_of(s, from + 1, to));
     }
-    let Figure::Value(m) = figure_of(s, from, to) else {
-        return Piece::Bad;
-    };
-    if m < 2147483648 {
-        return Piece::Literal(m as u32);
-    }
-    Piece::Bad
+    positive_literal(figure_of(s, from, to))
 }
 
 // The piece if nothing is left of its text.
@@ -68,17 +91,17 @@ pub fn piece_of(s: &[u8], from: usize, to: usize) -> Piece
     }
     let b = s[from];
     match b {
-        35 => literal_of(s, from + 1, to),
-        64 => {
+        b'#' => literal_of(s, from + 1, to),
+        b'@' => {
             let Figure::Value(n) = figure_of(s, from + 1, to) else {
                 return Piece::Bad;
             };
             Piece::Mark(n)
         }
-        43 => if_alone(from + 1, to, Piece::Plus),
-        45 => if_alone(from + 1, to, Piece::Minus),
-        42 => if_alone(from + 1, to, Piece::Times),
-        60 => if_alone(from + 1, to, Piece::Less),
+        b'+' => if_alone(from + 1, to, Piece::Plus),
+        b'-' => if_alone(from + 1, to, Piece::Minus),
+        b'*' => if_alone(from + 1, to, Piece::Times),
+        b'<' => if_alone(from + 1, to, Piece::Less),
         _ => {
             let Figure::Value(n) = figure_of(s, from, to) else {
                 return Piece::Bad;

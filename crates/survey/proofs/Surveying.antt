@@ -5,10 +5,10 @@ use mathlib.Core.List.{List, [], _∷_, _++_, map}
 use Prim.Native.Nat.{ℕ, suc, _+_, _-_, _≤_, _<_, min}
 use native.Mathlib.Omega.{arith}
 use native.Mathlib.Numerals.{add-one}
-use lib.ListN.{length, drop, take}
+use lib.ListN.{length, drop, take, replicate, take-append-drop}
 use borrow.Author.Tests.{lt-ltb}
-use lib.ListN.{set, length-set, length-take}
-use lib.Seq.{take-suc-set, append-snoc}
+use lib.ListN.{set, length-set, length-take, length-map}
+use lib.Seq.{take-suc-set, append-snoc, drop-set-lt, drop-drop}
 use Rattle.listing.specs.Limits.{routinesOn, namesOn}
 use Rattle.listing.specs.Questions.{place2, place3, listingIn}
 use Rattle.listing.specs.Listing as L
@@ -18,7 +18,7 @@ use Rattle.records.specs.Records.{asRecord}
 use Rattle.records.specs.declared.scope.Scope.{Scope}
 use Rattle.records.proofs.Lines.{NextLine, records-whole, records-end}
 use Rattle.records.specs.Onward.{Formed, recordsFrom}
-use Rattle.survey.specs.Surveys.{arity, SurveyFits, Surveyed, surveyOne, isInstruction}
+use Rattle.survey.specs.Surveys.{arity, SurveyFits, surveyOf, surveyOne, isInstruction}
 use Rattle.survey.specs.declared.counts.Counts.{Counts}
 use Rattle.survey.specs.declared.routines.Survey.{Survey}
 use Rattle.survey.proofs.LimitPass.{Limiting, limiting-begun, limits-hold, none-held, also}
@@ -44,39 +44,48 @@ arities-whole (L.Line.ports i o ∷ []) body-empty = arities-of []
 arities-whole (L.Line.ports i o ∷ (L.Line.opens kinds locals ∷ lines)) (body-opens p) = arities-of (L.Line.opens kinds locals ∷ lines)
 
 -- ── the survey ───────────────────────────────────────────────────────────────────
+one-less : (counts : List ℕ) (n : ℕ) → n < 64 → drop n counts ≡ replicate (64 - n) 0 → drop (n + 1) counts ≡ replicate (64 - (n + 1)) 0
+one-less counts n lt e =
+    let k : 64 - n ≡ suc (64 - (n + 1)) = omega arith in
+    let d : drop 1 (drop n counts) ≡ drop (n + 1) counts = drop-drop 1 n counts in
+    sym d ∙ ap (drop 1) e ∙ rw k
+
 pub record Surveying (s : List ℕ) (at line : ℕ) (survey : Survey) : Type 0 where
   pub held : Counts
   pub limiting : Limiting s at line held
   pub fits : SurveyFits survey
   pub number : held .routines ≡ survey .routines
   pub so-far : take (survey .routines) (survey .counts) ++ arities (recordsFrom line (drop at s)) ≡ map arity (listingIn s .routines)
+  pub behind : drop (survey .routines) (survey .counts) ≡ replicate (64 - survey .routines) 0
 
-pub surveying-begun : (s : List ℕ) → place2 s ≡ 0 → (counts : List ℕ) → length counts ≡ 64 → Surveying s 0 1 (record { counts = counts; routines = 0 })
+pub surveying-begun : (s : List ℕ) → place2 s ≡ 0 → Surveying s 0 1 (record { counts = replicate 64 0; routines = 0 })
 unfolding listingIn
-surveying-begun s e counts l =
+surveying-begun s e =
     record {
       held = none-held;
       limiting = limiting-begun s e;
-      fits = record { long = l; few = omega arith };
+      fits = record { long = refl; few = omega arith };
       number = refl;
+      behind = refl;
       so-far = sym (ap (λ (ls : List L.Line). map arity (listingOf ls .routines)) (sym (records-whole s)) ∙ arities-whole (recordsFrom 1 s) (body-of s e));
     }
 
 module _ (s : List ℕ) (at line : ℕ) (survey : Survey) (v : Surveying s at line survey) where
-  pub surveyed : length s ≤ at → Surveyed (listingIn s) survey
+  pub surveyed : length s ≤ at → survey ≡ surveyOf (listingIn s)
   unfolding arities
   surveyed h =
       let counts : take (survey .routines) (survey .counts) ≡ map arity (listingIn s .routines) =
       sym (append-none (take (survey .routines) (survey .counts))) ∙ ap (λ (ls : List L.Line). take (survey .routines) (survey .counts) ++ arities ls) (sym (records-end s at line h)) ∙ v .so-far in
-      record {
-        fits = v .fits;
-        counts = counts;
-        all-counted = omega (arith, ap length counts, length-take (survey .routines) (survey .counts), v .fits .long, v .fits .few, lib.ListN.length-map (listingIn s .routines) arity);
-      }
+      let number : survey .routines ≡ length (listingIn s .routines) = omega (arith, ap length counts, length-take (survey .routines) (survey .counts), v .fits .long, v .fits .few, length-map (listingIn s .routines) arity) in
+      let whole : survey .counts ≡ map arity (listingIn s .routines) ++ replicate (64 - survey .routines) 0 = sym (take-append-drop (survey .routines) (survey .counts)) ∙ rw (counts, v .behind) in
+      same-survey _ _ _ _ (whole ∙ rw number) number
     where
       append-none : (xs : List ℕ) → xs ++ [] ≡ xs
       append-none [] = refl
       append-none (x ∷ xs) = rw (append-none xs)
+
+      same-survey : (a b : List ℕ) (m n : ℕ) → a ≡ b → m ≡ n → _≡_ {A = Survey} (record { counts = a; routines = m }) (record { counts = b; routines = n })
+      same-survey a b m n e f = rw (e, f)
 
   module _ (met : place3 s ≡ 0) (n : NextLine s at line) (rs : List L.Routine) (scope : Scope) where
     abbrev rest : List L.Line
@@ -86,8 +95,8 @@ module _ (s : List ℕ) (at line : ℕ) (survey : Survey) (v : Surveying s at li
         → (also (v .held) l) .routines ≤ 64 → namesOn l ≤ 16 → Limiting s (lineEnd s at + 1) (line + 1) (also (v .held) l)
         → Surveying s (lineEnd s at + 1) (line + 1) (surveyOne survey (asRecord rs scope l))
     unfolding arities routinesOn namesOn
-    step (L.Line.ports i o) e h k m = record { held = also (v .held) (L.Line.ports i o); limiting = m; fits = v .fits; number = omega (arith, v .number); so-far = e }
-    step (L.Line.instruction i) e h k m = record { held = also (v .held) (L.Line.instruction i); limiting = m; fits = v .fits; number = omega (arith, v .number); so-far = e }
+    step (L.Line.ports i o) e h k m = record { held = also (v .held) (L.Line.ports i o); limiting = m; fits = v .fits; number = omega (arith, v .number); so-far = e; behind = v .behind }
+    step (L.Line.instruction i) e h k m = record { held = also (v .held) (L.Line.instruction i); limiting = m; fits = v .fits; number = omega (arith, v .number); so-far = e; behind = v .behind }
     step (L.Line.opens kinds locals) e h k m =
         let lt : survey .routines < 64 = omega (arith, v .number) in
         let small : min (length kinds) 100 ≡ length kinds = omega arith in
@@ -99,6 +108,7 @@ module _ (s : List ℕ) (at line : ℕ) (survey : Survey) (v : Surveying s at li
           fits = record { long = length-set (survey .counts) (survey .routines) (length kinds) ∙ v .fits .long; few = omega arith };
           number = omega (arith, v .number);
           so-far = ap (λ (xs : List ℕ). xs ++ arities rest) put ∙ append-snoc (take (survey .routines) (survey .counts)) (length kinds) (arities rest) ∙ e;
+          behind = drop-set-lt (survey .routines + 1) (survey .counts) (survey .routines) (length kinds) (omega arith) ∙ one-less (survey .counts) (survey .routines) lt (v .behind);
         })
 
     pub surveying-on : Surveying s (lineEnd s at + 1) (line + 1) (surveyOne survey (asRecord rs scope (n .line)))

@@ -8,7 +8,8 @@ use native.Mathlib.Numerals.{add-one}
 use lib.Dec.{eqb, ltb}
 use lib.ListN.{length, getD, drop, take}
 use borrow.Author.Tests.{eq-eqb, ne-eqb, leb-true, ltb-true, ltb-false, eqb-false, eqb-true}
-use lib.ListN.{length-map, List·getD-map, length-replicate}
+use lib.ListN.{replicate, length-append, length-map, List·getD-map, length-replicate}
+use lib.Seq.{take-at}
 use Rattle.listing.specs.Lists.{all, firstNoFrom, firstNo}
 use Rattle.listing.specs.Form.{mayStandOn}
 use Rattle.listing.specs.Limits.{namesOn, instructionsOn}
@@ -21,7 +22,7 @@ use Rattle.records.specs.Records.{asRecord, standIns}
 use Rattle.records.specs.declared.scope.Scope.{Scope}
 use Rattle.records.proofs.Lines.{NextLine, next-line, records-whole, records-end}
 use Rattle.records.specs.Onward.{recordsFrom}
-use Rattle.survey.specs.Surveys.{arity, Surveyed, statedIf, answersHere, movedHere}
+use Rattle.survey.specs.Surveys.{arity, surveyOf, statedIf, answersHere, movedHere}
 use Rattle.survey.specs.declared.counts.Counts.{Counts}
 use Rattle.survey.specs.declared.there.Here.{Here}
 use Rattle.survey.specs.declared.routines.Survey.{Survey}
@@ -127,6 +128,18 @@ unfolding codeOf
 few-code zero s at line held v met b = rw (records-end s at line (omega arith)) (omega (arith, v .limits .instructions))
 few-code (suc fuel) s at line held v met b = few-step s at line held v met (λ next more m h. few-code fuel s next (line + 1) more m met (omega arith))
 
+-- ── the survey ───────────────────────────────────────────────────────────────────
+module _ (listing : L.Listing) (survey : Survey) (e : survey ≡ surveyOf listing) where
+  pub all-counted : survey .routines ≡ length (listing .routines)
+  all-counted = ap (λ (r : Survey). r .routines) e
+
+  counts-are : take (survey .routines) (survey .counts) ≡ map arity (listing .routines)
+  counts-are = rw e (take-at (map arity (listing .routines)) _ (length (listing .routines)) (length-map (listing .routines) arity))
+
+  pub few-routines : length (survey .counts) ≡ 64 → survey .routines ≤ 64
+  few-routines l =
+      omega (arith, all-counted, ap (λ (r : Survey). length (r .counts)) e, length-append (map arity (listing .routines)) (replicate (64 - length (listing .routines)) 0), length-map (listing .routines) arity, length-replicate {A = ℕ} (64 - length (listing .routines)) 0)
+
 -- ── the pass ─────────────────────────────────────────────────────────────────────
 pub record There (s : List ℕ) (at line : ℕ) (here : Here) : Type 0 where
   pub held : Counts
@@ -160,7 +173,7 @@ module _ (s : List ℕ) (two : place2 s ≡ 0) (met : place3 s ≡ 0) where
     unfolding thereFrom firstNoFrom
     there-done h = sym (ap (λ (ls : List L.Line). firstNoFrom line (thereFrom (listingIn s) (here .unopened) (here .names) (here .size) ls)) (records-end s at line h)) ∙ v .same
 
-    module _ (n : NextLine s at line) (survey : Survey) (y : Surveyed (listingIn s) survey) (scope : Scope) (names-are : scope .names ≡ here .names) (size-is : scope .size ≡ here .size) where
+    module _ (n : NextLine s at line) (survey : Survey) (y : survey ≡ surveyOf (listingIn s)) (scope : Scope) (names-are : scope .names ≡ here .names) (size-is : scope .size ≡ here .size) where
       abbrev rs : List L.Routine
       rs = standIns (take (survey .routines) (survey .counts))
 
@@ -177,7 +190,7 @@ module _ (s : List ℕ) (two : place2 s ≡ 0) (met : place3 s ≡ 0) where
       short = omega (arith, few-code (length s) s (lineEnd s at + 1) (line + 1) (also (v .held) (n .line)) (limited .2) met (omega arith))
 
       same-arity : map arity rs ≡ map arity (listingIn s .routines)
-      same-arity = stand-in-arity (take (survey .routines) (survey .counts)) ∙ y .counts
+      same-arity = stand-in-arity (take (survey .routines) (survey .counts)) ∙ counts-are (listingIn s) survey y
 
       stated-capped : (main : Bool) (k i o a b : ℕ) (t : Bool) → k ≤ 16 → a ≡ min i cap → b ≡ min o cap → statedIf main k (a + b) t ≡ statedIf main k (i + o) t
       stated-capped false k i o a b t h p q = refl

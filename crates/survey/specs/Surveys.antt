@@ -1,10 +1,10 @@
 -- The routines of a listing as a pass over its lines finds them, and where the pass of question 4 is.
 use mathlib.Core.Path.{_≡_}
 use mathlib.Core.Bool.{Bool, true, false, _&&_}
-use mathlib.Core.List.{map}
-use Prim.Native.Nat.{ℕ, _+_, _≤_, min}
+use mathlib.Core.List.{map, _++_}
+use Prim.Native.Nat.{ℕ, _+_, _-_, _≤_, min}
 use lib.Dec.{eqb, ltb}
-use lib.ListN.{length, take, set}
+use lib.ListN.{length, replicate, set}
 use Rattle.listing.specs.Listing as L
 use Rattle.records.specs.declared.record.Record.{Record}
 use Rattle.records.specs.declared.record.Record.the-variants as CV
@@ -19,11 +19,11 @@ pub record SurveyFits (survey : Survey) : Type 0 where
   pub long : length (survey .counts) ≡ 64
   pub few : survey .routines ≤ 64
 
--- a survey of a listing's routines
-pub record Surveyed (listing : L.Listing) (survey : Survey) : Type 0 where
-  pub fits : SurveyFits survey
-  pub counts : take (survey .routines) (survey .counts) ≡ map arity (listing .routines)
-  pub all-counted : survey .routines ≡ length (listing .routines)
+-- the survey of a listing's routines: the arguments of each in order, and 0 behind the last
+abbrev pub surveyOf : L.Listing → Survey
+surveyOf listing =
+    let routines = length (listing .routines) in
+    record { counts = map arity (listing .routines) ++ replicate (64 - routines) 0; routines = routines }
 
 abbrev pub surveyOpens : Survey → ℕ → Bool → Survey
 surveyOpens survey arguments true = record { counts = set (survey .counts) (survey .routines) (min arguments 100); routines = survey .routines + 1 }

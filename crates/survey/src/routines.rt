@@ -6,14 +6,14 @@ ghost use lib.ListN.{length, drop};
 ghost use Rattle.listing.specs.Listing.{codeOf};
 ghost use Rattle.listing.specs.Questions.{place2, place3, listingIn};
 ghost use Rattle.records.specs.Onward.{Formed, recordsFrom};
-ghost use Rattle.survey.specs.Surveys.{SurveyFits, surveyOpens, surveyOne, Surveyed, isInstruction};
+ghost use Rattle.survey.specs.Surveys.{SurveyFits, surveyOf, surveyOpens, surveyOne, isInstruction};
 use reader::Place;
 use records::Line;
 use records::Record;
 use records::Scope;
 use records::read_line;
 
-// The number of routines, and how many arguments each takes.
+// How many arguments each routine takes, 0 behind the last, and the number of routines.
 pub struct Survey {
     pub counts: [u8; 64],
     pub routines: u8,
@@ -58,9 +58,10 @@ fn with_line(survey: Survey, r: Record) -> Survey
     }
 }
 
+// The routines of the whole listing.
 pub fn survey_routines(s: &[u8]) -> Survey
     requires { ⌜ (place2 (now s) ≡ 0) × (place3 (now s) ≡ 0) ⌝ }
-    ensures { λ r. ⌜ Surveyed (listingIn (now (s .entry))) r ⌝ }
+    ensures { λ r. ⌜ r ≡ surveyOf (listingIn (now (s .entry))) ⌝ }
 {
     let nothing = Scope {
         names: 0,

@@ -1,9 +1,10 @@
 -- `survey::there_place` meets its contract.
 use denote.Ref.{now}
-use mathlib.Core.Path.{refl, sym, ap, _∙_}
+use mathlib.Core.Path.{_≡_, refl, sym, ap, _∙_}
 use Prim.Native.Nat.{_-_}
 use native.Mathlib.Omega.{arith}
 use lib.ListN.{length}
+use Rattle.listing.specs.Questions.{listingIn}
 use Rattle.records.proofs.Lines as lines
 use Rattle.survey.proofs.Steps as steps
 use Rattle.survey.specs.Surveys.{answersHere, movedHere}
@@ -27,16 +28,17 @@ survey-routines-requires c κs =
 returns : tie.Need-returns Inv-loop μ-loop
 returns c =
     let y = c .before .before .survey-routines .ensures in
-    pass.main-missing (now (c .before .before .before .before .args .s)) (c .before .before .before .before .pre .0) (c .before .before .before .before .pre .1) (sym (y .all-counted) ∙ c .if1 .taken)
+    pass.main-missing (now (c .before .before .before .before .args .s)) (c .before .before .before .before .pre .0) (c .before .before .before .before .pre .1) (sym (pass.all-counted (listingIn (now (c .before .before .before .before .args .s))) _ y) ∙ c .if1 .taken)
 
 loop-holds : tie.Need-loop-holds Inv-loop μ-loop
 loop-holds c =
     let y = c .before .before .survey-routines .ensures in
-    pass.there-begun (now (c .before .before .before .before .args .s)) (c .before .before .before .before .pre .0) (c .before .before .before .before .pre .1) (λ z. c .if1 .left (y .all-counted ∙ z))
+    pass.there-begun (now (c .before .before .before .before .args .s)) (c .before .before .before .before .pre .0) (c .before .before .before .before .pre .1) (λ z. c .if1 .left (pass.all-counted (listingIn (now (c .before .before .before .before .args .s))) _ y ∙ z))
 
 read-line-requires : tie.Need-read-line-requires Inv-loop μ-loop
 read-line-requires c κs =
-    (c .before .before .loop .inv .limiting .formed .within, c .before .before .before .before .before .survey-routines .ensures .fits .few, c .before .before .before .before .before .survey-routines .ensures .fits .long)
+    let long : length (c .before .before .before .before .before .survey-routines .result .counts) ≡ 64 = search needs in
+    (c .before .before .loop .inv .limiting .formed .within, pass.few-routines (listingIn (now (c .before .before .before .before .before .before .before .args .s))) _ (c .before .before .before .before .before .survey-routines .ensures) long, long)
 
 enum-known-r : tie.Need-enum-known-r Inv-loop μ-loop
 enum-known-r c = search needs

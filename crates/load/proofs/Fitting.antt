@@ -14,8 +14,8 @@ use Rattle.listing.proofs.Tests.{and-left, and-right, all-head, all-tail, all-r
 use Rattle.table.specs.Areas.{allCode}
 use Rattle.table.proofs.Table.{Meets}
 use Rattle.table.proofs.Bounds.{main-ports, routines-some}
-use Rattle.load.specs.Writing.{Fits, AllFit, none, more}
-use Rattle.load.specs.Writing as W
+use Rattle.openings.specs.Lines as S
+use Rattle.load.specs.Writing.{AllFit, none, more}
 
 abbrev fewNames : Routine → Bool
 fewNames r = leb (nameCount r) 16
@@ -28,7 +28,7 @@ module _ (listing : Listing) (m : Meets listing) where
   code-fits names size n k (i ∷ code) rest others h f =
       let there = isThere (listing .routines) names size i in
       let after = allYes (map (isThere (listing .routines) names size) code ++ others) in
-      more (W.Fits.instruction (listing .routines) names size (and-left there after h) (m .routineCount) n k) (code-fits names size n k code rest others (and-right there after h) f)
+      more (S.Fits.instruction (listing .routines) names size (and-left there after h) (m .routineCount) n k) (code-fits names size n k code rest others (and-right there after h) f)
 
   routines-fit : (number : ℕ) (rs : List Routine) → allYes (routinesThere listing number rs) ≡ true → all fewNames rs ≡ true → length (allCode rs) ≤ 512
       → AllFit (routineLines rs)
@@ -41,7 +41,7 @@ module _ (listing : Listing) (m : Meets listing) where
       let code = map (isThere (listing .routines) (nameCount r) (length (r .code))) (r .code) in
       let rest = routinesThere listing (suc number) rs in
       let h' : allYes (code ++ rest) ≡ true = and-right stated (allYes (code ++ rest)) h in
-      more (W.Fits.opens {kinds = r .kinds} {locals = r .locals} (omega arith) (omega arith))
+      more (S.Fits.opens {kinds = r .kinds} {locals = r .locals} (omega arith) (omega arith))
       (code-fits (nameCount r) (length (r .code)) few (omega arith) (r .code) (routineLines rs) rest h'
       (routines-fit (suc number) rs (all-right (λ (b : Bool). b) code rest h') (all-tail fewNames r rs n) (omega arith)))
 
@@ -59,4 +59,4 @@ module _ (listing : Listing) (m : Meets listing) where
       let there : allYes (routinesThere listing 0 (listing .routines)) ≡ true =
       and-right (not (isEmpty (listing .routines))) (allYes (routinesThere listing 0 (listing .routines))) (m .there) in
       let few = few-ports (listing .routines) (routines-some listing m) there (m .names) in
-      more (W.Fits.ports {i = listing .inputs} {o = listing .outputs} (omega arith) (omega arith)) (routines-fit 0 (listing .routines) there (m .names) (m .instructionCount))
+      more (S.Fits.ports {i = listing .inputs} {o = listing .outputs} (omega arith) (omega arith)) (routines-fit 0 (listing .routines) there (m .names) (m .instructionCount))

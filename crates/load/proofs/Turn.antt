@@ -2,7 +2,7 @@
 use mathlib.Core.Path.{_≡_, refl, sym, ap, _∙_}
 use mathlib.Core.Bool.{true}
 use mathlib.Core.List.{List, [], _∷_, _++_, append-nil}
-use mathlib.Core.Option.{some}
+use mathlib.Core.Option.{Option, some}
 use Prim.Native.Nat.{ℕ, _+_, _*_, _≤_, _<_}
 use native.Mathlib.Omega.{arith}
 use lib.ListN.{length, drop, length-append}
@@ -23,8 +23,8 @@ use Rattle.records.specs.Records.{asLine}
 use Rattle.records.specs.declared.line.Line.the-variants as LV
 use Rattle.records.proofs.Lines.{NextLine, next-line}
 use Rattle.load.specs.Growing.{openedWith, withInstruction, lastCode, withLine, withLines}
-use Rattle.openings.specs.Lines.{WritesLine, lineAt}
-use Rattle.load.specs.Writing.{entered, advanced, wordsIn, Room, Fits, AllFit, Counted, Writing}
+use Rattle.openings.specs.Lines.{holdsOf, wordsAfter, Fits, Good, lineOf, WritesLine, lineAt}
+use Rattle.load.specs.Writing.{entered, advanced, wordsIn, Room, placeOf, progressAfter, wordsNext, AllFit, Counted, Writing}
 use Rattle.load.specs.Writing as W
 use Rattle.openings.specs.declared.line.Holds.{Holds}
 use Rattle.openings.specs.declared.line.Holds.the-variants as HV
@@ -62,32 +62,26 @@ pub record Put (p : Progress) (l : L.Listing) (x : L.Line) (holds : Holds) (t : 
   pub few : wordsIn holds ≤ 9400
   pub opened : (next : Place) → 3 ≤ p .line + 1 → 1 ≤ advanced p holds next .routines
 
-module _ (s t t₁ : List ℕ) (p : Progress) (l : L.Listing) (words : t ≡ tableWords l) (c : Counted p (l .routines)) (w : WrittenLine)
-    (writes : WritesLine s (record { offset = p .at; line = p .line }) (328 + 5 * p .instructions) (2888 + p .cells) t t₁ w) where
-  abbrev here : Place
-  here = record { offset = p .at; line = p .line }
-
-  put-ports : (i o : ℕ) → lineAt s here ≡ some (L.Line.ports i o) → i < 4294967296 → o < 4294967296 → p .line ≡ 1 → Put p l (L.Line.ports i o) (w .holds) t₁
+module _ (t t₁ : List ℕ) (p : Progress) (l : L.Listing) (words : t ≡ tableWords l) (c : Counted p (l .routines)) (h : Holds) where
+  put-ports : (i o : ℕ) → h ≡ HV.Ports i o → t₁ ≡ t → p .line ≡ 1 → Put p l (L.Line.ports i o) h t₁
   unfolding withLine
-  put-ports i o reads a b first =
-      let e = writes .ports i o reads a b in
-      rw (e .0, e .1, words) (record {
+  put-ports i o eh et first =
+      rw (eh, et, words) (record {
         words = ports-written l i o;
         counted = λ next. record { routines = c .routines; instructions = c .instructions; cells = c .cells; code = c .code };
         few = omega arith;
         opened = λ next h. absurd (let z : ⊥ = omega (arith, h, first) in z);
       })
 
-  put-opens : (kinds : List L.Kind) (locals : ℕ) → lineAt s here ≡ some (L.Line.opens kinds locals) → length kinds ≤ 16 → locals < 4294967296
-      → Ample (withLine l (L.Line.opens kinds locals) .routines) → Put p l (L.Line.opens kinds locals) (w .holds) t₁
+  put-opens : (kinds : List L.Kind) (locals : ℕ) → h ≡ holdsOf (L.Line.opens kinds locals) → t₁ ≡ t
+      → Ample (withLine l (L.Line.opens kinds locals) .routines) → Put p l (L.Line.opens kinds locals) h t₁
   unfolding withLine allCode
-  put-opens kinds locals reads a b ample =
-      let e = writes .opens kinds locals reads a b in
+  put-opens kinds locals eh et ample =
       let rs = l .routines in
       let one : List L.Routine = openedWith kinds locals ∷ [] in
       let n = length-append rs one in
       let code : allCode (rs ++ one) ≡ allCode rs = code-append rs one ∙ append-nil (allCode rs) in
-      rw (e .0, e .1, words) (record {
+      rw (eh, et, words) (record {
         words = rw (c .routines, c .instructions) (opens-written l kinds locals (omega (arith, n, ample .routines)));
         counted = λ next. record {
           routines = omega (arith, n, c .routines);
@@ -99,11 +93,10 @@ module _ (s t t₁ : List ℕ) (p : Progress) (l : L.Listing) (words : t ≡ tab
         opened = λ next h. omega arith;
       })
 
-  put-instruction : (i : L.Instruction) → lineAt s here ≡ some (L.Line.instruction i) → Fits (L.Line.instruction i) → 1 ≤ p .routines
-      → Ample (withLine l (L.Line.instruction i) .routines) → Put p l (L.Line.instruction i) (w .holds) t₁
+  put-instruction : (i : L.Instruction) → h ≡ holdsOf (L.Line.instruction i) → t₁ ≡ wordsAfter (L.Line.instruction i) (328 + 5 * p .instructions) (2888 + p .cells) t
+      → 1 ≤ p .routines → Ample (withLine l (L.Line.instruction i) .routines) → Put p l (L.Line.instruction i) h t₁
   unfolding withLine
-  put-instruction i reads (W.Fits.instruction routines names size there f g h) some' ample =
-      let e = writes .instruction i routines names size reads there f g h in
+  put-instruction i eh et some' ample =
       let rs = l .routines in
       let some : 1 ≤ length rs = omega (arith, some', c .routines) in
       let a = added rs i some in
@@ -111,7 +104,7 @@ module _ (s t t₁ : List ℕ) (p : Progress) (l : L.Listing) (words : t ≡ tab
       let cells : length (allCells (allCode (withInstruction rs i))) ≡ length (allCells (allCode rs)) + length (cellWords i) =
       ap (λ (is : List L.Instruction). length (allCells is)) (a .code) ∙ all-cells-one (allCode rs) i in
       let last : length (lastCode (withInstruction rs i)) ≡ length (lastCode rs) + 1 = ap length (a .last) ∙ length-append (lastCode rs) (i ∷ []) in
-      rw (e .0, e .1, words) (record {
+      rw (eh, et, words) (record {
         words = rw (c .routines, c .instructions, c .cells, c .code) (instruction-written l i some (omega (arith, a .routines, ample .routines)) (omega (arith, code, ample .code)) (omega (arith, cells, ample .cells)));
         counted = λ next. record {
           routines = c .routines ∙ sym (a .routines);
@@ -123,12 +116,12 @@ module _ (s t t₁ : List ℕ) (p : Progress) (l : L.Listing) (words : t ≡ tab
         opened = λ next h. some';
       })
 
-  pub put-line : (x : L.Line) → lineAt s here ≡ some x → mayStandOn (p .line) x ≡ true → Fits x → (3 ≤ p .line → 1 ≤ p .routines)
-      → Ample (withLine l x .routines) → Put p l x (w .holds) t₁
+  pub put-line : (x : L.Line) → h ≡ holdsOf x → t₁ ≡ wordsAfter x (328 + 5 * p .instructions) (2888 + p .cells) t → mayStandOn (p .line) x ≡ true → (3 ≤ p .line → 1 ≤ p .routines)
+      → Ample (withLine l x .routines) → Put p l x h t₁
   unfolding mayStandOn
-  put-line (L.Line.ports i o) reads stands (W.Fits.ports a b) opened ample = put-ports i o reads a b (eqb-true (p .line) 1 stands)
-  put-line (L.Line.opens kinds locals) reads stands (W.Fits.opens a b) opened ample = put-opens kinds locals reads a b ample
-  put-line (L.Line.instruction i) reads stands fits opened ample = put-instruction i reads fits (opened (leb-true 3 (p .line) stands)) ample
+  put-line (L.Line.ports i o) eh et stands opened ample = put-ports i o eh et (eqb-true (p .line) 1 stands)
+  put-line (L.Line.opens kinds locals) eh et stands opened ample = put-opens kinds locals eh et ample
+  put-line (L.Line.instruction i) eh et stands opened ample = put-instruction i eh et (opened (leb-true 3 (p .line) stands)) ample
 
 -- ── the turn ─────────────────────────────────────────────────────────────────────
 first-fits : {x : L.Line} {xs : List L.Line} → AllFit (x ∷ xs) → Fits x × AllFit xs
@@ -178,10 +171,16 @@ module _ (s : List ℕ) (loads : Loads s (listingIn s)) (t : List ℕ) (p : Prog
     ample : Ample (grown .routines)
     ample = ample-if (grown .routines) (rw (← left) (lines-grow grown rest))
 
-    module _ (w : WrittenLine) (t₁ : List ℕ)
-        (writes : WritesLine s (record { offset = p .at; line = p .line }) (328 + 5 * p .instructions) (2888 + p .cells) t t₁ w) where
+    pub good : Good (lineAt s (placeOf p))
+    good = record { line = n .line; reads = n .read; fits = fits .0 }
+
+    module _ (w : WrittenLine) (t₁ : List ℕ) (writes : WritesLine s (placeOf p) (328 + 5 * p .instructions) (2888 + p .cells) t t₁ w) where
       put : Put p (v .so-far) (n .line) (w .holds) t₁
-      put = put-line s t t₁ p (v .so-far) (v .words) (v .counted) w writes (n .line) (n .read) (n .stands) (fits .0) (v .opened) ample
+      put =
+          let holds : w .holds ≡ holdsOf (n .line) = ap (λ (r : WrittenLine). r .holds) (writes .answer) ∙ ap (λ (o : Option L.Line). holdsOf (lineOf o)) (n .read) in
+          let words : t₁ ≡ wordsAfter (n .line) (328 + 5 * p .instructions) (2888 + p .cells) t =
+          writes .words ∙ ap (λ (o : Option L.Line). wordsAfter (lineOf o) (328 + 5 * p .instructions) (2888 + p .cells) t) (n .read) in
+          put-line t t₁ p (v .so-far) (v .words) (v .counted) (w .holds) (n .line) holds words (n .stands) (v .opened) ample
 
       pub room : Room p (w .holds)
       room =
@@ -193,7 +192,7 @@ module _ (s : List ℕ) (loads : Loads s (listingIn s)) (t : List ℕ) (p : Prog
           let a : asLine [] (record { names = 0; size = 0; routines = 0 }) (some (n .line)) _ (passed s (p .line) (lineEnd s (p .at))) ≡ LV.Is _ 10 (record { offset = lineEnd s (p .at) + 1; line = p .line + 1 }) =
           rw (n .read) at (n .answer [] (record { names = 0; size = 0; routines = 0 })) in
           let e : passed s (p .line) (lineEnd s (p .at)) ≡ record { offset = lineEnd s (p .at) + 1; line = p .line + 1 } = cc a in
-          writes .next (n .line) (n .read) ∙ e
+          ap (λ (r : WrittenLine). r .next) (writes .answer) ∙ e
 
       module _ (t₂ : List ℕ) (q : Progress) (enters : t₂ ≡ entered p (w .holds) t₁) (advances : q ≡ advanced p (w .holds) (w .next)) where
         at-is : q .at ≡ lineEnd s (p .at) + 1
@@ -201,6 +200,12 @@ module _ (s : List ℕ) (loads : Loads s (listingIn s)) (t : List ℕ) (p : Prog
 
         line-is : q .line ≡ p .line + 1
         line-is = ap (λ (r : Progress). r .line) advances ∙ (advanced-line p (w .holds) (w .next) ∙ ap (λ (m : Place). m .line) next-is)
+
+        pub words-are : t₂ ≡ wordsNext s p t
+        words-are = enters ∙ (ap (λ (r : WrittenLine). entered p (r .holds) t₁) (writes .answer) ∙ ap (entered p (holdsOf (lineOf (lineAt s (placeOf p))))) (writes .words))
+
+        pub progress-is : q ≡ progressAfter s p
+        progress-is = advances ∙ ap (λ (r : WrittenLine). advanced p (r .holds) (r .next)) (writes .answer)
 
         pub moved : p .at < q .at
         moved = omega (arith, at-is)

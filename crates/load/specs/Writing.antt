@@ -1,17 +1,18 @@
 -- The table while it is written: after each line it is the table of what the lines so far say.
 use mathlib.Core.Path.{_≡_}
-use mathlib.Core.Bool.{true}
 use mathlib.Core.List.{List, [], _∷_}
-use Prim.Native.Nat.{ℕ, _+_, _*_, _≤_, _<_}
+use Prim.Native.Nat.{ℕ, _+_, _*_, _≤_}
 use lib.ListN.{length, drop, set}
 use lib.Seq.{sets}
 use Rattle.listing.specs.Listing as L
-use Rattle.listing.specs.Expressions.{wordRange}
-use Rattle.listing.specs.Questions.{isThere, listingIn}
+use Rattle.listing.specs.Questions.{listingIn}
 use Rattle.table.specs.Areas.{tableWords, allCode, allCells}
+use Rattle.reader.specs.Texts.{lineEnd}
+use Rattle.reader.specs.Answers.{passed}
 use Rattle.reader.specs.declared.place.Place.{Place}
 use Rattle.records.specs.Onward.{recordsFrom, Formed}
 use Rattle.load.specs.Growing.{lastCode, withLines}
+use Rattle.openings.specs.Lines.{holdsOf, wordsAfter, Fits, lineOf, lineAt}
 use Rattle.openings.specs.declared.line.Holds.{Holds}
 use Rattle.openings.specs.declared.line.Holds.the-variants as HV
 use Rattle.load.specs.declared.progress.Progress.{Progress}
@@ -46,13 +47,20 @@ pub record Room (p : Progress) (holds : Holds) : Type 0 where
   pub code : p .code ≤ 512
   pub more : wordsIn holds ≤ 9400
 
--- ── lines whose figures fit their words ──────────────────────────────────────────
-pub data Fits : L.Line → Type 0 where
-  ports : {i o : ℕ} → i < wordRange → o < wordRange → Fits (L.Line.ports i o)
-  opens : {kinds : List L.Kind} {locals : ℕ} → length kinds ≤ 16 → locals < wordRange → Fits (L.Line.opens kinds locals)
-  instruction : {i : L.Instruction} (routines : List L.Routine) (names size : ℕ) → isThere routines names size i ≡ true
-      → length routines ≤ 64 → names ≤ 16 → size ≤ 512 → Fits (L.Line.instruction i)
+-- ── the next line ────────────────────────────────────────────────────────────────
+abbrev pub placeOf : Progress → Place
+placeOf p = record { offset = p .at; line = p .line }
 
+-- the counts after it, and the words: its entry and cells behind those of the instructions so far, then the header and the routine entries
+abbrev pub progressAfter : List ℕ → Progress → Progress
+progressAfter s p = advanced p (holdsOf (lineOf (lineAt s (placeOf p)))) (passed s (p .line) (lineEnd s (p .at)))
+
+abbrev pub wordsNext : List ℕ → Progress → List ℕ → List ℕ
+wordsNext s p t =
+    let line = lineOf (lineAt s (placeOf p)) in
+    entered p (holdsOf line) (wordsAfter line (328 + 5 * p .instructions) (2888 + p .cells) t)
+
+-- ── lines that are written ───────────────────────────────────────────────────────
 pub data AllFit : List L.Line → Type 0 where
   none : AllFit []
   more : {line : L.Line} {lines : List L.Line} → Fits line → AllFit lines → AllFit (line ∷ lines)

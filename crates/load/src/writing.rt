@@ -5,7 +5,7 @@ ghost use lib.ListN.{length};
 ghost use Rattle.listing.specs.Load.{Loads};
 ghost use Rattle.listing.specs.Questions.{listingIn};
 ghost use Rattle.table.specs.Areas.{tableWords};
-ghost use Rattle.load.specs.Writing.{Writing};
+ghost use Rattle.load.specs.Writing.{progressAfter, wordsNext, Writing};
 use crate::progress::Progress;
 use crate::progress::advance;
 use crate::progress::enter;
@@ -16,7 +16,7 @@ use writer::write_line;
 // The next line: its words, and what it adds to header and routine entries.
 fn write_next(s: &[u8], t: &mut [u32], p: Progress) -> Progress
     requires { ⌜ Loads (now s) (listingIn (now s)) × Writing (now s) (now t) p × (p .at < length (now s)) ⌝ }
-    ensures { λ r. ⌜ Writing (now (s .entry)) (now (t .exit)) r × (p .at < r .at) ⌝ }
+    ensures { λ r. ⌜ (r ≡ progressAfter (now (s .entry)) p) × (now (t .exit) ≡ wordsNext (now (s .entry)) p (now (t .entry))) × Writing (now (s .entry)) (now (t .exit)) r × (p .at < r .at) ⌝ }
 {
     let at = p.at;
     let line = p.line;

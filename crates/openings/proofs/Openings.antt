@@ -9,7 +9,7 @@ use lib.Dec.{eqb}
 use lib.ListN.{length, getD, drop}
 use lib.Seq.{slice, slice-cons, slice-empty, length-slice}
 use borrow.Author.Tests.{eqb-true, eqb-false}
-use Rattle.listing.specs.Expressions.{each, alone}
+use Rattle.listing.specs.Expressions.{wordRange, each, alone}
 use Rattle.listing.specs.Form.{Field, nextField, noneLeft, onePiece, readNumber, readKind, readKinds, readPorts, readOpens}
 use Rattle.listing.specs.Listing as L
 use Rattle.listing.proofs.Splits.{split-has-part}
@@ -20,15 +20,16 @@ use Rattle.reader.specs.declared.place.Place.{Place}
 use Rattle.reader.specs.declared.place.Taken.{Taken}
 use Rattle.reader.proofs.Places.{pieces-turn, pieces-last, field-last, before-slice, end-in, passed-in}
 use Rattle.records.specs.Records.{endNext}
-use Rattle.records.proofs.Chain.{next-shut}
-use Rattle.openings.specs.Kinds.{kindBit, bitsOf, KindsOf}
-use Rattle.openings.specs.Lines.{WritesRest}
+use Rattle.records.proofs.Chain.{first, next-shut}
+use Rattle.openings.specs.Kinds.{kindBit, bitsOf, FewKinds, kindsOf, kindsAnswer}
+use Rattle.openings.specs.Lines.{holdsOf, wordsAfter, Fits, Good, lineOf, heldFor}
+use Rattle.openings.specs.Lines as S
 use Rattle.cells.specs.Words.{wordAnswer}
 use Rattle.openings.specs.declared.opens.Kinds.{Kinds}
 use Rattle.cells.specs.declared.word.Word.{Word}
+use Rattle.openings.specs.declared.line.Holds.{Holds}
 use Rattle.openings.specs.declared.line.Holds.the-variants as HV
-use Rattle.openings.specs.declared.line.WrittenLine.{WrittenLine}
-use Rattle.cells.proofs.Fields.{stopOf, nextOf, field-was, shut-was, last-was, word-read-is, WordIs, word-known, each-more, each-none, each-length}
+use Rattle.cells.proofs.Fields.{stopOf, nextOf, field-was, shut-was, last-was, word-read-is, word-known, each-more, each-none, each-length}
 
 -- ── a field of one piece ─────────────────────────────────────────────────────────
 module _ {A : Type 0} (f : List ℕ → Option A) (s : List ℕ) (c : Place) (x : A) (h : onePiece f (fieldPieces s (c .offset)) ≡ some x) where
@@ -155,123 +156,161 @@ module _ (s : List ℕ) (from to : ℕ) (h : from ≤ to) (k : to ≤ length s) 
   text-length : length text ≡ to - from
   text-length = length-slice from to s k
 
-  text-more : (from ≡ to → ⊥) → text ≡ getD s from 0 ∷ slice (suc from) to s
-  text-more n = slice-cons from to s 0 (omega (arith, n)) k
+  text-more : from < to → text ≡ getD s from 0 ∷ slice (suc from) to s
+  text-more l = slice-cons from to s 0 l k
 
-  were : (n : from ≡ to → ⊥) (kinds : List L.Kind) → readKinds text ≡ some kinds → KindsWere (getD s from 0) (slice (suc from) to s) kinds
-  were n kinds e = kinds-were (getD s from 0) (slice (suc from) to s) kinds (ap readKinds (sym (text-more n)) ∙ e)
+  module _ (g : FewKinds text) where
+    pub some-letter : from < to
+    unfolding readKinds
+    some-letter = go text refl
+      where
+        go : (l : List ℕ) → text ≡ l → from < to
+        go [] e = absurd (let f : none ≡ some (g .kinds) = ap readKinds (sym e) ∙ g .reads in let z : _≡_ {A = ℕ} 0 1 = cc in omega arith)
+        go (x ∷ l) e = omega (arith, text-length, ap length e)
 
-  pub kinds-over : 16 < to - from → (r : Kinds) → KindsOf text r
-  kinds-over l r kinds e m = absurd (go (were (λ (i : from ≡ to). omega arith) kinds e))
-    where
-      go : KindsWere (getD s from 0) (slice (suc from) to s) kinds → ⊥
-      go (dash i j q) = omega (arith, text-length, ap length (text-more (λ (i : from ≡ to). omega arith)), ap length j)
-      go (letters n i) = omega (arith, text-length, ap length (text-more (λ (i : from ≡ to). omega arith)), each-length readKind (getD s from 0 ∷ slice (suc from) to s) kinds i)
+    were : KindsWere (getD s from 0) (slice (suc from) to s) (g .kinds)
+    were = kinds-were (getD s from 0) (slice (suc from) to s) (g .kinds) (ap readKinds (sym (text-more some-letter)) ∙ g .reads)
 
-  pub kinds-empty : from ≡ to → (r : Kinds) → KindsOf text r
-  unfolding readKinds
-  kinds-empty i r kinds e m =
-      let no : text ≡ [] = ap (λ (j : ℕ). slice j to s) i ∙ slice-empty to s in
-      let f : none ≡ some kinds = ap readKinds (sym no) ∙ e in
-      absurd (let z : _≡_ {A = ℕ} 0 1 = cc in omega arith)
+    answer-is : (count bits : ℕ) → count ≡ length (g .kinds) → bits ≡ kindBits (g .kinds) → record { count = count; bits = bits } ≡ kindsAnswer text
+    answer-is count bits i j = rw (i, j) (ap (λ (o : Option (List L.Kind)). record { count = length (kindsOf o); bits = kindBits (kindsOf o) }) (sym (g .reads)))
 
-  pub kinds-none : (from ≡ to → ⊥) → getD s from 0 ≡ 45 → KindsOf text (record { count = 0; bits = 0 })
-  unfolding kindBits
-  kinds-none n i kinds e m = go (were n kinds e)
-    where
-      go : KindsWere (getD s from 0) (slice (suc from) to s) kinds → (0 ≡ length kinds) × (0 ≡ kindBits kinds)
-      go (dash i j q) = rw q (refl, refl)
-      go (letters o j) = absurd (o i)
+    pub kinds-none : getD s from 0 ≡ 45 → record { count = 0; bits = 0 } ≡ kindsAnswer text
+    unfolding kindBits
+    kinds-none i = go were
+      where
+        go : KindsWere (getD s from 0) (slice (suc from) to s) (g .kinds) → record { count = 0; bits = 0 } ≡ kindsAnswer text
+        go (dash i j q) = answer-is 0 0 (rw q) (rw q)
+        go (letters o j) = absurd (o i)
 
-  pub kinds-some : (from ≡ to → ⊥) → (getD s from 0 ≡ 45 → ⊥) → (bits : ℕ) → bits ≡ bitsOf text → KindsOf text (record { count = to - from; bits = bits })
-  kinds-some n o bits b kinds e m = go (were n kinds e)
-    where
-      go : KindsWere (getD s from 0) (slice (suc from) to s) kinds → (to - from ≡ length kinds) × (bits ≡ kindBits kinds)
-      go (dash i j q) = absurd (o i)
-      go (letters p i) =
-          let l = each-length readKind (getD s from 0 ∷ slice (suc from) to s) kinds i in
-          (omega (arith, text-length, l, ap length (text-more n)), b ∙ ap bitsOf (text-more n) ∙ bits-are (getD s from 0 ∷ slice (suc from) to s) kinds i)
+    module _ (o : getD s from 0 ≡ 45 → ⊥) where
+      letters-read : each readKind (getD s from 0 ∷ slice (suc from) to s) ≡ some (g .kinds)
+      letters-read = go were
+        where
+          go : KindsWere (getD s from 0) (slice (suc from) to s) (g .kinds) → each readKind (getD s from 0 ∷ slice (suc from) to s) ≡ some (g .kinds)
+          go (dash i j q) = absurd (o i)
+          go (letters p i) = i
+
+      pub kinds-number : to - from ≡ length (g .kinds)
+      kinds-number =
+          let l = each-length readKind (getD s from 0 ∷ slice (suc from) to s) (g .kinds) letters-read in
+          omega (arith, text-length, l, ap length (text-more some-letter))
+
+      pub kinds-some : (bits : ℕ) → bits ≡ bitsOf text → record { count = to - from; bits = bits } ≡ kindsAnswer text
+      kinds-some bits b =
+          answer-is (to - from) bits kinds-number
+          (b ∙ ap bitsOf (text-more some-letter) ∙ bits-are (getD s from 0 ∷ slice (suc from) to s) (g .kinds) letters-read)
 
 -- ── the two lines ────────────────────────────────────────────────────────────────
-module _ (s : List ℕ) (c : Place) (b : ℕ) (w : Within s (c .offset) (c .line)) (inputs : Word) (ei : inputs ≡ wordAnswer s c b)
-    (outputs : Word) (eo : outputs ≡ wordAnswer s (inputs .next) (inputs .stop)) where
-  abbrev portsHeld : WrittenLine
-  portsHeld = record { holds = HV.Ports (inputs .value) (outputs .value); next = outputs .next }
+pub held-is : (o : Option L.Line) (x : L.Line) (h : Holds) (next end : Place) → o ≡ some x → h ≡ holdsOf x → next ≡ end → record { holds = h; next = next } ≡ heldFor o end
+held-is o x h next end e i j = rw (e, i, j)
 
-  record PortsWere (x : L.Line) : Type 0 where
+-- what fits, taken apart
+ports-fit : {i o : ℕ} → Fits (L.Line.ports i o) → (i < wordRange) × (o < wordRange)
+ports-fit (S.Fits.ports l m) = (l, m)
+
+opens-fit : {kinds : List L.Kind} {locals : ℕ} → Fits (L.Line.opens kinds locals) → (length kinds ≤ 16) × (locals < wordRange)
+opens-fit (S.Fits.opens l m) = (l, m)
+
+module _ (s : List ℕ) (c : Place) (b : ℕ) (w : Within s (c .offset) (c .line)) where
+  abbrev fields : List Field
+  fields = fieldsLeft b (drop (c .offset) s)
+
+  -- ── `P` ────────────────────────────────────────────────────────────────────────
+  record PortsWere : Type 0 where
     i : ℕ
     o : ℕ
-    is : x ≡ L.Line.ports i o
-    first : WordIs s c i inputs
-    second : WordIs s (nextOf s c) o outputs
-    end : outputs .next ≡ endNext s c b
+    reads : readPorts fields ≡ some (L.Line.ports i o)
+    fits : Fits (L.Line.ports i o)
+    first-is : first readNumber s c b ≡ some i
+    second-is : first readNumber s (nextOf s c) (stopOf s c) ≡ some o
+    end : nextOf s (nextOf s c) ≡ endNext s c b
 
-  ports-were : (x : L.Line) → readPorts (fieldsLeft b (drop (c .offset) s)) ≡ some x → PortsWere x
-  ports-were x h =
-      let f = field-was readNumber s c b (λ i fields. nextField readNumber fields (λ o fields. noneLeft fields (L.Line.ports i o))) x w h in
+  ports-were : Good (readPorts fields) → PortsWere
+  ports-were g =
+      let x = g .line in
+      let f = field-was readNumber s c b (λ i fields. nextField readNumber fields (λ o fields. noneLeft fields (L.Line.ports i o))) x w (g .reads) in
       let c₁ = nextOf s c in
-      let g = field-was readNumber s c₁ (stopOf s c) (λ o fields. noneLeft fields (L.Line.ports (f .value) o)) x (f .got .within) (f .rest) in
-      let first = word-known s c b (f .value) inputs (f .is) ei in
-      let stop : inputs .stop ≡ stopOf s c = ap (λ (v : Word). v .stop) (ei ∙ word-read-is s c b (f .value) (f .is)) in
-      let second = word-known s c₁ (stopOf s c) (g .value) outputs (g .is) (eo ∙ rw (first .next, stop)) in
-      let shut = shut-was s (nextOf s c₁ .offset) (stopOf s c₁) (L.Line.ports (f .value) (g .value)) x (g .rest) in
+      let h = field-was readNumber s c₁ (stopOf s c) (λ o fields. noneLeft fields (L.Line.ports (f .value) o)) x (f .got .within) (f .rest) in
+      let line = L.Line.ports (f .value) (h .value) in
+      let is : x ≡ line = last-was s (nextOf s c₁ .offset) (stopOf s c₁) line x (h .rest) in
+      let shut = shut-was s (nextOf s c₁ .offset) (stopOf s c₁) line x (h .rest) in
       record {
         i = f .value;
-        o = g .value;
-        is = last-was s (nextOf s c₁ .offset) (stopOf s c₁) (L.Line.ports (f .value) (g .value)) x (g .rest);
-        first = first;
-        second = second;
-        end = second .next ∙ sym (next-shut s (nextOf s c₁) (stopOf s c₁) shut) ∙ g .got .nexts ∙ f .got .nexts;
+        o = h .value;
+        reads = g .reads ∙ ap (λ (l : L.Line). some l) is;
+        fits = rw is at (g .fits);
+        first-is = f .is;
+        second-is = h .is;
+        end = sym (next-shut s (nextOf s c₁) (stopOf s c₁) shut) ∙ h .got .nexts ∙ f .got .nexts;
       }
 
-  pub ports-held : (t : List ℕ) (e a : ℕ) → WritesRest readPorts s c b e a t t portsHeld
-  ports-held t e a =
-      record {
-        ports = λ i o q l m. let p = ports-were (L.Line.ports i o) q in let u = p .is in let y : p .i ≡ i = cc in let z : p .o ≡ o = cc in
-            (ap (λ (v : ℕ). HV.Ports v (outputs .value)) (p .first .value (rw y l) ∙ y) ∙ ap (HV.Ports i) (p .second .value (rw z m) ∙ z), refl);
-        opens = λ k n q l m. absurd (let p = ports-were (L.Line.opens k n) q in let u = p .is in let z : _≡_ {A = ℕ} 0 1 = cc in omega arith);
-        instruction = λ i routines names size q there l m n. absurd (let p = ports-were (L.Line.instruction i) q in let u = p .is in let z : _≡_ {A = ℕ} 0 1 = cc in omega arith);
-        next = λ x q. ports-were x q .end;
-      }
+  -- it writes no word
+  pub ports-keep : Good (readPorts fields) → (e a : ℕ) (t : List ℕ) → t ≡ wordsAfter (lineOf (readPorts fields)) e a t
+  ports-keep g e a t = ap (λ (o : Option L.Line). wordsAfter (lineOf o) e a t) (sym (ports-were g .reads))
 
-module _ (s : List ℕ) (c : Place) (b : ℕ) (w : Within s (c .offset) (c .line)) (p : Taken) (ep : p ≡ takenAt s c) (kinds : Kinds) (ek : KindsOf (slice (p .from) (p .to) s) kinds)
-    (locals : Word) (el : locals ≡ wordAnswer s (p .next) (p .stop)) where
-  abbrev opensHeld : WrittenLine
-  opensHeld = record { holds = HV.Opens (kinds .count) (kinds .bits) (locals .value); next = locals .next }
+  pub ports-held : Good (readPorts fields) → (inputs : Word) → inputs ≡ wordAnswer s c b → (outputs : Word) → outputs ≡ wordAnswer s (inputs .next) (inputs .stop)
+      → record { holds = HV.Ports (inputs .value) (outputs .value); next = outputs .next } ≡ heldFor (readPorts fields) (endNext s c b)
+  ports-held g inputs ei outputs eo = go (ports-were g)
+    where
+      go : PortsWere → record { holds = HV.Ports (inputs .value) (outputs .value); next = outputs .next } ≡ heldFor (readPorts fields) (endNext s c b)
+      go p =
+          let is = word-known s c b (p .i) inputs (p .first-is) ei in
+          let stop : inputs .stop ≡ stopOf s c = ap (λ (v : Word). v .stop) (ei ∙ word-read-is s c b (p .i) (p .first-is)) in
+          let os = word-known s (nextOf s c) (stopOf s c) (p .o) outputs (p .second-is) (eo ∙ rw (is .next, stop)) in
+          let l = ports-fit (p .fits) in
+          held-is (readPorts fields) (L.Line.ports (p .i) (p .o)) (HV.Ports (inputs .value) (outputs .value)) (outputs .next) (endNext s c b) (p .reads)
+          (ap (λ (v : ℕ). HV.Ports v (outputs .value)) (is .value (l .0)) ∙ ap (HV.Ports (p .i)) (os .value (l .1))) (os .next ∙ p .end)
 
-  record OpensWere (x : L.Line) : Type 0 where
-    kindsRead : List L.Kind
-    number : ℕ
-    is : x ≡ L.Line.opens kindsRead number
-    text : readKinds (slice (p .from) (p .to) s) ≡ some kindsRead
-    second : WordIs s (nextOf s c) number locals
-    end : locals .next ≡ endNext s c b
+  -- ── `R` ────────────────────────────────────────────────────────────────────────
+  record OpensWere : Type 0 where
+    kinds : List L.Kind
+    locals : ℕ
+    reads : readOpens fields ≡ some (L.Line.opens kinds locals)
+    fits : Fits (L.Line.opens kinds locals)
+    one : onePiece readKinds (fieldPieces s (c .offset)) ≡ some kinds
+    second-is : first readNumber s (nextOf s c) (stopOf s c) ≡ some locals
+    end : nextOf s (nextOf s c) ≡ endNext s c b
 
-  opens-were : (x : L.Line) → readOpens (fieldsLeft b (drop (c .offset) s)) ≡ some x → OpensWere x
-  opens-were x h =
-      let f = field-was (onePiece readKinds) s c b (λ kinds fields. nextField readNumber fields (λ locals fields. noneLeft fields (L.Line.opens kinds locals))) x w h in
+  opens-were : Good (readOpens fields) → OpensWere
+  opens-were g =
+      let x = g .line in
+      let f = field-was (onePiece readKinds) s c b (λ kinds fields. nextField readNumber fields (λ locals fields. noneLeft fields (L.Line.opens kinds locals))) x w (g .reads) in
       let c₁ = nextOf s c in
-      let g = field-was readNumber s c₁ (stopOf s c) (λ locals fields. noneLeft fields (L.Line.opens (f .value) locals)) x (f .got .within) (f .rest) in
-      let stop = one-stop readKinds s c (f .value) (f .got .read) p ep in
-      let next = one-next readKinds s c (f .value) (f .got .read) p ep in
-      let second = word-known s c₁ (stopOf s c) (g .value) locals (g .is) (el ∙ rw (next, stop)) in
-      let shut = shut-was s (nextOf s c₁ .offset) (stopOf s c₁) (L.Line.opens (f .value) (g .value)) x (g .rest) in
+      let h = field-was readNumber s c₁ (stopOf s c) (λ locals fields. noneLeft fields (L.Line.opens (f .value) locals)) x (f .got .within) (f .rest) in
+      let line = L.Line.opens (f .value) (h .value) in
+      let is : x ≡ line = last-was s (nextOf s c₁ .offset) (stopOf s c₁) line x (h .rest) in
+      let shut = shut-was s (nextOf s c₁ .offset) (stopOf s c₁) line x (h .rest) in
       record {
-        kindsRead = f .value;
-        number = g .value;
-        is = last-was s (nextOf s c₁ .offset) (stopOf s c₁) (L.Line.opens (f .value) (g .value)) x (g .rest);
-        text = one-text readKinds s c (f .value) (f .got .read) p ep (w .inside);
-        second = second;
-        end = second .next ∙ sym (next-shut s (nextOf s c₁) (stopOf s c₁) shut) ∙ g .got .nexts ∙ f .got .nexts;
+        kinds = f .value;
+        locals = h .value;
+        reads = g .reads ∙ ap (λ (l : L.Line). some l) is;
+        fits = rw is at (g .fits);
+        one = f .got .read;
+        second-is = h .is;
+        end = sym (next-shut s (nextOf s c₁) (stopOf s c₁) shut) ∙ h .got .nexts ∙ f .got .nexts;
       }
 
-  pub opens-held : (t : List ℕ) (e a : ℕ) → WritesRest readOpens s c b e a t t opensHeld
-  opens-held t e a =
-      record {
-        ports = λ i o q l m. absurd (let v = opens-were (L.Line.ports i o) q in let u = v .is in let z : _≡_ {A = ℕ} 0 1 = cc in omega arith);
-        opens = λ ks n q l m. let v = opens-were (L.Line.opens ks n) q in let u = v .is in let y : v .kindsRead ≡ ks = cc in let z : v .number ≡ n = cc in
-            let k = ek ks (v .text ∙ ap (λ (j : List L.Kind). some j) y) l in
-            (ap (λ (j : ℕ). HV.Opens j (kinds .bits) (locals .value)) (k .0) ∙ ap (λ (j : ℕ). HV.Opens (length ks) j (locals .value)) (k .1) ∙ ap (HV.Opens (length ks) (kindBits ks)) (v .second .value (rw z m) ∙ z), refl);
-        instruction = λ i routines names size q there l m n. absurd (let v = opens-were (L.Line.instruction i) q in let u = v .is in let z : _≡_ {A = ℕ} 0 1 = cc in omega arith);
-        next = λ x q. opens-were x q .end;
-      }
+  -- it writes no word
+  pub opens-keep : Good (readOpens fields) → (e a : ℕ) (t : List ℕ) → t ≡ wordsAfter (lineOf (readOpens fields)) e a t
+  opens-keep g e a t = ap (λ (o : Option L.Line). wordsAfter (lineOf o) e a t) (sym (opens-were g .reads))
+
+  module _ (g : Good (readOpens fields)) (p : Taken) (ep : p ≡ takenAt s c) where
+    pub opens-kinds : FewKinds (slice (p .from) (p .to) s)
+    opens-kinds =
+        let v = opens-were g in
+        record { kinds = v .kinds; reads = one-text readKinds s c (v .kinds) (v .one) p ep (w .inside); few = opens-fit (v .fits) .0 }
+
+    pub opens-held : (kinds : Kinds) → kinds ≡ kindsAnswer (slice (p .from) (p .to) s) → (locals : Word) → locals ≡ wordAnswer s (p .next) (p .stop)
+        → record { holds = HV.Opens (kinds .count) (kinds .bits) (locals .value); next = locals .next } ≡ heldFor (readOpens fields) (endNext s c b)
+    opens-held kinds ek locals el = go (opens-were g)
+      where
+        go : OpensWere → record { holds = HV.Opens (kinds .count) (kinds .bits) (locals .value); next = locals .next } ≡ heldFor (readOpens fields) (endNext s c b)
+        go v =
+            let stop = one-stop readKinds s c (v .kinds) (v .one) p ep in
+            let next = one-next readKinds s c (v .kinds) (v .one) p ep in
+            let ls = word-known s (nextOf s c) (stopOf s c) (v .locals) locals (v .second-is) (el ∙ rw (next, stop)) in
+            let text = one-text readKinds s c (v .kinds) (v .one) p ep (w .inside) in
+            let ks : kinds ≡ record { count = length (v .kinds); bits = kindBits (v .kinds) } =
+            ek ∙ ap (λ (o : Option (List L.Kind)). record { count = length (kindsOf o); bits = kindBits (kindsOf o) }) text in
+            held-is (readOpens fields) (L.Line.opens (v .kinds) (v .locals)) (HV.Opens (kinds .count) (kinds .bits) (locals .value)) (locals .next) (endNext s c b) (v .reads)
+            (ap (λ (k : Kinds). HV.Opens (k .count) (k .bits) (locals .value)) ks ∙ ap (HV.Opens (length (v .kinds)) (kindBits (v .kinds))) (ls .value (opens-fit (v .fits) .1))) (ls .next ∙ v .end)

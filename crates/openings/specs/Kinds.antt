@@ -2,7 +2,7 @@
 use mathlib.Core.Path.{_≡_}
 use mathlib.Core.Bool.{cond}
 use mathlib.Core.List.{List, [], _∷_}
-use mathlib.Core.Option.{some}
+use mathlib.Core.Option.{Option, none, some}
 use Prim.Native.Nat.{ℕ, _+_, _*_, _≤_}
 use Prim.Native.Char.{code}
 use lib.Dec.{eqb}
@@ -21,6 +21,17 @@ unfoldable pub bitsOf : Bytes → ℕ
 bitsOf [] = 0
 bitsOf (byte ∷ rest) = 2 * bitsOf rest + kindBit byte
 
--- what is given for bytes that are read as at most 16 kinds
-abbrev pub KindsOf : Bytes → Kinds → Type 0
-KindsOf bytes r = (kinds : List L.Kind) → readKinds bytes ≡ some kinds → length kinds ≤ 16 → (r .count ≡ length kinds) × (r .bits ≡ kindBits kinds)
+-- bytes that are read as kinds, at most 16
+pub record FewKinds (bytes : Bytes) : Type 0 where
+  pub kinds : List L.Kind
+  pub reads : readKinds bytes ≡ some kinds
+  pub few : length kinds ≤ 16
+
+-- the kinds of a reading; few kinds have one
+abbrev pub kindsOf : Option (List L.Kind) → List L.Kind
+kindsOf none = []
+kindsOf (some kinds) = kinds
+
+-- how many, and their bits
+abbrev pub kindsAnswer : Bytes → Kinds
+kindsAnswer bytes = record { count = length (kindsOf (readKinds bytes)); bits = kindBits (kindsOf (readKinds bytes)) }

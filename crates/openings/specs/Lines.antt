@@ -2,7 +2,7 @@
 use mathlib.Core.Path.{_≡_}
 use mathlib.Core.Bool.{true}
 use mathlib.Core.List.{List}
-use mathlib.Core.Option.{Option, some}
+use mathlib.Core.Option.{Option, none, some}
 use Prim.Native.Nat.{ℕ, _≤_, _<_}
 use lib.ListN.{length, drop}
 use lib.Seq.{sets}
@@ -16,23 +16,56 @@ use Rattle.reader.specs.Texts.{firstLine, fieldsLeft, lineEnd}
 use Rattle.reader.specs.Answers.{passed}
 use Rattle.reader.specs.declared.place.Place.{Place}
 use Rattle.records.specs.Records.{endNext}
+use Rattle.openings.specs.declared.line.Holds.{Holds}
 use Rattle.openings.specs.declared.line.Holds.the-variants as HV
 use Rattle.openings.specs.declared.line.WrittenLine.{WrittenLine}
 
--- what is written for a reading `o` that ends before `end`: the entry at e, the cells at a.
--- Nothing is said where there is no reading, or where it is past the limits or points to what is not there (questions 2 to 4).
+-- ── what a line gives ────────────────────────────────────────────────────────────
+-- what is handed back of it
+abbrev pub holdsOf : L.Line → Holds
+holdsOf (L.Line.ports i o) = HV.Ports i o
+holdsOf (L.Line.opens kinds locals) = HV.Opens (length kinds) (kindBits kinds) locals
+holdsOf (L.Line.instruction i) = HV.Instruction (length (cellWords i))
+
+-- all words after it: an instruction's entry is at e, its cells are at a
+abbrev pub wordsAfter : L.Line → ℕ → ℕ → List ℕ → List ℕ
+wordsAfter (L.Line.ports i o) e a before = before
+wordsAfter (L.Line.opens kinds locals) e a before = before
+wordsAfter (L.Line.instruction i) e a before = sets (sets before a (cellWords i)) e (entryWords a i)
+
+-- ── lines that are written ───────────────────────────────────────────────────────
+-- a line whose figures fit their words, as questions 3 and 4 have it
+pub data Fits : L.Line → Type 0 where
+  ports : {i o : ℕ} → i < wordRange → o < wordRange → Fits (L.Line.ports i o)
+  opens : {kinds : List L.Kind} {locals : ℕ} → length kinds ≤ 16 → locals < wordRange → Fits (L.Line.opens kinds locals)
+  instruction : {i : L.Instruction} (routines : List L.Routine) (names size : ℕ) → isThere routines names size i ≡ true
+      → length routines ≤ 64 → names ≤ 16 → size ≤ 512 → Fits (L.Line.instruction i)
+
+-- a reading that is a line, as question 2 has it, and that fits
+pub record Good (o : Option L.Line) : Type 0 where
+  pub line : L.Line
+  pub reads : o ≡ some line
+  pub fits : Fits line
+
+-- the line of a reading; a good one has it
+abbrev pub lineOf : Option L.Line → L.Line
+lineOf none = L.Line.instruction L.Instruction.end
+lineOf (some line) = line
+
+-- ── what is done for a reading that ends before `end` ────────────────────────────
+abbrev pub heldFor : Option L.Line → Place → WrittenLine
+heldFor o end = record { holds = holdsOf (lineOf o); next = end }
+
 pub record Writes (o : Option L.Line) (end : Place) (e a : ℕ) (before after : List ℕ) (r : WrittenLine) : Type 0 where
-  pub ports : (i outputs : ℕ) → o ≡ some (L.Line.ports i outputs) → i < wordRange → outputs < wordRange → (r .holds ≡ HV.Ports i outputs) × (after ≡ before)
-  pub opens : (kinds : List L.Kind) (locals : ℕ) → o ≡ some (L.Line.opens kinds locals) → length kinds ≤ 16 → locals < wordRange
-      → (r .holds ≡ HV.Opens (length kinds) (kindBits kinds) locals) × (after ≡ before)
-  pub instruction : (i : L.Instruction) (routines : List L.Routine) (names size : ℕ) → o ≡ some (L.Line.instruction i)
-      → isThere routines names size i ≡ true → length routines ≤ 64 → names ≤ 16 → size ≤ 512
-      → (r .holds ≡ HV.Instruction (length (cellWords i))) × (after ≡ sets (sets before a (cellWords i)) e (entryWords a i))
-  pub next : (x : L.Line) → o ≡ some x → r .next ≡ end
+  pub answer : r ≡ heldFor o end
+  pub words : after ≡ wordsAfter (lineOf o) e a before
 
 -- the fields after the letter, read by `read` at a place past the byte `stop`
+abbrev pub restAt : (List Field → Option L.Line) → Bytes → Place → ℕ → Option L.Line
+restAt read s p stop = read (fieldsLeft stop (drop (p .offset) s))
+
 abbrev pub WritesRest : (List Field → Option L.Line) → Bytes → Place → ℕ → ℕ → ℕ → List ℕ → List ℕ → WrittenLine → Type 0
-WritesRest read s p stop e a before after r = Writes (read (fieldsLeft stop (drop (p .offset) s))) (endNext s p stop) e a before after r
+WritesRest read s p stop e a before after r = Writes (restAt read s p stop) (endNext s p stop) e a before after r
 
 -- the record of the line at a place
 abbrev pub lineAt : Bytes → Place → Option L.Line

@@ -1,13 +1,13 @@
 // What the line that opens a listing and the line that opens a routine hold. They write nothing.
 ghost use mathlib.Core.Path.{_≡_};
-ghost use mathlib.Core.List.{List};
-ghost use Prim.Native.Nat.{ℕ, _+_, _≤_};
+ghost use Prim.Native.Nat.{_+_, _≤_};
 ghost use lib.ListN.{length};
 ghost use lib.Seq.{slice};
 ghost use Rattle.listing.specs.Form.{readPorts, readOpens};
 ghost use Rattle.reader.specs.Texts.{Within};
-ghost use Rattle.openings.specs.Kinds.{kindBit, bitsOf, KindsOf};
-ghost use Rattle.openings.specs.Lines.{WritesRest};
+ghost use Rattle.records.specs.Records.{endNext};
+ghost use Rattle.openings.specs.Kinds.{kindBit, bitsOf, FewKinds, kindsAnswer};
+ghost use Rattle.openings.specs.Lines.{Good, heldFor, restAt};
 use crate::line::Holds;
 use crate::line::WrittenLine;
 use cells::word::word_field;
@@ -45,15 +45,9 @@ fn kind_bits(s: &[u8], from: usize, to: usize) -> u32
 
 // The kinds from one offset up to another. Document 01: "a letter per argument, `r` by reference or `v` by value, or is `-` for none".
 fn kinds_of(s: &[u8], from: usize, to: usize) -> Kinds
-    requires { ⌜ (from ≤ to) × (to ≤ length (now s)) ⌝ }
-    ensures { λ r. ⌜ KindsOf (slice from to (now (s .entry))) r ⌝ }
+    requires { ⌜ (from ≤ to) × (to ≤ length (now s)) × FewKinds (slice from to (now s)) ⌝ }
+    ensures { λ r. ⌜ r ≡ kindsAnswer (slice from to (now (s .entry))) ⌝ }
 {
-    if 16 < to - from {
-        return Kinds { count: 0, bits: 0 };
-    }
-    if from == to {
-        return Kinds { count: 0, bits: 0 };
-    }
     if s[from] == 45 {
         return Kinds { count: 0, bits: 0 };
     }
@@ -65,8 +59,8 @@ fn kinds_of(s: &[u8], from: usize, to: usize) -> Kinds
 
 // "`P|i|o` gives i inputs and o outputs."
 pub fn hold_ports(s: &[u8], place: Place, stop: u8) -> WrittenLine
-    requires { ⌜ Within (now s) (place .offset) (place .line) ⌝ }
-    ensures { λ r. ⌜ ((t : List ℕ) (e a : ℕ) → WritesRest readPorts (now (s .entry)) place stop e a t t r) ⌝ }
+    requires { ⌜ Within (now s) (place .offset) (place .line) × Good (restAt readPorts (now s) place stop) ⌝ }
+    ensures { λ r. ⌜ r ≡ heldFor (restAt readPorts (now (s .entry)) place stop) (endNext (now (s .entry)) place stop) ⌝ }
 {
     let inputs = word_field(s, place, stop);
     let after = inputs.next;
@@ -80,8 +74,8 @@ pub fn hold_ports(s: &[u8], place: Place, stop: u8) -> WrittenLine
 
 // "`R|kinds|locals` opens one"
 pub fn hold_opens(s: &[u8], place: Place, stop: u8) -> WrittenLine
-    requires { ⌜ Within (now s) (place .offset) (place .line) ⌝ }
-    ensures { λ r. ⌜ ((t : List ℕ) (e a : ℕ) → WritesRest readOpens (now (s .entry)) place stop e a t t r) ⌝ }
+    requires { ⌜ Within (now s) (place .offset) (place .line) × Good (restAt readOpens (now s) place stop) ⌝ }
+    ensures { λ r. ⌜ r ≡ heldFor (restAt readOpens (now (s .entry)) place stop) (endNext (now (s .entry)) place stop) ⌝ }
 {
     let piece = take_piece(s, place);
     let from = piece.from;

@@ -23,7 +23,7 @@ use Rattle.records.specs.Records.{endNext}
 use Rattle.records.proofs.Chain.{Got, first, got-of, next-shut, left-none}
 use Rattle.writer.specs.Calls.{WritesCall}
 use Rattle.cells.specs.Cells.{cellsOf}
-use Rattle.openings.specs.Lines.{WritesRest}
+use Rattle.openings.specs.Lines.{Good, restAt, WritesRest}
 use Rattle.cells.specs.declared.cell.Cells.{Cells}
 use Rattle.openings.specs.declared.line.Holds.the-variants as HV
 use Rattle.openings.specs.declared.line.WrittenLine.{WrittenLine}
@@ -219,15 +219,14 @@ module _ (s t₀ : List ℕ) (a at₀ line₀ b₀ : ℕ) where
       go none i e = absurd (let z : _≡_ {A = ℕ} 0 1 = cc in omega arith)
       go (some cs) i e = let k = checked cs (leb 1 (length cs) && leb (length cs) 8) refl e in (cs, i, k .0, k .1)
 
-  module _ (t : List ℕ) (at line b count cells : ℕ) (v : Forking t at line b count cells) (e : ℕ) where
-    -- a ninth child
-    pub fork-over : b ≡ 9 → 8 ≤ count → (r : WrittenLine) (after : List ℕ) → WritesRest readFork s begins b₀ e a t₀ after r
-    fork-over i h r after =
-        writes-of (readFork (fieldsLeft b₀ (drop at₀ s))) (endNext s begins b₀) e a t₀ after r (λ x q. absurd (let f = fork-was x q in too-many (f .0) (f .3) (v .rest (f .0) (f .1))))
-      where
-        too-many : (calls : List L.Call) → length calls ≤ 8 → Left calls t at line b count cells → ⊥
-        too-many calls k u = let m = first-call s at b (u .left) i (u .read) in omega (arith, u .number, ap length (m .2))
+  -- there is no ninth child
+  pub fork-room : Good (restAt readFork s begins b₀) → (t : List ℕ) (at line b count cells : ℕ) → Forking t at line b count cells → b ≡ 9 → count < 8
+  fork-room g t at line b count cells v i = let f = fork-was (g .line) (g .reads) in room (f .0) (f .3) (v .rest (f .0) (f .1))
+    where
+      room : (calls : List L.Call) → length calls ≤ 8 → Left calls t at line b count cells → count < 8
+      room calls k u = let m = first-call s at b (u .left) i (u .read) in omega (arith, u .number, ap length (m .2))
 
+  module _ (t : List ℕ) (at line b count cells : ℕ) (v : Forking t at line b count cells) (e : ℕ) where
     module _ (n : b ≡ 9 → ⊥) (after : List ℕ) (ee : after ≡ sets t e (6 ∷ (0 ∷ (a ∷ (count ∷ (0 ∷ [])))))) where
       pub fork-long : length after ≡ length t₀
       fork-long = ap length ee ∙ length-sets t e (6 ∷ (0 ∷ (a ∷ (count ∷ (0 ∷ []))))) ∙ v .long
@@ -254,5 +253,5 @@ module _ (s t₀ : List ℕ) (a at₀ line₀ b₀ : ℕ) where
                 (ap HV.Instruction size, entry-is t₀ t after (wordsOfEach callWords calls) e a 6 _ _ _ _ _ _ ee all-written refl number refl);
           }
 
-      pub fork-written : WritesRest readFork s begins b₀ e a t₀ after forked
-      fork-written = writes-of (readFork (fieldsLeft b₀ (drop at₀ s))) (endNext s begins b₀) e a t₀ after forked fork-is
+      pub fork-written : Good (restAt readFork s begins b₀) → WritesRest readFork s begins b₀ e a t₀ after forked
+      fork-written g = writes-of (restAt readFork s begins b₀) (endNext s begins b₀) e a t₀ after forked g fork-is

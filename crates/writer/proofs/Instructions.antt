@@ -22,13 +22,15 @@ use Rattle.records.specs.Records.{endNext}
 use Rattle.records.proofs.Chain.{Got, first, next-shut, expression-length}
 use Rattle.cells.specs.Cells.{cellsOf, cellsAnswer, WritesCells}
 use Rattle.cells.specs.Words.{wordAnswer}
-use Rattle.openings.specs.Lines.{Writes, WritesRest}
+use Rattle.openings.specs.Lines.{wordsAfter, Fits, Good, lineOf, Writes, restAt, WritesRest}
+use Rattle.openings.specs.Lines as S
 use Rattle.cells.specs.declared.word.Word.{Word}
 use Rattle.cells.specs.declared.cell.Cells.{Cells}
 use Rattle.openings.specs.declared.line.Holds.the-variants as HV
 use Rattle.openings.specs.declared.line.WrittenLine.{WrittenLine}
 use Rattle.cells.proofs.Fields.{both-true, tested-read, stopOf, nextOf, field-was, shut-was, last-was, WordIs, word-known, each-length, pieces-cells, names-cells}
 use Rattle.cells.proofs.Stores.{sets-behind, two-each}
+use Rattle.openings.proofs.Openings.{held-is}
 
 -- ── a reading that is an instruction ─────────────────────────────────────────────
 -- a line read as x, written as an instruction
@@ -39,24 +41,23 @@ pub record IsWritten (x : L.Line) (end : Place) (e a : ℕ) (before after : List
   pub words : (routines : List L.Routine) (names size : ℕ) → isThere routines names size i ≡ true → length routines ≤ 64 → names ≤ 16 → size ≤ 512
       → (r .holds ≡ HV.Instruction (length (cellWords i))) × (after ≡ sets (sets before a (cellWords i)) e (entryWords a i))
 
-pub writes-of : (o : Option L.Line) (end : Place) (e a : ℕ) (before after : List ℕ) (r : WrittenLine)
+pub writes-of : (o : Option L.Line) (end : Place) (e a : ℕ) (before after : List ℕ) (r : WrittenLine) → Good o
     → ((x : L.Line) → o ≡ some x → IsWritten x end e a before after r) → Writes o end e a before after r
-writes-of o end e a before after r h =
-    record {
-      ports = λ i p q l m. absurd (let w = h (L.Line.ports i p) q in let u = w .is in let z : _≡_ {A = ℕ} 0 1 = cc in omega arith);
-      opens = λ k n q l m. absurd (let w = h (L.Line.opens k n) q in let u = w .is in let z : _≡_ {A = ℕ} 0 1 = cc in omega arith);
-      instruction = λ i routines names size q t l m n. of-same i (h (L.Line.instruction i) q) routines names size t l m n;
-      next = λ x q. h x q .next;
-    }
+writes-of o end e a before after r g h = go (h (g .line) (g .reads))
   where
-    of-same : (i : L.Instruction) → IsWritten (L.Line.instruction i) end e a before after r → (routines : List L.Routine) (names size : ℕ) → isThere routines names size i ≡ true
-        → length routines ≤ 64 → names ≤ 16 → size ≤ 512
+    given : (i : L.Instruction) → (w : IsWritten (g .line) end e a before after r) → w .i ≡ i → Fits (L.Line.instruction i)
         → (r .holds ≡ HV.Instruction (length (cellWords i))) × (after ≡ sets (sets before a (cellWords i)) e (entryWords a i))
-    of-same i w routines names size t l m n =
-        let u = w .is in
-        let j : w .i ≡ i = cc in
-        let g = w .words routines names size (rw j t) l m n in
-        rw j at g
+    given i w j (S.Fits.instruction routines names size there l m n) = let k = w .words routines names size (rw j there) l m n in rw j at k
+
+    go : IsWritten (g .line) end e a before after r → Writes o end e a before after r
+    go w =
+        let x : L.Line = L.Line.instruction (w .i) in
+        let reads : o ≡ some x = g .reads ∙ ap (λ (l : L.Line). some l) (w .is) in
+        let k = given (w .i) w refl (rw (w .is) at (g .fits)) in
+        record {
+          answer = held-is o x (r .holds) (r .next) end reads (k .0) (w .next);
+          words = k .1 ∙ ap (λ (q : Option L.Line). wordsAfter (lineOf q) e a before) (sym reads);
+        }
 
 -- ── fields ───────────────────────────────────────────────────────────────────────
 piece-two : (p : L.Piece) → length (pieceWords p) ≡ 2
@@ -146,8 +147,8 @@ module _ (s t : List ℕ) (c : Place) (b e a : ℕ) (w : Within s (c .offset) (c
             );
       }
 
-  pub assign-written : WritesRest readAssign s c b e a t after (record { holds = HV.Instruction (2 * cells .count); next = cells .next })
-  assign-written = writes-of (readAssign (fieldsLeft b (drop (c .offset) s))) (endNext s c b) e a t after _ assign-is
+  pub assign-written : Good (restAt readAssign s c b) → WritesRest readAssign s c b e a t after (record { holds = HV.Instruction (2 * cells .count); next = cells .next })
+  assign-written g = writes-of (restAt readAssign s c b) (endNext s c b) e a t after _ g assign-is
 
 -- ── schedule ─────────────────────────────────────────────────────────────────────
 module _ (s t : List ℕ) (c : Place) (b e a : ℕ) (w : Within s (c .offset) (c .line)) (name : Word) (en : name ≡ wordAnswer s c b)
@@ -209,8 +210,8 @@ module _ (s t : List ℕ) (c : Place) (b e a : ℕ) (w : Within s (c .offset) (c
         words = λ routines names size there l m o. schedule-words (f .value) (g .value) (i .value) k (g .got) (i .got) names there m;
       }
 
-  pub schedule-written : WritesRest readSchedule s c b e a t after scheduled
-  schedule-written = writes-of (readSchedule (fieldsLeft b (drop (c .offset) s))) (endNext s c b) e a t after scheduled schedule-is
+  pub schedule-written : Good (restAt readSchedule s c b) → WritesRest readSchedule s c b e a t after scheduled
+  schedule-written g = writes-of (restAt readSchedule s c b) (endNext s c b) e a t after scheduled g schedule-is
 
 -- ── branch ───────────────────────────────────────────────────────────────────────
 module _ (s t : List ℕ) (c : Place) (b e a : ℕ) (w : Within s (c .offset) (c .line)) (cells : Cells) (t₁ : List ℕ) (ec : WritesCells s c a 1 t t₁ cells)
@@ -244,8 +245,8 @@ module _ (s t : List ℕ) (c : Place) (b e a : ℕ) (w : Within s (c .offset) (c
             );
       }
 
-  pub branch-written : WritesRest readBranch s c b e a t after branched
-  branch-written = writes-of (readBranch (fieldsLeft b (drop (c .offset) s))) (endNext s c b) e a t after branched branch-is
+  pub branch-written : Good (restAt readBranch s c b) → WritesRest readBranch s c b e a t after branched
+  branch-written g = writes-of (restAt readBranch s c b) (endNext s c b) e a t after branched g branch-is
 
 -- ── jump ─────────────────────────────────────────────────────────────────────────
 module _ (s t : List ℕ) (c : Place) (b e a : ℕ) (w : Within s (c .offset) (c .line)) (target : Word) (et : target ≡ wordAnswer s c b) (after : List ℕ)
@@ -270,8 +271,8 @@ module _ (s t : List ℕ) (c : Place) (b e a : ℕ) (w : Within s (c .offset) (c
             (refl, entry-is t t after [] e a 4 _ _ _ _ _ _ ee refl (k .value (omega arith)) refl refl);
       }
 
-  pub jump-written : WritesRest readJump s c b e a t after jumped
-  jump-written = writes-of (readJump (fieldsLeft b (drop (c .offset) s))) (endNext s c b) e a t after jumped jump-is
+  pub jump-written : Good (restAt readJump s c b) → WritesRest readJump s c b e a t after jumped
+  jump-written g = writes-of (restAt readJump s c b) (endNext s c b) e a t after jumped g jump-is
 
 -- ── wait ─────────────────────────────────────────────────────────────────────────
 names-read : (ws : Field) (ns : List ℕ) → readNames ws ≡ some ns → each readFigure ws ≡ some ns
@@ -303,8 +304,8 @@ module _ (s t : List ℕ) (c : Place) (b e a : ℕ) (w : Within s (c .offset) (c
         );
       }
 
-  pub wait-written : WritesRest readWait s c b e a t after awaited
-  wait-written = writes-of (readWait (fieldsLeft b (drop (c .offset) s))) (endNext s c b) e a t after awaited wait-is
+  pub wait-written : Good (restAt readWait s c b) → WritesRest readWait s c b e a t after awaited
+  wait-written g = writes-of (restAt readWait s c b) (endNext s c b) e a t after awaited g wait-is
 
 -- ── end ──────────────────────────────────────────────────────────────────────────
 module _ (s t : List ℕ) (c : Place) (b e a : ℕ) (after : List ℕ) (ee : after ≡ sets t e (7 ∷ (0 ∷ (a ∷ (0 ∷ (0 ∷ [])))))) where
@@ -321,5 +322,5 @@ module _ (s t : List ℕ) (c : Place) (b e a : ℕ) (after : List ℕ) (ee : aft
         words = λ routines names size there l m o. (refl, ee);
       }
 
-  pub end-written : WritesRest readEnd s c b e a t after ended
-  end-written = writes-of (readEnd (fieldsLeft b (drop (c .offset) s))) (endNext s c b) e a t after ended end-is
+  pub end-written : Good (restAt readEnd s c b) → WritesRest readEnd s c b e a t after ended
+  end-written g = writes-of (restAt readEnd s c b) (endNext s c b) e a t after ended g end-is

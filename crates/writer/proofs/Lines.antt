@@ -1,13 +1,16 @@
 -- A line, from its letter to what is written for the fields after it.
 use mathlib.Core.Path.{_≡_, refl, sym, ap, _∙_}
+use mathlib.Core.Bool.{Bool, true, false, cond}
 use mathlib.Core.List.{List, [], _∷_}
 use mathlib.Core.Option.{Option, none, some}
-use Prim.Native.Nat.{ℕ, suc, _≤_, _<_}
+use Prim.Native.Nat.{ℕ, suc, _<_}
 use native.Mathlib.Omega.{arith}
+use lib.Dec.{eqb}
 use lib.ListN.{length, getD, drop}
 use lib.Seq.{slice, slice-cons}
+use borrow.Author.Tests.{ne-eqb}
 use Rattle.listing.specs.Expressions.{alone}
-use Rattle.listing.specs.Form.{onePiece, readLetter, readByLetter, readRecord}
+use Rattle.listing.specs.Form.{Field, onePiece, readEnd, readLetter, readByLetter, readRecord}
 use Rattle.listing.specs.Listing as L
 use Rattle.reader.specs.Texts.{firstPiece, endsPiece, fieldsLeft, pieceEnd, lineEnd, Within}
 use Rattle.reader.specs.Answers.{passed, takenAt}
@@ -15,34 +18,31 @@ use Rattle.reader.specs.declared.place.Place.{Place}
 use Rattle.reader.specs.declared.place.Taken.{Taken}
 use Rattle.reader.proofs.Places.{before-slice}
 use Rattle.records.specs.Records.{endNext}
-use Rattle.openings.specs.Lines.{Writes, WritesRest, lineAt, WritesLine}
+use Rattle.openings.specs.Lines.{wordsAfter, Good, lineOf, heldFor, Writes, restAt, WritesRest, lineAt, WritesLine}
 use Rattle.openings.specs.declared.line.WrittenLine.{WrittenLine}
 use Rattle.cells.proofs.Fields.{stopOf, nextOf, FieldWas, field-was}
 use Rattle.openings.proofs.Openings.{one-read, one-stop, one-next, piece-in}
 
--- ── readings that are the same, or none ──────────────────────────────────────────
-module _ (o : Option L.Line) (end : Place) (e a : ℕ) (before after : List ℕ) (r : WrittenLine) where
-  pub writes-none : ((x : L.Line) → o ≡ some x → ⊥) → Writes o end e a before after r
-  writes-none n =
-      record {
-        ports = λ i p q l m. absurd (n (L.Line.ports i p) q);
-        opens = λ k p q l m. absurd (n (L.Line.opens k p) q);
-        instruction = λ i routines names size q there l m k. absurd (n (L.Line.instruction i) q);
-        next = λ x q. absurd (n x q);
-      }
+-- ── the fields after the letter ──────────────────────────────────────────────────
+-- a `P` or an `R`, which writes no word
+pub writes-nothing : (o : Option L.Line) (end : Place) (e a : ℕ) (t : List ℕ) (r : WrittenLine) → t ≡ wordsAfter (lineOf o) e a t → r ≡ heldFor o end → Writes o end e a t t r
+writes-nothing o end e a t r k h = record { answer = h; words = k }
 
-  -- written for o, so for a reading that gives what o gives, with the same end
-  pub writes-same : (o' : Option L.Line) (end' : Place) → ((x : L.Line) → o' ≡ some x → (o ≡ some x) × (end ≡ end')) → Writes o end e a before after r → Writes o' end' e a before after r
-  writes-same o' end' same w =
-      record {
-        ports = λ i p q l m. w .ports i p (same (L.Line.ports i p) q .0) l m;
-        opens = λ k p q l m. w .opens k p (same (L.Line.opens k p) q .0) l m;
-        instruction = λ i routines names size q there l m k. w .instruction i routines names size (same (L.Line.instruction i) q .0) there l m k;
-        next = λ x q. w .next x (same x q .0) ∙ same x q .1;
-      }
+-- where no other letter is left, the fields are read as those of an `E`
+pub letter-left : (letter : ℕ) (fields : List Field) → Good (readByLetter letter fields)
+    → (letter ≡ 80 → ⊥) → (letter ≡ 82 → ⊥) → (letter ≡ 83 → ⊥) → (letter ≡ 65 → ⊥) → (letter ≡ 85 → ⊥) → (letter ≡ 71 → ⊥) → (letter ≡ 87 → ⊥) → (letter ≡ 70 → ⊥)
+    → readByLetter letter fields ≡ readEnd fields
+unfolding readByLetter
+letter-left letter fields g p r s a u j w f = go (eqb letter 69) refl
+  where
+    left : readByLetter letter fields ≡ cond (eqb letter 69) (readEnd fields) none
+    left = rw (ne-eqb letter 80 p, ne-eqb letter 82 r, ne-eqb letter 83 s, ne-eqb letter 65 a, ne-eqb letter 85 u, ne-eqb letter 71 j, ne-eqb letter 87 w, ne-eqb letter 70 f)
 
-pub letter-none : (letter : ℕ) (o : Option L.Line) (end : Place) (e a : ℕ) (t : List ℕ) (r : WrittenLine) → o ≡ none → Writes o end e a t t r
-letter-none letter o end e a t r h = writes-none o end e a t t r (λ x q. let f : none ≡ some x = sym h ∙ q in let z : _≡_ {A = ℕ} 0 1 = cc in omega arith)
+    go : (t : Bool) → eqb letter 69 ≡ t → readByLetter letter fields ≡ readEnd fields
+    go true i = left ∙ ap (λ (t : Bool). cond t (readEnd fields) none) i
+    go false i =
+        let two : none ≡ some (g .line) = sym (left ∙ ap (λ (t : Bool). cond t (readEnd fields) none) i) ∙ g .reads in
+        absurd (let z : _≡_ {A = ℕ} 0 1 = cc in omega arith)
 
 -- ── the letter ───────────────────────────────────────────────────────────────────
 letter-alone : (w : List ℕ) (letter : ℕ) → readLetter w ≡ some letter → w ≡ letter ∷ []
@@ -98,9 +98,18 @@ module _ (s : List ℕ) (c : Place) (w : Within s (c .offset) (c .line)) (p : Ta
     end-is : endNext s (p .next) (p .stop) ≡ passed s (c .line) (lineEnd s (c .offset))
     end-is = ap (λ (b : ℕ). endNext s (p .next) b) (sym stop-is) ∙ ap (λ (d : Place). endNext s d (stopOf s c)) (sym next-is) ∙ was .got .nexts ∙ whole-end
 
-  pub line-written : (e a : ℕ) (t after : List ℕ) (r : WrittenLine) → WritesRest (readByLetter (getD s (p .from) 0)) s (p .next) (p .stop) e a t after r → WritesLine s c e a t after r
-  line-written e a t after r v = writes-same _ _ e a t after r (lineAt s c) (passed s (c .line) (lineEnd s (c .offset))) (λ x h. (rest-is x h, end-is x h)) v
+  -- what is written for the fields after the letter is written for the line
+  module _ (g : Good (lineAt s c)) where
+    pub letter-in : p .from < length s
+    letter-in = omega (arith, some-byte (g .line) (g .reads), piece-in s c w p ep .1)
 
-  -- a line without a letter
-  pub line-empty : p .to ≤ p .from → (e a : ℕ) (t : List ℕ) (r : WrittenLine) → WritesLine s c e a t t r
-  line-empty h e a t r = writes-none (lineAt s c) (passed s (c .line) (lineEnd s (c .offset))) e a t t r (λ x q. let z : ⊥ = omega (arith, some-byte x q) in z)
+    pub rest-good : Good (restAt (readByLetter (getD s (p .from) 0)) s (p .next) (p .stop))
+    rest-good = record { line = g .line; reads = rest-is (g .line) (g .reads); fits = g .fits }
+
+    pub line-written : (e a : ℕ) (t after : List ℕ) (r : WrittenLine) → WritesRest (readByLetter (getD s (p .from) 0)) s (p .next) (p .stop) e a t after r → WritesLine s c e a t after r
+    line-written e a t after r v =
+        let same : restAt (readByLetter (getD s (p .from) 0)) s (p .next) (p .stop) ≡ lineAt s c = rest-is (g .line) (g .reads) ∙ sym (g .reads) in
+        record {
+          answer = v .answer ∙ (ap (λ (o : Option L.Line). heldFor o (endNext s (p .next) (p .stop))) same ∙ ap (heldFor (lineAt s c)) (end-is (g .line) (g .reads)));
+          words = v .words ∙ ap (λ (o : Option L.Line). wordsAfter (lineOf o) e a t) same;
+        }

@@ -4,7 +4,7 @@ ghost use lib.ListN.{length};
 ghost use Rattle.listing.specs.Form.{readFork};
 ghost use Rattle.reader.specs.Texts.{Within};
 ghost use Rattle.writer.specs.Calls.{WritesCall};
-ghost use Rattle.openings.specs.Lines.{WritesRest};
+ghost use Rattle.openings.specs.Lines.{Good, restAt, WritesRest};
 use cells::cell::Cells;
 use cells::cell::write_cells;
 use cells::put::put;
@@ -31,7 +31,7 @@ pub fn write_fork(
     e: usize,
     a: usize,
 ) -> WrittenLine
-    requires { ⌜ Within (now s) (place .offset) (place .line) × (length (now s) ≤ 49152) × (e ≤ 12288) × (a ≤ 12288) ⌝ }
+    requires { ⌜ Within (now s) (place .offset) (place .line) × (length (now s) ≤ 49152) × (e ≤ 12288) × (a ≤ 12288) × Good (restAt readFork (now s) place stop) ⌝ }
     ensures { λ r. ⌜ WritesRest readFork (now (s .entry)) place stop e a (now (t .entry)) (now (t .exit)) r ⌝ }
 {
     let mut at = place.offset;
@@ -40,12 +40,6 @@ pub fn write_fork(
     let mut count: usize = 0;
     let mut cells: usize = 0;
     while b == 9 {
-        if 8 <= count {
-            return WrittenLine {
-                holds: Holds::Instruction(0),
-                next: place,
-            };
-        }
         let call = write_call(
             s,
             t,

@@ -3,7 +3,7 @@ ghost use Prim.Native.Nat.{_≤_};
 ghost use lib.ListN.{length};
 ghost use Rattle.listing.specs.Form.{readAssign, readSchedule, readBranch, readJump, readWait, readEnd};
 ghost use Rattle.reader.specs.Texts.{Within};
-ghost use Rattle.openings.specs.Lines.{WritesRest};
+ghost use Rattle.openings.specs.Lines.{Good, restAt, WritesRest};
 use cells::cell::write_cells;
 use cells::put::put_entry;
 use cells::word::word_field;
@@ -20,7 +20,7 @@ pub fn write_assign(
     e: usize,
     a: usize,
 ) -> WrittenLine
-    requires { ⌜ Within (now s) (place .offset) (place .line) × (length (now s) ≤ 49152) × (e ≤ 12288) × (a ≤ 12288) ⌝ }
+    requires { ⌜ Within (now s) (place .offset) (place .line) × (length (now s) ≤ 49152) × (e ≤ 12288) × (a ≤ 12288) × Good (restAt readAssign (now s) place stop) ⌝ }
     ensures { λ r. ⌜ WritesRest readAssign (now (s .entry)) place stop e a (now (t .entry)) (now (t .exit)) r ⌝ }
 {
     let name = word_field(s, place, stop);
@@ -43,7 +43,7 @@ pub fn write_schedule(
     e: usize,
     a: usize,
 ) -> WrittenLine
-    requires { ⌜ Within (now s) (place .offset) (place .line) × (length (now s) ≤ 49152) × (e ≤ 12288) × (a ≤ 12288) ⌝ }
+    requires { ⌜ Within (now s) (place .offset) (place .line) × (length (now s) ≤ 49152) × (e ≤ 12288) × (a ≤ 12288) × Good (restAt readSchedule (now s) place stop) ⌝ }
     ensures { λ r. ⌜ WritesRest readSchedule (now (s .entry)) place stop e a (now (t .entry)) (now (t .exit)) r ⌝ }
 {
     let name = word_field(s, place, stop);
@@ -76,7 +76,7 @@ pub fn write_branch(
     e: usize,
     a: usize,
 ) -> WrittenLine
-    requires { ⌜ Within (now s) (place .offset) (place .line) × (length (now s) ≤ 49152) × (e ≤ 12288) × (a ≤ 12288) ⌝ }
+    requires { ⌜ Within (now s) (place .offset) (place .line) × (length (now s) ≤ 49152) × (e ≤ 12288) × (a ≤ 12288) × Good (restAt readBranch (now s) place stop) ⌝ }
     ensures { λ r. ⌜ WritesRest readBranch (now (s .entry)) place stop e a (now (t .entry)) (now (t .exit)) r ⌝ }
 {
     let cells = write_cells(s, t, place, a, 1);
@@ -99,7 +99,7 @@ pub fn write_jump(
     e: usize,
     a: usize,
 ) -> WrittenLine
-    requires { ⌜ Within (now s) (place .offset) (place .line) × (length (now s) ≤ 49152) × (e ≤ 12288) × (a ≤ 12288) ⌝ }
+    requires { ⌜ Within (now s) (place .offset) (place .line) × (length (now s) ≤ 49152) × (e ≤ 12288) × (a ≤ 12288) × Good (restAt readJump (now s) place stop) ⌝ }
     ensures { λ r. ⌜ WritesRest readJump (now (s .entry)) place stop e a (now (t .entry)) (now (t .exit)) r ⌝ }
 {
     let jump = word_field(s, place, stop);
@@ -120,7 +120,7 @@ pub fn write_wait(
     e: usize,
     a: usize,
 ) -> WrittenLine
-    requires { ⌜ Within (now s) (place .offset) (place .line) × (length (now s) ≤ 49152) × (e ≤ 12288) × (a ≤ 12288) ⌝ }
+    requires { ⌜ Within (now s) (place .offset) (place .line) × (length (now s) ≤ 49152) × (e ≤ 12288) × (a ≤ 12288) × Good (restAt readWait (now s) place stop) ⌝ }
     ensures { λ r. ⌜ WritesRest readWait (now (s .entry)) place stop e a (now (t .entry)) (now (t .exit)) r ⌝ }
 {
     let cells = write_cells(s, t, place, a, 0);
@@ -134,7 +134,7 @@ pub fn write_wait(
 
 // "`E` ends the routine."
 pub fn write_end(s: &[u8], t: &mut [u32], place: Place, stop: u8, e: usize, a: usize) -> WrittenLine
-    requires { ⌜ Within (now s) (place .offset) (place .line) × (length (now s) ≤ 49152) × (e ≤ 12288) × (a ≤ 12288) ⌝ }
+    requires { ⌜ Within (now s) (place .offset) (place .line) × (length (now s) ≤ 49152) × (e ≤ 12288) × (a ≤ 12288) × Good (restAt readEnd (now s) place stop) ⌝ }
     ensures { λ r. ⌜ WritesRest readEnd (now (s .entry)) place stop e a (now (t .entry)) (now (t .exit)) r ⌝ }
 {
     put_entry(t, e, 7, 0, a as u32, 0, 0);

@@ -3,7 +3,7 @@ ghost use Prim.Native.Nat.{_≤_};
 ghost use lib.ListN.{length};
 ghost use Rattle.listing.specs.Form.{readByLetter};
 ghost use Rattle.reader.specs.Texts.{Within};
-ghost use Rattle.openings.specs.Lines.{WritesRest, WritesLine};
+ghost use Rattle.openings.specs.Lines.{Good, restAt, lineAt, WritesRest, WritesLine};
 use crate::fork::write_fork;
 use crate::instruction::write_assign;
 use crate::instruction::write_branch;
@@ -11,14 +11,13 @@ use crate::instruction::write_end;
 use crate::instruction::write_jump;
 use crate::instruction::write_schedule;
 use crate::instruction::write_wait;
-use openings::Holds;
 use openings::WrittenLine;
 use openings::opens::hold_opens;
 use openings::opens::hold_ports;
 use reader::Place;
 use reader::take_piece;
 
-// The fields after a line's letter. Another letter is none, which question 2 rules out.
+// The fields after a line's letter. By question 2 the letter that is left is `E`.
 fn write_rest(
     s: &[u8],
     t: &mut [u32],
@@ -28,7 +27,7 @@ fn write_rest(
     e: usize,
     a: usize,
 ) -> WrittenLine
-    requires { ⌜ Within (now s) (place .offset) (place .line) × (length (now s) ≤ 49152) × (e ≤ 12288) × (a ≤ 12288) ⌝ }
+    requires { ⌜ Within (now s) (place .offset) (place .line) × (length (now s) ≤ 49152) × (e ≤ 12288) × (a ≤ 12288) × Good (restAt (readByLetter letter) (now s) place stop) ⌝ }
     ensures { λ r. ⌜ WritesRest (readByLetter letter) (now (s .entry)) place stop e a (now (t .entry)) (now (t .exit)) r ⌝ }
 {
     match letter {
@@ -40,28 +39,17 @@ fn write_rest(
         71 => return write_jump(s, t, place, stop, e, a),
         87 => return write_wait(s, t, place, stop, e, a),
         70 => return write_fork(s, t, place, stop, e, a),
-        69 => return write_end(s, t, place, stop, e, a),
-        _ => WrittenLine {
-            holds: Holds::Instruction(0),
-            next: place,
-        },
+        _ => return write_end(s, t, place, stop, e, a),
     }
 }
 
 // The line at a place: an instruction's entry at e, its cells from a on.
 pub fn write_line(s: &[u8], t: &mut [u32], place: Place, e: usize, a: usize) -> WrittenLine
-    requires { ⌜ Within (now s) (place .offset) (place .line) × (length (now s) ≤ 49152) × (e ≤ 12288) × (a ≤ 12288) ⌝ }
+    requires { ⌜ Within (now s) (place .offset) (place .line) × (length (now s) ≤ 49152) × (e ≤ 12288) × (a ≤ 12288) × Good (lineAt (now s) place) ⌝ }
     ensures { λ r. ⌜ WritesLine (now (s .entry)) place e a (now (t .entry)) (now (t .exit)) r ⌝ }
 {
     let piece = take_piece(s, place);
     let from = piece.from;
-    let to = piece.to;
     let rest = piece.next;
-    if from < to {
-        return write_rest(s, t, rest, piece.stop, s[from], e, a);
-    }
-    WrittenLine {
-        holds: Holds::Instruction(0),
-        next: place,
-    }
+    write_rest(s, t, rest, piece.stop, s[from], e, a)
 }

@@ -20,25 +20,33 @@ add-write-line-2 c =
 
 write-line-requires : tie.Need-write-line-requires
 write-line-requires c κs =
-    let b = turn.bounded _ (c .before .before .before .pre .0) _ _ (c .before .before .before .pre .1) in
-    (c .before .before .before .pre .1 .formed .within, beginning.is-short _ (c .before .before .before .pre .0), omega (arith, b .1), omega (arith, b .2))
+    let p = c .before .before .before .pre in
+    let b = turn.bounded _ (p .0) _ _ (p .1) in
+    (p .1 .formed .within, beginning.is-short _ (p .0), omega (arith, b .1), omega (arith, b .2), turn.good _ (p .0) _ _ (p .1) (p .2))
 
 enter-requires : tie.Need-enter-requires
 enter-requires c κs =
-    turn.room _ (c .before .before .before .before .before .before .before .before .pre .0) _ _ (c .before .before .before .before .before .before .before .before .pre .1) (c .before .before .before .before .before .before .before .before .pre .2) _ _ (c .before .before .before .before .write-line .ensures)
+    let p = c .before .before .before .before .before .before .before .before .pre in
+    turn.room _ (p .0) _ _ (p .1) (p .2) _ _ (c .before .before .before .before .write-line .ensures)
 
 advance-requires : tie.Need-advance-requires
 advance-requires c κs =
-    turn.room _ (c .before .before .before .before .before .before .before .before .before .before .before .pre .0) _ _ (c .before .before .before .before .before .before .before .before .before .before .before .pre .1) (c .before .before .before .before .before .before .before .before .before .before .before .pre .2) _ _ (c .before .before .before .before .before .before .before .write-line .ensures)
+    let p = c .before .before .before .before .before .before .before .before .before .before .before .pre in
+    turn.room _ (p .0) _ _ (p .1) (p .2) _ _ (c .before .before .before .before .before .before .before .write-line .ensures)
 
 same-length : tie.Need-same-length
 same-length c = search needs
 
 returns : tie.Need-returns
-returns c = (
-  turn.turned _ (c .before .before .before .before .before .before .before .before .before .before .before .before .pre .0) _ _ (c .before .before .before .before .before .before .before .before .before .before .before .before .pre .1) (c .before .before .before .before .before .before .before .before .before .before .before .before .pre .2) _ _ (c .before .before .before .before .before .before .before .before .write-line .ensures) _ _ (c .before .before .before .enter .ensures) (c .advance .ensures),
-  turn.moved _ (c .before .before .before .before .before .before .before .before .before .before .before .before .pre .0) _ _ (c .before .before .before .before .before .before .before .before .before .before .before .before .pre .1) (c .before .before .before .before .before .before .before .before .before .before .before .before .pre .2) _ _ (c .before .before .before .before .before .before .before .before .write-line .ensures) _ _ (c .before .before .before .enter .ensures) (c .advance .ensures),
-)
+returns c =
+    let p = c .before .before .before .before .before .before .before .before .before .before .before .before .pre in
+    let w = c .before .before .before .before .before .before .before .before .write-line .ensures in
+    let e = c .before .before .before .enter .ensures in (
+      turn.progress-is _ (p .0) _ _ (p .1) (p .2) _ _ w _ _ e (c .advance .ensures),
+      turn.words-are _ (p .0) _ _ (p .1) (p .2) _ _ w _ _ e (c .advance .ensures),
+      turn.turned _ (p .0) _ _ (p .1) (p .2) _ _ w _ _ e (c .advance .ensures),
+      turn.moved _ (p .0) _ _ (p .1) (p .2) _ _ w _ _ e (c .advance .ensures),
+    )
 
 pub write-next-spec : {M : Type 1} → statement M
 write-next-spec =

@@ -6,7 +6,7 @@ use Rattle.openings.proofs.opens.hold_ports.Tie as tie
 
 word-field-requires : tie.Need-word-field-requires
 word-field-requires c κs =
-    c .before .pre
+    c .before .pre .0
 
 word-field-requires-2 : tie.Need-word-field-requires-2
 word-field-requires-2 c κs =
@@ -15,7 +15,7 @@ word-field-requires-2 c κs =
 returns : tie.Need-returns
 returns c =
     let a = c .before .before .before .before .before .args in
-    openings.ports-held (now (a .s)) (a .place) (a .stop) (c .before .before .before .before .before .pre) _ (c .before .before .before .word-field .ensures .0) _ (c .before .word-field2 .ensures .0)
+    openings.ports-held (now (a .s)) (a .place) (a .stop) (c .before .before .before .before .before .pre .0) (c .before .before .before .before .before .pre .1) _ (c .before .before .before .word-field .ensures .0) _ (c .before .word-field2 .ensures .0)
 
 pub hold-ports-spec : {M : Type 1} → statement M
 hold-ports-spec = tie.close (tie.spec word-field-requires word-field-requires-2 returns)

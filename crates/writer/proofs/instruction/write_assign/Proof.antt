@@ -29,7 +29,11 @@ same-length c = search needs
 returns : tie.Need-returns
 returns c =
     let a = c .before .before .before .before .before .before .before .before .before .before .before .before .before .before .before .args in
-    written.assign-written (now (a .s)) (now (a .t)) (a .place) (a .stop) (a .e) (a .a) (c .before .before .before .before .before .before .before .before .before .before .before .before .before .before .before .pre .0) _ (c .before .before .before .before .before .before .before .before .before .before .before .before .word-field .ensures .0) _ _ (c .before .before .before .before .before .before .before .before .before .write-cells .ensures) _ (c .before .before .before .put-entry .ensures)
+    let p = c .before .before .before .before .before .before .before .before .before .before .before .before .before .before .before .pre in
+    let word = c .before .before .before .before .before .before .before .before .before .before .before .before .word-field .ensures in
+    let cells = c .before .before .before .before .before .before .before .before .before .write-cells .ensures in
+    let entry = c .before .before .before .put-entry .ensures in
+    written.assign-written (now (a .s)) (now (a .t)) (a .place) (a .stop) (a .e) (a .a) (p .0) _ (word .0) _ _ cells _ entry (p .4)
 
 pub write-assign-spec : {M : Type 1} → statement M
 write-assign-spec =

@@ -17,7 +17,9 @@ same-length c = search needs
 returns : tie.Need-returns
 returns c =
     let a = c .before .before .before .before .before .before .args in
-    written.end-written (now (a .s)) (now (a .t)) (a .place) (a .stop) (a .e) (a .a) _ (c .before .before .put-entry .ensures)
+    let p = c .before .before .before .before .before .before .pre in
+    let entry = c .before .before .put-entry .ensures in
+    written.end-written (now (a .s)) (now (a .t)) (a .place) (a .stop) (a .e) (a .a) _ entry (p .4)
 
 pub write-end-spec : {M : Type 1} → statement M
 write-end-spec = tie.close (tie.spec cast-put-entry put-entry-requires same-length returns)

@@ -20,7 +20,10 @@ same-length c = search needs
 returns : tie.Need-returns
 returns c =
     let a = c .before .before .before .before .before .before .before .before .args in
-    written.jump-written (now (a .s)) (now (a .t)) (a .place) (a .stop) (a .e) (a .a) (c .before .before .before .before .before .before .before .before .pre .0) _ (c .before .before .before .before .before .word-field .ensures .0) _ (c .before .before .put-entry .ensures)
+    let p = c .before .before .before .before .before .before .before .before .pre in
+    let word = c .before .before .before .before .before .word-field .ensures in
+    let entry = c .before .before .put-entry .ensures in
+    written.jump-written (now (a .s)) (now (a .t)) (a .place) (a .stop) (a .e) (a .a) (p .0) _ (word .0) _ entry (p .4)
 
 pub write-jump-spec : {M : Type 1} → statement M
 write-jump-spec =

@@ -46,7 +46,8 @@ mul-t18 c =
 
 add-t25 : tie.Need-add-t25
 add-t25 c =
-    omega (arith, c .before .before .before .before .before .before .before .before .before .before .before .before .before .before .before .before .before .write-cells .ensures .few, c .before .before .before .before .before .before .before .before .before .before .before .write-cells2 .ensures .few, c .before .before .before .before .before .before .before .before .before .before .before .before .before .before .before .before .before .before .before .before .before .before .before .pre .1)
+    let p = c .before .before .before .before .before .before .before .before .before .before .before .before .before .before .before .before .before .before .before .before .before .before .before .pre in
+    omega (arith, c .before .before .before .before .before .before .before .before .before .before .before .before .before .before .before .before .before .write-cells .ensures .few, c .before .before .before .before .before .before .before .before .before .before .before .write-cells2 .ensures .few, p .1)
 
 same-length : tie.Need-same-length
 same-length c = search needs
@@ -54,7 +55,12 @@ same-length c = search needs
 returns : tie.Need-returns
 returns c =
     let a = c .before .before .before .before .before .before .before .before .before .before .before .before .before .before .before .before .before .before .before .before .before .before .before .args in
-    written.schedule-written (now (a .s)) (now (a .t)) (a .place) (a .stop) (a .e) (a .a) (c .before .before .before .before .before .before .before .before .before .before .before .before .before .before .before .before .before .before .before .before .before .before .before .pre .0) _ (c .before .before .before .before .before .before .before .before .before .before .before .before .before .before .before .before .before .before .before .before .word-field .ensures .0) _ _ (c .before .before .before .before .before .before .before .before .before .before .before .before .before .before .before .before .before .write-cells .ensures) _ _ (c .before .before .before .before .before .before .before .before .before .before .before .write-cells2 .ensures) _ (c .before .before .before .before .put-entry .ensures)
+    let p = c .before .before .before .before .before .before .before .before .before .before .before .before .before .before .before .before .before .before .before .before .before .before .before .pre in
+    let word = c .before .before .before .before .before .before .before .before .before .before .before .before .before .before .before .before .before .before .before .before .word-field .ensures in
+    let cells = c .before .before .before .before .before .before .before .before .before .before .before .before .before .before .before .before .before .write-cells .ensures in
+    let others = c .before .before .before .before .before .before .before .before .before .before .before .write-cells2 .ensures in
+    let entry = c .before .before .before .before .put-entry .ensures in
+    written.schedule-written (now (a .s)) (now (a .t)) (a .place) (a .stop) (a .e) (a .a) (p .0) _ (word .0) _ _ cells _ _ others _ entry (p .4)
 
 pub write-schedule-spec : {M : Type 1} → statement M
 write-schedule-spec =

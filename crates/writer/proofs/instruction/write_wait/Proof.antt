@@ -26,7 +26,10 @@ same-length c = search needs
 returns : tie.Need-returns
 returns c =
     let a = c .before .before .before .before .before .before .before .before .before .before .before .before .before .args in
-    written.wait-written (now (a .s)) (now (a .t)) (a .place) (a .stop) (a .e) (a .a) (c .before .before .before .before .before .before .before .before .before .before .before .before .before .pre .0) _ _ (c .before .before .before .before .before .before .before .before .before .write-cells .ensures) _ (c .before .before .before .put-entry .ensures)
+    let p = c .before .before .before .before .before .before .before .before .before .before .before .before .before .pre in
+    let cells = c .before .before .before .before .before .before .before .before .before .write-cells .ensures in
+    let entry = c .before .before .before .put-entry .ensures in
+    written.wait-written (now (a .s)) (now (a .t)) (a .place) (a .stop) (a .e) (a .a) (p .0) _ _ cells _ entry (p .4)
 
 pub write-wait-spec : {M : Type 1} → statement M
 write-wait-spec =

@@ -1,32 +1,45 @@
 -- `writer::write_rest` meets its contract.
 use denote.Ref.{now}
-use borrow.Author.Tests.{ne-eqb}
 use Rattle.listing.specs.Form.{readByLetter}
+use Rattle.openings.proofs.Openings as openings
 use Rattle.writer.proofs.Lines as lines
 use borrow.Author.Needs.{needs}
 use Rattle.writer.proofs.line.write_rest.Statement.{statement}
 use Rattle.writer.proofs.line.write_rest.Tie as tie
 
 hold-ports-requires : tie.Need-hold-ports-requires
-hold-ports-requires c κs = search needs
+unfolding readByLetter
+hold-ports-requires c κs =
+    let p = c .before .before .before .pre in
+    (p .0, rw (c .match .keys1) at (p .4))
 
 returns : tie.Need-returns
 unfolding readByLetter
 returns c =
     let a = c .before .before .before .before .args in
-    rw (c .before .match .keys1) (c .hold-ports .ensures (now (a .t)) (a .e) (a .a))
+    let p = c .before .before .before .before .pre in
+    let g = rw (c .before .match .keys1) at (p .4) in
+    rw (c .before .match .keys1) (lines.writes-nothing _ _ (a .e) (a .a) (now (a .t)) _ (openings.ports-keep (now (a .s)) (a .place) (a .stop) (p .0) g (a .e) (a .a) (now (a .t))) (c .hold-ports .ensures))
 
 hold-opens-requires : tie.Need-hold-opens-requires
-hold-opens-requires c κs = search needs
+unfolding readByLetter
+hold-opens-requires c κs =
+    let p = c .before .before .before .pre in
+    (p .0, rw (c .match .keys2) at (p .4))
 
 returns-2 : tie.Need-returns-2
 unfolding readByLetter
 returns-2 c =
     let a = c .before .before .before .before .args in
-    rw (c .before .match .keys2) (c .hold-opens .ensures (now (a .t)) (a .e) (a .a))
+    let p = c .before .before .before .before .pre in
+    let g = rw (c .before .match .keys2) at (p .4) in
+    rw (c .before .match .keys2) (lines.writes-nothing _ _ (a .e) (a .a) (now (a .t)) _ (openings.opens-keep (now (a .s)) (a .place) (a .stop) (p .0) g (a .e) (a .a) (now (a .t))) (c .hold-opens .ensures))
 
 write-assign-requires : tie.Need-write-assign-requires
-write-assign-requires c κs = search needs
+unfolding readByLetter
+write-assign-requires c κs =
+    let p = c .before .before .before .before .pre in
+    (p .0, p .1, p .2, p .3, rw (c .before .match .keys3) at (p .4))
 
 same-length : tie.Need-same-length
 same-length c = search needs
@@ -37,7 +50,10 @@ returns-3 c =
     rw (c .before .before .before .before .match .keys3) (c .before .before .write-assign .ensures)
 
 write-schedule-requires : tie.Need-write-schedule-requires
-write-schedule-requires c κs = search needs
+unfolding readByLetter
+write-schedule-requires c κs =
+    let p = c .before .before .before .before .pre in
+    (p .0, p .1, p .2, p .3, rw (c .before .match .keys4) at (p .4))
 
 same-length-2 : tie.Need-same-length-2
 same-length-2 c = search needs
@@ -48,7 +64,10 @@ returns-4 c =
     rw (c .before .before .before .before .match .keys4) (c .before .before .write-schedule .ensures)
 
 write-branch-requires : tie.Need-write-branch-requires
-write-branch-requires c κs = search needs
+unfolding readByLetter
+write-branch-requires c κs =
+    let p = c .before .before .before .before .pre in
+    (p .0, p .1, p .2, p .3, rw (c .before .match .keys5) at (p .4))
 
 same-length-3 : tie.Need-same-length-3
 same-length-3 c = search needs
@@ -59,7 +78,10 @@ returns-5 c =
     rw (c .before .before .before .before .match .keys5) (c .before .before .write-branch .ensures)
 
 write-jump-requires : tie.Need-write-jump-requires
-write-jump-requires c κs = search needs
+unfolding readByLetter
+write-jump-requires c κs =
+    let p = c .before .before .before .before .pre in
+    (p .0, p .1, p .2, p .3, rw (c .before .match .keys6) at (p .4))
 
 same-length-4 : tie.Need-same-length-4
 same-length-4 c = search needs
@@ -70,7 +92,10 @@ returns-6 c =
     rw (c .before .before .before .before .match .keys6) (c .before .before .write-jump .ensures)
 
 write-wait-requires : tie.Need-write-wait-requires
-write-wait-requires c κs = search needs
+unfolding readByLetter
+write-wait-requires c κs =
+    let p = c .before .before .before .before .pre in
+    (p .0, p .1, p .2, p .3, rw (c .before .match .keys7) at (p .4))
 
 same-length-5 : tie.Need-same-length-5
 same-length-5 c = search needs
@@ -81,7 +106,10 @@ returns-7 c =
     rw (c .before .before .before .before .match .keys7) (c .before .before .write-wait .ensures)
 
 write-fork-requires : tie.Need-write-fork-requires
-write-fork-requires c κs = search needs
+unfolding readByLetter
+write-fork-requires c κs =
+    let p = c .before .before .before .before .pre in
+    (p .0, p .1, p .2, p .3, rw (c .before .match .keys8) at (p .4))
 
 same-length-6 : tie.Need-same-length-6
 same-length-6 c = search needs
@@ -91,24 +119,21 @@ unfolding readByLetter
 returns-8 c =
     rw (c .before .before .before .before .match .keys8) (c .before .before .write-fork .ensures)
 
+-- no other letter is left
 write-end-requires : tie.Need-write-end-requires
-write-end-requires c κs = search needs
+write-end-requires c κs =
+    let p = c .before .before .before .before .pre in
+    let r = c .before .match .rest in
+    (p .0, p .1, p .2, p .3, rw (lines.letter-left _ _ (p .4) (r .0 .0 .0 .0 .0 .0 .0 .1) (r .0 .0 .0 .0 .0 .0 .1) (r .0 .0 .0 .0 .0 .1) (r .0 .0 .0 .0 .1) (r .0 .0 .0 .1) (r .0 .0 .1) (r .0 .1) (r .1)) at (p .4))
 
 same-length-7 : tie.Need-same-length-7
 same-length-7 c = search needs
 
 returns-9 : tie.Need-returns-9
-unfolding readByLetter
 returns-9 c =
-    rw (c .before .before .before .before .match .keys9) (c .before .before .write-end .ensures)
-
-returns-10 : tie.Need-returns-10
-unfolding readByLetter
-returns-10 c =
-    let r = c .match .rest in
-    let a = c .before .before .before .args in
-    lines.letter-none (a .letter) _ _ _ _ _ _
-    (rw (ne-eqb _ 80 (r .0 .0 .0 .0 .0 .0 .0 .0 .1), ne-eqb _ 82 (r .0 .0 .0 .0 .0 .0 .0 .1), ne-eqb _ 83 (r .0 .0 .0 .0 .0 .0 .1), ne-eqb _ 65 (r .0 .0 .0 .0 .0 .1), ne-eqb _ 85 (r .0 .0 .0 .0 .1), ne-eqb _ 71 (r .0 .0 .0 .1), ne-eqb _ 87 (r .0 .0 .1), ne-eqb _ 70 (r .0 .1), ne-eqb _ 69 (r .1)))
+    let p = c .before .before .before .before .before .before .before .pre in
+    let r = c .before .before .before .before .match .rest in
+    rw (lines.letter-left _ _ (p .4) (r .0 .0 .0 .0 .0 .0 .0 .1) (r .0 .0 .0 .0 .0 .0 .1) (r .0 .0 .0 .0 .0 .1) (r .0 .0 .0 .0 .1) (r .0 .0 .0 .1) (r .0 .0 .1) (r .0 .1) (r .1)) (c .before .before .write-end .ensures)
 
 pub write-rest-spec : {M : Type 1} → statement M
 write-rest-spec =
@@ -138,5 +163,4 @@ write-rest-spec =
     returns-8
     write-end-requires
     same-length-7
-    returns-9
-    returns-10)
+    returns-9)

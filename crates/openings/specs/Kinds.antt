@@ -27,7 +27,7 @@ pub record FewKinds (bytes : Bytes) : Type 0 where
   pub reads : readKinds bytes ≡ some kinds
   pub few : length kinds ≤ 16
 
--- the kinds of a reading; few kinds have one
+-- the kinds that were read; where none were, no kinds stand for them, and FewKinds rules that out
 abbrev pub kindsOf : Option (List L.Kind) → List L.Kind
 kindsOf none = []
 kindsOf (some kinds) = kinds

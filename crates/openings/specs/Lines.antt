@@ -47,7 +47,7 @@ pub record Good (o : Option L.Line) : Type 0 where
   pub reads : o ≡ some line
   pub fits : Fits line
 
--- the line of a reading; a good one has it
+-- the line that was read; where nothing was, an `E` stands for it, and Good rules that out
 abbrev pub lineOf : Option L.Line → L.Line
 lineOf none = L.Line.instruction L.Instruction.end
 lineOf (some line) = line

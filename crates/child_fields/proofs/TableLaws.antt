@@ -5,7 +5,7 @@ use mathlib.Core.List.{List, [], _∷_}
 use Prim.Native.Nat.{ℕ, zero, suc, _+_, _*_, _-_, _<_, _≤_, _/_, _%_}
 use lib.Dec.{eqb}
 use lib.ListN.{List·getD-eq-default}
-use borrow.Author.Tests.{eq-eqb, ne-eqb, eqb-true, eqb-false}
+use borrow.Author.Tests.{eq-eqb, ne-eqb, eqb-true, eqb-false, le-leb, lt-leb}
 use native.Mathlib.Omega.{arith}
 use native.Mathlib.Numerals.{add-one}
 use Rattle.listing.specs.Listing.{Kind, byReference, byValue, Instruction, wait, fork, end}
@@ -14,7 +14,8 @@ use Rattle.walk.specs.Question7.{ownedCount, ownedBy}
 use Rattle.table.specs.Decode.{headAfter, word, afterCall, callsAt, namesAt, instructionOf, instructionAtEntry, kindsOfBits, instructionEntry, tableListing}
 use Rattle.table.proofs.Reach.{owned-by-number, code-length-by-number, instruction-by-address}
 use Rattle.machine.specs.Records.{Frame, Scan, asleepAt}
-use Rattle.child_fields.specs.Tables.{TableBounds, Seen, at-wait, at-fork, at-other}
+use Rattle.child_fields.specs.Tables.{TableBounds, Seen, at-wait, at-fork, at-other, pastLine, lineAt}
+use Rattle.child_fields.specs.declared.routines.Line.{Line}
 
 -- ── owned variables ───────────────────────────────────────────────────────────────────────────────
 one-more : (ks : List Kind) (l : ℕ) → ownedCount ks (suc l) ≡ suc (ownedCount ks l)
@@ -68,6 +69,16 @@ unfolding afterCall
 next-head w a i at e = let p : at + 0 ≡ at = omega arith in sym (head-after-one w a i ∙ rw (← e, p))
 
 -- ── instructions ──────────────────────────────────────────────────────────────────────────────────
+pub line-past : (w : List ℕ) (r place : ℕ) → word w (8 + 5 * r + 4) ≤ place → pastLine ≡ lineAt w r place
+unfolding lineAt
+line-past w r place h = rw (le-leb _ _ h)
+
+pub line-there : (w : List ℕ) (r place kind cells count : ℕ) → place < word w (8 + 5 * r + 4) → kind ≡ word w (instructionEntry w r place + 0) →
+    cells ≡ word w (instructionEntry w r place + 2) → count ≡ word w (instructionEntry w r place + 3) →
+    _≡_ {A = Line} (record { kind = kind; cells = cells; count = count }) (lineAt w r place)
+unfolding lineAt
+line-there w r place kind cells count h k c n = rw (lt-leb _ _ h, k, c, n)
+
 module _ (w : List ℕ) (bounds : TableBounds w) (r : ℕ) (there : r < word w 2) (place : ℕ) where
   pub past-the-end : word w (8 + 5 * r + 4) ≤ place → Seen w r place 7 0 0
   unfolding instructionAt asleepAt

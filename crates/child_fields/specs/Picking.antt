@@ -1,23 +1,24 @@
 -- The child field that is looked for. w stands for the table's words.
-use mathlib.Core.Path.{_≡_}
-use mathlib.Core.Bool.{Bool, true, false}
+use mathlib.Core.Bool.{true, false, cond}
 use mathlib.Core.List.{List}
-use Prim.Native.Nat.{ℕ, _+_, _-_, _<_, _≤_}
+use Prim.Native.Nat.{ℕ, _+_, _-_}
+use lib.Dec.{ltb, leb}
 use Rattle.table.specs.Decode.{headAfter, word}
+use Rattle.child_fields.specs.declared.pick.Maker.{Maker}
 
--- A child's number is not among those that may still come.
-pub data Missing (next left child : ℕ) : Type 0 where
-  too-low : child < next → Missing next left child
-  too-high : next ≤ child → left ≤ child - next → Missing next left child
+-- There is none.
+abbrev pub noMaker : Maker
+noMaker = record { found = false; routine = 0; head = 0; left = 0 }
 
--- The child field numbered `child` among the `left` ones from `next` on, the first head at `first`: its routine, and the head after it.
-pub record Chosen (w : List ℕ) (first left next child routine head rest : ℕ) : Type 0 where
-  pub low : next ≤ child
-  pub high : child - next < left
-  pub callee : routine ≡ word w (headAfter w first (child - next) + 1)
-  pub after : head ≡ headAfter w first (child - next + 1)
-  pub fewer : rest ≡ left - (child - next) - 1
+-- The child field that follows `skip` others, the first head at `first`: its routine, the head after it, and how many are left.
+abbrev pub makerAfter : List ℕ → ℕ → ℕ → ℕ → Maker
+makerAfter w first left skip = record {
+  found = true;
+  routine = word w (headAfter w first skip + 1);
+  head = headAfter w first (skip + 1);
+  left = left - skip - 1;
+}
 
-pub record Picked (w : List ℕ) (first left next child : ℕ) (found : Bool) (routine head rest : ℕ) : Type 0 where
-  pub nobody : found ≡ false → Missing next left child
-  pub somebody : found ≡ true → Chosen w first left next child routine head rest
+-- The child field numbered `child` among the `left` ones from `next` on, the first head at `first`.
+unfoldable pub makerOf : List ℕ → ℕ → ℕ → ℕ → ℕ → Maker
+makerOf w first left next child = cond (ltb child next) noMaker (cond (leb left (child - next)) noMaker (makerAfter w first left (child - next)))

@@ -1,12 +1,14 @@
 -- What the scan of the records needs of a table's words, and what a look at an instruction finds.
 use mathlib.Core.Path.{_≡_}
-use mathlib.Core.Bool.{false}
+use mathlib.Core.Bool.{false, cond}
 use mathlib.Core.List.{List}
 use Prim.Native.Nat.{ℕ, _+_, _<_, _≤_}
+use lib.Dec.{leb}
 use Rattle.listing.specs.Listing.{wait, fork}
 use Rattle.walk.specs.Walk.{instructionAt}
-use Rattle.table.specs.Decode.{word, callsAt, headAfter, routineEntry, instructionEntry, tableListing}
+use Rattle.table.specs.Decode.{word, callsAt, headAfter, routineEntry, instructionEntry, sizeOf, tableListing}
 use Rattle.machine.specs.Records.{Frame, Scan, asleepAt}
+use Rattle.child_fields.specs.declared.routines.Line.{Line}
 
 -- n heads from a on: they stand in the memory and call routines of the table.
 pub record HeadsFit (w : List ℕ) (a n : ℕ) : Type 0 where
@@ -22,6 +24,17 @@ pub record TableBounds (w : List ℕ) : Type 0 where
   pub code : (r : ℕ) → r < word w 2 → word w (routineEntry r + 3) + word w (routineEntry r + 4) ≤ 512
   pub heads : (r place : ℕ) → r < word w 2 → place < word w (routineEntry r + 4) → word w (instructionEntry w r place + 0) ≡ 6 →
       HeadsFit w (word w (instructionEntry w r place + 2)) (word w (instructionEntry w r place + 3))
+
+-- Of the entry of instruction `place` of routine r its kind, the address of its cells and their first count; past the last one, an `E`.
+abbrev pub pastLine : Line
+pastLine = record { kind = 7; cells = 0; count = 0 }
+
+unfoldable pub lineAt : List ℕ → ℕ → ℕ → Line
+lineAt w r place = cond (leb (sizeOf w r) place) pastLine (record {
+  kind = word w (instructionEntry w r place + 0);
+  cells = word w (instructionEntry w r place + 2);
+  count = word w (instructionEntry w r place + 3);
+})
 
 -- A look at instruction `place` of routine r finds its kind; of an `F`, where its heads begin and how many there are.
 pub data Seen (w : List ℕ) (r place kind cells count : ℕ) : Type 0 where

@@ -2,12 +2,11 @@
 use crate::routines::head_after;
 use machine_words::number;
 ghost use mathlib.Core.Path.{_≡_};
-ghost use mathlib.Core.Bool.{false};
 ghost use lib.ListN.{length};
 ghost use Rattle.child_fields.specs.Tables.{HeadsFit};
-ghost use Rattle.child_fields.specs.Picking.{Picked};
+ghost use Rattle.child_fields.specs.Picking.{noMaker, makerOf};
 
-// What made a record: its routine, and behind its child field the next head and how many are left.
+// What made a record: its routine, and behind its child field the next head and how many are left; all 0 if nothing did.
 pub struct Maker {
     pub found: bool,
     pub routine: usize,
@@ -16,7 +15,7 @@ pub struct Maker {
 }
 
 pub fn nobody() -> Maker
-    ensures { λ r. ⌜ r .found ≡ false ⌝ }
+    ensures { λ r. ⌜ r ≡ noMaker ⌝ }
 {
     Maker {
         found: false,
@@ -29,7 +28,7 @@ pub fn nobody() -> Maker
 // The child field numbered `child` among the `left` ones from `next` on, the first head at `first`.
 pub fn pick(t: &[u32], first: usize, left: usize, next: usize, child: usize) -> Maker
     requires { ⌜ (length (now t) ≡ 12288) × HeadsFit (now t) first left ⌝ }
-    ensures { λ r. ⌜ Picked (now (t .entry)) first left next child (r .found) (r .routine) (r .head) (r .left) ⌝ }
+    ensures { λ r. ⌜ r ≡ makerOf (now (t .entry)) first left next child ⌝ }
 {
     if child < next {
         return nobody();

@@ -6,7 +6,7 @@ ghost use Prim.Native.Nat.{ℕ, _+_, _*_, _<_, _≤_};
 ghost use lib.ListN.{length};
 ghost use Rattle.walk.specs.Question7.{ownedBy};
 ghost use Rattle.table.specs.Decode.{word, headAfter, tableListing};
-ghost use Rattle.child_fields.specs.Tables.{TableBounds, HeadsFit, Seen};
+ghost use Rattle.child_fields.specs.Tables.{TableBounds, HeadsFit, Seen, lineAt};
 
 // How many variables routine r owns: its locals and its arguments by value.
 pub fn owned_by(t: &[u32], r: usize) -> usize
@@ -51,7 +51,7 @@ pub struct Line {
 // Instruction `place` of routine r; past the last one, an `E`.
 pub fn line_at(t: &[u32], r: usize, place: usize) -> Line
     requires { ⌜ (length (now t) ≡ 12288) × (r < word (now t) 2) × TableBounds (now t) ⌝ }
-    ensures { λ l. ⌜ Seen (now (t .entry)) r place (l .kind) (l .cells) (l .count) ⌝ }
+    ensures { λ l. ⌜ (l ≡ lineAt (now (t .entry)) r place) × Seen (now (t .entry)) r place (l .kind) (l .cells) (l .count) ⌝ }
 {
     let at = 8 + 5 * r;
     let lines = number(t[at + 4]);

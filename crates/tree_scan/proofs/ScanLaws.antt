@@ -16,11 +16,12 @@ use Rattle.machine.specs.Records.{Frame, levelFits, asleepAt, madeByFirst, chil
 use Rattle.machine.specs.Words.{blockAt, momentAt, slotOf, recordIn, recordsIn}
 use Rattle.machine.proofs.PassingWordsHold.{length-variablesIn}
 use Rattle.child_fields.specs.Tables.{HeadsFit, Seen, at-wait, at-fork, at-other}
-use Rattle.child_fields.specs.Picking.{Missing, too-low, too-high, Chosen, Picked}
-use Rattle.tree_scan.specs.Scan.{whole, recordOf, scanAfter, Ready, Heads, Stack, bottom, above, Going, Caller, Made}
+use Rattle.child_fields.specs.Picking.{noMaker, makerOf}
+use Rattle.child_fields.specs.declared.pick.Maker.{Maker}
+use Rattle.tree_scan.specs.Scan.{whole, recordOf, scanAfter, Ready, Heads, Stack, bottom, above, Going, Caller, Made, makerFor}
 use Rattle.tree_scan.specs.declared.scan.Path.{Path}
 use Rattle.child_fields.proofs.TableLaws.{head-after-add}
-use Rattle.child_fields.proofs.PickLaws.{no-clash}
+use Rattle.child_fields.proofs.PickLaws.{no-clash, Missing, too-low, too-high, Chosen, Picked}
 use Rattle.table.proofs.Reach.{calls-count}
 
 -- ── heads ─────────────────────────────────────────────────────────────────────────────────────────
@@ -158,12 +159,12 @@ module _ (w m : List ℕ) (k : ℕ) (p : Path) (within : k < getD m 3 0) (G : Go
             rw (f, g, add-one s, q) (heads-after w (frame .calls) (getD (p .head) ((recordOf m k) .level) 0) (getD (p .left) ((recordOf m k) .level) 0) (suc s) (frame .heads) h)
 
     -- the look for the child field answers for the record
-    pub picked-made : (next left first child : ℕ) (found : Bool) (routine head rest : ℕ) → next ≡ getD (p .next) ((recordOf m k) .level) 0 →
+    pub picked-made : (next left first child : ℕ) (r : Maker) → next ≡ getD (p .next) ((recordOf m k) .level) 0 →
         left ≡ getD (p .left) ((recordOf m k) .level) 0 → first ≡ getD (p .head) ((recordOf m k) .level) 0 → child ≡ (recordOf m k) .child →
-        Picked w first left next child found routine head rest → Made w m k p found routine head rest
-    picked-made next left first child found routine head rest a b f c P = record {
+        Picked w first left next child r → Made w m k p r
+    picked-made next left first child r a b f c P = record {
       nobody = λ e. missing-child next left child a b c (P .nobody e);
-      somebody = λ e. chosen-child next left child routine head rest a b c (rw f at (P .somebody e));
+      somebody = λ e. chosen-child next left child _ _ _ a b c (rw f at (P .somebody e));
     }
 
 -- ── what comes after a record ─────────────────────────────────────────────────────────────────────
@@ -212,8 +213,17 @@ pub place-from : (m : List ℕ) (k at place : ℕ) → at ≡ blockAt (slotOf m 
 place-from m k at place a e = e ∙ ap (λ u. getD m (u + 3) 0) a ∙ sym (place-word m k)
 
 -- ── answers ───────────────────────────────────────────────────────────────────────────────────────
-pub nobody-made : (w m : List ℕ) (k : ℕ) (p : Path) (found : Bool) (routine head left : ℕ) → found ≡ false → whole w m ≡ false → Made w m k p found routine head left
-nobody-made w m k p found routine head left e h = record { nobody = λ z. h; somebody = λ z. no-clash e z }
+pub nobody-made : (w m : List ℕ) (k : ℕ) (p : Path) (r : Maker) → r .found ≡ false → whole w m ≡ false → Made w m k p r
+nobody-made w m k p r e h = record { nobody = λ z. h; somebody = λ z. no-clash e z }
+
+pub maker-unfit : (w m : List ℕ) (k : ℕ) (p : Path) → levelFits (p .forked) ((recordOf m k) .level) (p .depth) ≡ false → noMaker ≡ makerFor w m k p
+unfolding makerFor
+maker-unfit w m k p e = rw e
+
+pub maker-fit : (w m : List ℕ) (k : ℕ) (p : Path) (level child : ℕ) → level ≡ (recordOf m k) .level → child ≡ (recordOf m k) .child → levelFits (p .forked) level (p .depth) ≡ true →
+    makerOf w (getD (p .head) level 0) (getD (p .left) level 0) (getD (p .next) level 0) child ≡ makerFor w m k p
+unfolding makerFor
+maker-fit w m k p level child a b e = rw (← a, ← b, e)
 
 pub frame-fits : (w m : List ℕ) (k : ℕ) (p : Path) (level : ℕ) → Going w m k p → level < p .depth → HeadsFit w (getD (p .head) level 0) (getD (p .left) level 0)
 frame-fits w m k p level G h = level-frame w p (G .frames) level (rw (← G .depth) h) (G .stack) .heads .fit

@@ -3,9 +3,9 @@ use mathlib.Core.Path.{_≡_, refl, sym, ap, _∙_}
 use mathlib.Core.Bool.{true, false, not}
 use mathlib.Core.List.{List, [], _∷_}
 use Prim.Native.Nat.{ℕ, zero, suc, _+_, _-_, _<_, _≤_}
-use lib.ListN.{length, getD, replicate, length-set}
+use lib.ListN.{length, getD, set, replicate, length-set}
 use lib.Seq.{getD-set-same, getD-set-other}
-use borrow.Author.Tests.{le-leb}
+use borrow.Author.Tests.{le-leb, lt-leb, eq-eqb, ne-eqb}
 use native.Mathlib.Omega.{arith}
 use native.Mathlib.Numerals.{add-one}
 use Rattle.walk.specs.Instant.{mainCall}
@@ -13,16 +13,100 @@ use Rattle.walk.specs.Question7.{ownedBy}
 use Rattle.table.specs.Decode.{headAfter, word, callsAt, tableListing}
 use Rattle.machine.specs.Records.{Frame, asleepAt, scan, recordsPass, mainFrame, noCall}
 use Rattle.machine.specs.Words.{recordsIn}
-use Rattle.child_fields.specs.Tables.{TableBounds, HeadsFit, Seen, at-wait, at-fork, at-other}
-use Rattle.tree_scan.specs.Scan.{whole, recordOf, Ready, Heads, Stack, bottom, above, Going, Caller, Entered, Pushed, Stepped}
+use Rattle.child_fields.specs.Tables.{TableBounds, HeadsFit, Seen, at-wait, at-fork, at-other, lineAt}
+use Rattle.child_fields.specs.declared.pick.Maker.{Maker}
+use Rattle.child_fields.specs.declared.routines.Line.{Line}
+use Rattle.tree_scan.specs.Scan.{whole, recordOf, Ready, Heads, Stack, bottom, above, Going, Caller, Stepped}
+use Rattle.tree_scan.specs.Scan.{makerFor, refusedPath, enteredPath, pushedPath, pathAt, settledPath, pathBy, steppedPath}
 use Rattle.tree_scan.specs.declared.scan.Path.{Path}
 use Rattle.tree_scan.proofs.ScanLaws.{Agree, keep, fork-heads, asleep-law}
 
-pub refused-step : (w m : List ℕ) (k : ℕ) (q : Path) → q .good ≡ false → whole w m ≡ false → Stepped w m k q
-refused-step w m k q e h = record {
-  bad = λ z. h;
-  good = λ z. absurd (let y : _≡_ {A = ℕ} 0 1 = cc in let b : ⊥ = omega arith in b);
-}
+-- ── the path, field by field ──────────────────────────────────────────────────────────────────────
+pub record Entered (p : Path) (level child after rest : ℕ) (q : Path) : Type 0 where
+  pub good : q .good ≡ true
+  pub forked : q .forked ≡ false
+  pub depth : q .depth ≡ level + 1
+  pub next : q .next ≡ set (p .next) level (child + 1)
+  pub head : q .head ≡ set (p .head) level after
+  pub left : q .left ≡ set (p .left) level rest
+
+pub record Pushed (p : Path) (level cells count : ℕ) (q : Path) : Type 0 where
+  pub good : q .good ≡ p .good
+  pub forked : q .forked ≡ true
+  pub depth : q .depth ≡ level + 2
+  pub next : q .next ≡ set (p .next) (level + 1) 0
+  pub head : q .head ≡ set (p .head) (level + 1) cells
+  pub left : q .left ≡ set (p .left) (level + 1) count
+
+pub entered-fields : (p q : Path) (level child after rest l n : ℕ) → level ≡ l → child ≡ n → q ≡ enteredPath p level child after rest → Entered p l n after rest q
+entered-fields p q level child after rest l n a b e =
+    let f : q ≡ enteredPath p l n after rest = rw (a, b) at e in
+    record {
+      good = ap (λ x. x .good) f;
+      forked = ap (λ x. x .forked) f;
+      depth = ap (λ x. x .depth) f;
+      next = ap (λ x. x .next) f;
+      head = ap (λ x. x .head) f;
+      left = ap (λ x. x .left) f;
+    }
+
+pub pushed-fields : (p q : Path) (level cells count l : ℕ) → level ≡ l → q ≡ pushedPath p level cells count → Pushed p l cells count q
+pushed-fields p q level cells count l a e =
+    let f : q ≡ pushedPath p l cells count = rw a at e in
+    record {
+      good = ap (λ x. x .good) f;
+      forked = ap (λ x. x .forked) f;
+      depth = ap (λ x. x .depth) f;
+      next = ap (λ x. x .next) f;
+      head = ap (λ x. x .head) f;
+      left = ap (λ x. x .left) f;
+    }
+
+-- ── the path by its cases ─────────────────────────────────────────────────────────────────────────
+module _ (p q : Path) (level : ℕ) (line : Line) where
+  pub at-wait-path : line .kind ≡ 5 → q ≡ pathAt p q level line
+  unfolding pathAt
+  at-wait-path h = rw (eq-eqb _ _ h)
+
+  pub at-other-path : (line .kind ≡ 5 → ⊥) → (line .kind ≡ 6 → ⊥) → refusedPath p ≡ pathAt p q level line
+  unfolding pathAt
+  at-other-path g h = rw (ne-eqb _ _ g, ne-eqb _ _ h)
+
+  pub at-deep-path : line .kind ≡ 6 → 9 < level → refusedPath p ≡ pathAt p q level line
+  unfolding pathAt
+  at-deep-path h l = rw (h, lt-leb _ _ l)
+
+  pub at-fork-path : line .kind ≡ 6 → level ≤ 9 → pushedPath q level (line .cells) (line .count) ≡ pathAt p q level line
+  unfolding pathAt
+  at-fork-path h l = rw (h, le-leb _ _ l)
+
+module _ (w m : List ℕ) (k : ℕ) (p : Path) (made : Maker) where
+  pub settled-as : (level child place : ℕ) (q : Path) (line : Line) → level ≡ (recordOf m k) .level → child ≡ (recordOf m k) .child →
+      place ≡ (recordOf m k) .place → q ≡ enteredPath p level child (made .head) (made .left) → line ≡ lineAt w (made .routine) place →
+      pathAt p q level line ≡ settledPath w m k p made
+  settled-as level child place q line a b c e f = rw (f, e, a, b, c)
+
+  module _ (is : made ≡ makerFor w m k p) where
+    pub unmade-path : made .found ≡ false → refusedPath p ≡ steppedPath w m k p
+    unfolding pathBy
+    unmade-path e = rw (← is, e)
+
+    pub wrong-size-path : made .found ≡ true → (length ((recordOf m k) .own) ≡ ownedBy (tableListing w) (made .routine) → ⊥) → refusedPath p ≡ steppedPath w m k p
+    unfolding pathBy
+    wrong-size-path e h = rw (← is, e, ne-eqb _ _ h)
+
+    pub right-size-path : made .found ≡ true → length ((recordOf m k) .own) ≡ ownedBy (tableListing w) (made .routine) → settledPath w m k p made ≡ steppedPath w m k p
+    unfolding pathBy
+    right-size-path e h = rw (← is, e, eq-eqb _ _ h)
+
+-- ── where the scan has come to ────────────────────────────────────────────────────────────────────
+pub refused-step : (w m : List ℕ) (k : ℕ) (p q : Path) → q ≡ refusedPath p → whole w m ≡ false → Stepped w m k q
+refused-step w m k p q r h =
+    let e : q .good ≡ false = ap (λ x. x .good) r in
+    record {
+      bad = λ z. h;
+      good = λ z. absurd (let y : _≡_ {A = ℕ} 0 1 = cc in let b : ⊥ = omega arith in b);
+    }
 
 good-step : (w m : List ℕ) (k : ℕ) (q : Path) → q .good ≡ true → Going w m k q → Stepped w m k q
 good-step w m k q e G = record {

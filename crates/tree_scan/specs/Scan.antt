@@ -1,16 +1,20 @@
 -- The scan of the records as far as the code has come: "the rest of the scan equals the whole".
 -- w stands for the table's words, m for the machine's.
 use mathlib.Core.Path.{_≡_}
-use mathlib.Core.Bool.{Bool, true, false}
+use mathlib.Core.Bool.{Bool, true, false, cond, _&&_}
 use mathlib.Core.List.{List, [], _∷_}
 use Prim.Native.Nat.{ℕ, _+_, _-_, _<_, _≤_}
+use lib.Dec.{eqb, leb}
 use lib.ListN.{length, getD, set}
 use Rattle.listing.specs.Listing.{Call}
-use Rattle.walk.specs.Question7.{allAtRest}
+use Rattle.walk.specs.Question7.{allAtRest, ownedBy}
 use Rattle.table.specs.Decode.{headAfter, word, tableListing}
-use Rattle.machine.specs.Records.{Record, Frame, madeByFirst, scan, recordsPass, noCall}
+use Rattle.machine.specs.Records.{Record, Frame, levelFits, madeByFirst, scan, recordsPass, noCall}
 use Rattle.machine.specs.Words.{blockAt, momentAt, slotOf, recordIn, recordsIn}
-use Rattle.child_fields.specs.Tables.{TableBounds, HeadsFit}
+use Rattle.child_fields.specs.Tables.{TableBounds, HeadsFit, lineAt}
+use Rattle.child_fields.specs.Picking.{noMaker, makerOf}
+use Rattle.child_fields.specs.declared.pick.Maker.{Maker}
+use Rattle.child_fields.specs.declared.routines.Line.{Line}
 use Rattle.tree_scan.specs.declared.scan.Path.{Path}
 
 abbrev pub whole : List ℕ → List ℕ → Bool
@@ -66,28 +70,65 @@ pub record Caller (w m : List ℕ) (k : ℕ) (p : Path) (routine head left : ℕ
   pub stack : Stack w p outer
   pub law : madeByFirst (tableListing w) (momentAt m 1) (recordOf m k) (scanAfter w m k) (call ∷ later) outer ≡ whole w m
 
-pub record Made (w m : List ℕ) (k : ℕ) (p : Path) (found : Bool) (routine head left : ℕ) : Type 0 where
-  pub nobody : found ≡ false → whole w m ≡ false
-  pub somebody : found ≡ true → Caller w m k p routine head left
-
--- How the path changes at a child's record, and after it at an `F`.
-pub record Entered (p : Path) (level child after rest : ℕ) (q : Path) : Type 0 where
-  pub good : q .good ≡ true
-  pub forked : q .forked ≡ false
-  pub depth : q .depth ≡ level + 1
-  pub next : q .next ≡ set (p .next) level (child + 1)
-  pub head : q .head ≡ set (p .head) level after
-  pub left : q .left ≡ set (p .left) level rest
-
-pub record Pushed (p : Path) (level cells count : ℕ) (q : Path) : Type 0 where
-  pub good : q .good ≡ p .good
-  pub forked : q .forked ≡ true
-  pub depth : q .depth ≡ level + 2
-  pub next : q .next ≡ set (p .next) (level + 1) 0
-  pub head : q .head ≡ set (p .head) (level + 1) cells
-  pub left : q .left ≡ set (p .left) (level + 1) count
+pub record Made (w m : List ℕ) (k : ℕ) (p : Path) (r : Maker) : Type 0 where
+  pub nobody : r .found ≡ false → whole w m ≡ false
+  pub somebody : r .found ≡ true → Caller w m k p (r .routine) (r .head) (r .left)
 
 -- After a step the scan has come to the k-th record, or the list does not pass.
 pub record Stepped (w m : List ℕ) (k : ℕ) (q : Path) : Type 0 where
   pub bad : q .good ≡ false → whole w m ≡ false
   pub good : q .good ≡ true → Going w m k q
+
+-- ── the path, record by record ────────────────────────────────────────────────────────────────────
+-- The child field that made the k-th record, if it is one that may still come.
+unfoldable pub makerFor : List ℕ → List ℕ → ℕ → Path → Maker
+makerFor w m k p =
+    let level = (recordOf m k) .level in
+    cond (levelFits (p .forked) level (p .depth))
+    (makerOf w (getD (p .head) level 0) (getD (p .left) level 0) (getD (p .next) level 0) ((recordOf m k) .child)) noMaker
+
+-- The list does not pass: all else stays.
+abbrev pub refusedPath : Path → Path
+refusedPath p = record { good = false; forked = p .forked; depth = p .depth; next = p .next; head = p .head; left = p .left }
+
+-- The record of a child: the child fields after its own may still come.
+abbrev pub enteredPath : Path → ℕ → ℕ → ℕ → ℕ → Path
+enteredPath p level child after rest = record {
+  good = true;
+  forked = false;
+  depth = level + 1;
+  next = set (p .next) level (child + 1);
+  head = set (p .head) level after;
+  left = set (p .left) level rest;
+}
+
+-- The record is at an `F`: its child fields come next.
+abbrev pub pushedPath : Path → ℕ → ℕ → ℕ → Path
+pushedPath p level cells count = record {
+  good = p .good;
+  forked = true;
+  depth = level + 2;
+  next = set (p .next) (level + 1) 0;
+  head = set (p .head) (level + 1) cells;
+  left = set (p .left) (level + 1) count;
+}
+
+-- A record of this level at this instruction: "asleep at a `W` or at an `F`", "to level 10". p is the path before it, q with it entered.
+unfoldable pub pathAt : Path → Path → ℕ → Line → Path
+pathAt p q level line =
+    cond (eqb (line .kind) 5) q
+    (cond (eqb (line .kind) 6) (cond (leb level 9) (pushedPath q level (line .cells) (line .count)) (refusedPath p)) (refusedPath p))
+
+-- The path after the k-th record, which has its own variables.
+abbrev pub settledPath : List ℕ → List ℕ → ℕ → Path → Maker → Path
+settledPath w m k p made =
+    pathAt p (enteredPath p ((recordOf m k) .level) ((recordOf m k) .child) (made .head) (made .left)) ((recordOf m k) .level)
+    (lineAt w (made .routine) ((recordOf m k) .place))
+
+-- The path after the k-th record, made by this child field, if any.
+unfoldable pub pathBy : List ℕ → List ℕ → ℕ → Path → Maker → Path
+pathBy w m k p made =
+    cond (made .found && eqb (length ((recordOf m k) .own)) (ownedBy (tableListing w) (made .routine))) (settledPath w m k p made) (refusedPath p)
+
+abbrev pub steppedPath : List ℕ → List ℕ → ℕ → Path → Path
+steppedPath w m k p = pathBy w m k p (makerFor w m k p)

@@ -8,14 +8,14 @@ use child_fields::routines::line_at;
 use child_fields::routines::owned_by;
 use machine_words::number;
 ghost use mathlib.Core.Path.{_≡_};
-ghost use mathlib.Core.Bool.{true, false};
-ghost use Prim.Native.Nat.{ℕ, _+_, _*_, _-_, _<_, _≤_};
-ghost use lib.ListN.{length, getD, set};
+ghost use Prim.Native.Nat.{_+_, _<_, _≤_};
+ghost use lib.ListN.{length, getD};
 ghost use Rattle.walk.specs.Question7.{ownedBy};
 ghost use Rattle.table.specs.Decode.{tableListing};
 ghost use Rattle.machine.specs.Records.{levelFits};
 ghost use Rattle.machine.specs.Words.{blockAt, slotOf};
-ghost use Rattle.tree_scan.specs.Scan.{Ready, Going, Caller, Made, Entered, Pushed, Stepped, whole, recordOf};
+ghost use Rattle.tree_scan.specs.Scan.{Ready, Going, Caller, Made, Stepped, whole, recordOf};
+ghost use Rattle.tree_scan.specs.Scan.{makerFor, refusedPath, enteredPath, pushedPath, settledPath, steppedPath};
 
 pub struct Path {
     // Does the list pass so far?
@@ -49,7 +49,7 @@ fn level_fits(forked: bool, level: usize, depth: usize) -> bool
 // The child field that made the k-th record, if it is one that may still come.
 fn made_by(t: &[u32], m: &[u32], k: usize, p: Path) -> Maker
     requires { ⌜ (length (now t) ≡ 12288) × (length (now m) ≡ 12288) × (k < getD (now m) 3 0) × Ready (now t) (now m) × Going (now t) (now m) k p ⌝ }
-    ensures { λ r. ⌜ Made (now (t .entry)) (now (m .entry)) k p (r .found) (r .routine) (r .head) (r .left) ⌝ }
+    ensures { λ r. ⌜ (r ≡ makerFor (now (t .entry)) (now (m .entry)) k p) × Made (now (t .entry)) (now (m .entry)) k p r ⌝ }
 {
     let at = block_of(m, k);
     let level = number(m[at + 1]);
@@ -66,7 +66,7 @@ fn made_by(t: &[u32], m: &[u32], k: usize, p: Path) -> Maker
 }
 
 fn refused(p: Path) -> Path
-    ensures { λ r. ⌜ r .good ≡ false ⌝ }
+    ensures { λ r. ⌜ r ≡ refusedPath p ⌝ }
 {
     let mut q = p;
     q.good = false;
@@ -76,7 +76,7 @@ fn refused(p: Path) -> Path
 // The record of a child: the child fields after its own may still come.
 fn entered(p: Path, level: usize, child: usize, head: usize, left: usize) -> Path
     requires { ⌜ (level < 11) × (child < 4294967296) ⌝ }
-    ensures { λ r. ⌜ Entered p level child head left r ⌝ }
+    ensures { λ r. ⌜ r ≡ enteredPath p level child head left ⌝ }
 {
     let mut q = p;
     q.good = true;
@@ -91,7 +91,7 @@ fn entered(p: Path, level: usize, child: usize, head: usize, left: usize) -> Pat
 // The record is at an `F`: its child fields come next.
 fn pushed(p: Path, level: usize, cells: usize, count: usize) -> Path
     requires { ⌜ level < 10 ⌝ }
-    ensures { λ r. ⌜ Pushed p level cells count r ⌝ }
+    ensures { λ r. ⌜ r ≡ pushedPath p level cells count ⌝ }
 {
     let mut q = p;
     q.forked = true;
@@ -105,7 +105,7 @@ fn pushed(p: Path, level: usize, cells: usize, count: usize) -> Path
 // A record of the right size: is its routine asleep?
 fn settle(t: &[u32], m: &[u32], k: usize, p: Path, made: Maker) -> Path
     requires { ⌜ (length (now t) ≡ 12288) × (length (now m) ≡ 12288) × (k < getD (now m) 3 0) × Ready (now t) (now m) × Going (now t) (now m) k p × Caller (now t) (now m) k p (made .routine) (made .head) (made .left) × (length (recordOf (now m) k .own) ≡ ownedBy (tableListing (now t)) (made .routine)) ⌝ }
-    ensures { λ q. ⌜ Stepped (now (t .entry)) (now (m .entry)) (k + 1) q ⌝ }
+    ensures { λ q. ⌜ (q ≡ settledPath (now (t .entry)) (now (m .entry)) k p made) × Stepped (now (t .entry)) (now (m .entry)) (k + 1) q ⌝ }
 {
     let at = block_of(m, k);
     let level = number(m[at + 1]);
@@ -129,7 +129,7 @@ fn settle(t: &[u32], m: &[u32], k: usize, p: Path, made: Maker) -> Path
 // The path after the k-th record: is it a child that may come now, with its own variables, asleep?
 fn step(t: &[u32], m: &[u32], k: usize, p: Path) -> Path
     requires { ⌜ (length (now t) ≡ 12288) × (length (now m) ≡ 12288) × (k < getD (now m) 3 0) × Ready (now t) (now m) × Going (now t) (now m) k p ⌝ }
-    ensures { λ q. ⌜ Stepped (now (t .entry)) (now (m .entry)) (k + 1) q ⌝ }
+    ensures { λ q. ⌜ (q ≡ steppedPath (now (t .entry)) (now (m .entry)) k p) × Stepped (now (t .entry)) (now (m .entry)) (k + 1) q ⌝ }
 {
     let made = made_by(t, m, k, p);
     if !made.found {

@@ -1,9 +1,9 @@
 -- `child_fields::pick::pick` meets its contract.
 use Prim.Native.Nat.{_+_, _-_, _<_}
+use mathlib.Core.Path.{_∙_}
 use native.Mathlib.Omega.{arith}
 use Rattle.table.specs.Decode.{headAfter}
-use Rattle.child_fields.specs.Picking.{too-low, too-high}
-use Rattle.child_fields.proofs.PickLaws.{nobody-picked, somebody-picked}
+use Rattle.child_fields.proofs.PickLaws.{nobody-low, nobody-high, somebody-picked}
 use borrow.Author.Needs.{needs}
 use Rattle.child_fields.proofs.pick.pick.Statement.{statement}
 use Rattle.child_fields.proofs.pick.pick.Tie as tie
@@ -13,14 +13,14 @@ nobody-requires c κs = search needs
 
 returns : tie.Need-returns
 returns c =
-    nobody-picked _ _ _ _ _ _ _ _ _ (c .nobody .ensures) (too-low (c .before .if1 .taken))
+    c .nobody .ensures ∙ nobody-low _ _ _ _ _ (c .before .if1 .taken)
 
 nobody-requires-2 : tie.Need-nobody-requires-2
 nobody-requires-2 c κs = search needs
 
 returns-2 : tie.Need-returns-2
 returns-2 c =
-    nobody-picked _ _ _ _ _ _ _ _ _ (c .nobody2 .ensures) (too-high (c .before .before .if1 .left) (c .before .if2 .taken))
+    c .nobody2 .ensures ∙ nobody-high _ _ _ _ _ (c .before .before .if1 .left) (c .before .if2 .taken)
 
 head-after-requires : tie.Need-head-after-requires
 head-after-requires c κs = search needs

@@ -1,9 +1,9 @@
 -- `child_fields::routines::line_at` meets its contract.
-use Prim.Native.Nat.{_+_, _*_}
+use Prim.Native.Nat.{_+_, _*_, _<_, _≤_}
 use mathlib.Core.Path.{_≡_}
 use native.Mathlib.Omega.{arith}
 use Rattle.table.specs.Decode.{word, instructionEntry}
-use Rattle.child_fields.proofs.TableLaws.{past-the-end, seen}
+use Rattle.child_fields.proofs.TableLaws.{past-the-end, seen, line-past, line-there}
 use borrow.Author.Needs.{needs}
 use Rattle.child_fields.proofs.routines.line_at.Statement.{statement}
 use Rattle.child_fields.proofs.routines.line_at.Tie as tie
@@ -28,7 +28,9 @@ number-requires c κs = search needs
 
 returns : tie.Need-returns
 returns c =
-    past-the-end (c .before .before .before .before .args .t .now) (c .before .before .before .before .pre .2) (c .before .before .before .before .args .r) (c .before .before .before .before .pre .1) (c .before .before .before .before .args .place) (omega (arith, c .before .number .ensures .0, c .if1 .taken))
+    let s = c .before .before .before .before in
+    let h : word (s .args .t .now) (8 + 5 * s .args .r + 4) ≤ s .args .place = omega (arith, c .before .number .ensures .0, c .if1 .taken) in
+    (line-past _ _ _ h, past-the-end (s .args .t .now) (s .pre .2) (s .args .r) (s .pre .1) (s .args .place) h)
 
 add-number-2 : tie.Need-add-number-2
 add-number-2 c = search needs
@@ -100,8 +102,11 @@ returns-2 c =
     let e0 : instructionEntry (a .t .now) (a .r) (a .place) + 0 ≡ 328 + 5 * c .before .before .before .before .before .before .number2 .result + 5 * a .place = omega (arith, n2) in
     let e2 : instructionEntry (a .t .now) (a .r) (a .place) + 2 ≡ 328 + 5 * c .before .before .before .before .before .before .number2 .result + 5 * a .place + 2 = omega (arith, n2) in
     let e3 : instructionEntry (a .t .now) (a .r) (a .place) + 3 ≡ 328 + 5 * c .before .before .before .before .before .before .number2 .result + 5 * a .place + 3 = omega (arith, n2) in
-    seen (a .t .now) (c .before .before .before .before .before .before .before .before .before .before .before .before .pre .2) (a .r) (c .before .before .before .before .before .before .before .before .before .before .before .before .pre .1) (a .place) (omega (arith, c .before .before .before .before .before .before .before .before .before .number .ensures .0, c .before .before .before .before .before .before .before .before .if1 .left)) _ _ _
-    (rw e0 (c .before .before .before .before .number3 .ensures .0)) (rw e2 (c .before .before .number4 .ensures .0)) (rw e3 (c .number5 .ensures .0))
+    let h : a .place < word (a .t .now) (8 + 5 * a .r + 4) = omega (arith, c .before .before .before .before .before .before .before .before .before .number .ensures .0, c .before .before .before .before .before .before .before .before .if1 .left) in
+    let k : c .before .before .before .before .number3 .result ≡ word (a .t .now) (instructionEntry (a .t .now) (a .r) (a .place) + 0) = rw e0 (c .before .before .before .before .number3 .ensures .0) in
+    let l : c .before .before .number4 .result ≡ word (a .t .now) (instructionEntry (a .t .now) (a .r) (a .place) + 2) = rw e2 (c .before .before .number4 .ensures .0) in
+    let n : c .number5 .result ≡ word (a .t .now) (instructionEntry (a .t .now) (a .r) (a .place) + 3) = rw e3 (c .number5 .ensures .0) in
+    (line-there _ _ _ _ _ _ h k l n, seen (a .t .now) (c .before .before .before .before .before .before .before .before .before .before .before .before .pre .2) (a .r) (c .before .before .before .before .before .before .before .before .before .before .before .before .pre .1) (a .place) h _ _ _ k l n)
 
 pub line-at-spec : {M : Type 1} → statement M
 line-at-spec =

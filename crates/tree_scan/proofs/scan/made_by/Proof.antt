@@ -5,7 +5,8 @@ use lib.ListN.{getD}
 use native.Mathlib.Omega.{arith}
 use borrow.Author.Tests.{not-true, not-false}
 use Rattle.tree_scan.specs.Scan.{recordOf}
-use Rattle.tree_scan.proofs.ScanLaws.{level-below, level-unfit, picked-made, level-from, child-from, nobody-made, frame-fits}
+use Rattle.tree_scan.proofs.ScanLaws.{level-below, level-unfit, picked-made, level-from, child-from, nobody-made, frame-fits, maker-unfit, maker-fit}
+use Rattle.child_fields.proofs.PickLaws.{picked}
 use borrow.Author.Needs.{needs}
 use Rattle.tree_scan.proofs.scan.made_by.Statement.{statement}
 use Rattle.tree_scan.proofs.scan.made_by.Tie as tie
@@ -36,8 +37,11 @@ returns : tie.Need-returns
 returns c =
     let a = c .before .before .before .before .before .before .before .before .args in
     let e : c .before .before .before .number .result ≡ recordOf (a .m .now) (a .k) .level = level-from (a .m .now) (a .k) _ _ (c .before .before .before .before .before .block-of .ensures .0) (c .before .before .before .number .ensures .0) in
-    nobody-made _ _ _ _ _ _ _ _ (c .nobody .ensures)
-    (level-unfit (a .t .now) (a .m .now) (a .k) (a .t4) (c .before .before .before .before .before .before .before .before .pre .2) (c .before .before .before .before .before .before .before .before .pre .4) (rw e at (sym (c .before .before .level-fits .ensures) ∙ not-true _ (c .before .if1 .taken))))
+    let h = rw e at (sym (c .before .before .level-fits .ensures) ∙ not-true _ (c .before .if1 .taken)) in (
+      c .nobody .ensures ∙ maker-unfit _ _ _ _ h,
+      nobody-made _ _ _ _ _ (ap (λ x. x .found) (c .nobody .ensures))
+          (level-unfit (a .t .now) (a .m .now) (a .k) (a .t4) (c .before .before .before .before .before .before .before .before .pre .2) (c .before .before .before .before .before .before .before .before .pre .4) h),
+    )
 
 add-number-2 : tie.Need-add-number-2
 add-number-2 c = search needs
@@ -86,8 +90,11 @@ returns-2 c =
     let a = c .before .before .before .before .before .before .before .before .before .before .before .before .before .args in
     let e : c .before .before .before .before .before .before .before .before .number .result ≡ recordOf (a .m .now) (a .k) .level = level-from (a .m .now) (a .k) _ _ (c .before .before .before .before .before .before .before .before .before .before .block-of .ensures .0) (c .before .before .before .before .before .before .before .before .number .ensures .0) in
     let f : c .before .before .before .before .number2 .result ≡ recordOf (a .m .now) (a .k) .child = child-from (a .m .now) (a .k) _ _ (c .before .before .before .before .before .before .before .before .before .before .block-of .ensures .0) (c .before .before .before .before .number2 .ensures .0) in
-    picked-made (a .t .now) (a .m .now) (a .k) (a .t4) (c .before .before .before .before .before .before .before .before .before .before .before .before .before .pre .2) (c .before .before .before .before .before .before .before .before .before .before .before .before .before .pre .4) (rw e at (sym (c .before .before .before .before .before .before .before .level-fits .ensures) ∙ not-false _ (c .before .before .before .before .before .before .if1 .left)))
-    _ _ _ _ _ _ _ _ (ap (λ u. getD (a .t4 .next) u 0) e) (ap (λ u. getD (a .t4 .left) u 0) e) (ap (λ u. getD (a .t4 .head) u 0) e) f (c .pick .ensures)
+    let h = sym (c .before .before .before .before .before .before .before .level-fits .ensures) ∙ not-false _ (c .before .before .before .before .before .before .if1 .left) in (
+      c .pick .ensures ∙ maker-fit _ _ _ _ _ _ e f h,
+      picked-made (a .t .now) (a .m .now) (a .k) (a .t4) (c .before .before .before .before .before .before .before .before .before .before .before .before .before .pre .2) (c .before .before .before .before .before .before .before .before .before .before .before .before .before .pre .4) (rw e at h)
+          _ _ _ _ _ (ap (λ u. getD (a .t4 .next) u 0) e) (ap (λ u. getD (a .t4 .left) u 0) e) (ap (λ u. getD (a .t4 .head) u 0) e) f (rw (c .pick .ensures) (picked _ _ _ _ _)),
+    )
 
 pub made-by-spec : {M : Type 1} → statement M
 made-by-spec =

@@ -1,10 +1,10 @@
 -- `tree_scan::scan::settle` meets its contract.
 use Prim.Native.Nat.{_<_}
-use mathlib.Core.Path.{_≡_}
+use mathlib.Core.Path.{_≡_, _∙_}
 use native.Mathlib.Omega.{arith}
 use Rattle.tree_scan.specs.Scan.{recordOf}
 use Rattle.tree_scan.proofs.ScanLaws.{no-sleep, too-deep, level-from, child-from, place-from}
-use Rattle.tree_scan.proofs.StepLaws.{refused-step, waiting-step, forking-step}
+use Rattle.tree_scan.proofs.StepLaws.{refused-step, waiting-step, forking-step, entered-fields, pushed-fields, settled-as, at-wait-path, at-other-path, at-deep-path, at-fork-path}
 use borrow.Author.Needs.{needs}
 use Rattle.tree_scan.proofs.scan.settle.Statement.{statement}
 use Rattle.tree_scan.proofs.scan.settle.Tie as tie
@@ -65,9 +65,11 @@ returns c =
     let a = c .before .before .before .before .before .before .before .before .before .before .before .before .args in
     let e : c .before .before .before .before .before .before .before .number .result ≡ recordOf (a .m .now) (a .k) .level = level-from (a .m .now) (a .k) _ _ (c .before .before .before .before .before .before .before .before .before .block-of .ensures .0) (c .before .before .before .before .before .before .before .number .ensures .0) in
     let f : c .before .before .before .before .before .number2 .result ≡ recordOf (a .m .now) (a .k) .child = child-from (a .m .now) (a .k) _ _ (c .before .before .before .before .before .before .before .before .before .block-of .ensures .0) (c .before .before .before .before .before .number2 .ensures .0) in
-    let g : c .before .before .before .number3 .result ≡ recordOf (a .m .now) (a .k) .place = place-from (a .m .now) (a .k) _ _ (c .before .before .before .before .before .before .before .before .before .block-of .ensures .0) (c .before .before .before .number3 .ensures .0) in
-    waiting-step (a .t .now) (a .m .now) (a .k) (a .p) (a .made .routine) (a .made .head) (a .made .left) (c .before .before .before .before .before .before .before .before .before .before .before .before .pre .2) (c .before .before .before .before .before .before .before .before .before .before .before .before .pre .3) (c .before .before .before .before .before .before .before .before .before .before .before .before .pre .4) (c .before .before .before .before .before .before .before .before .before .before .before .before .pre .5) (c .before .before .before .before .before .before .before .before .before .before .before .before .pre .6)
-    _ (rw (e, f) at (c .before .before .entered .ensures)) _ _ _ (c .if1 .taken) (rw g at (c .before .line-at .ensures))
+    let g : c .before .before .before .number3 .result ≡ recordOf (a .m .now) (a .k) .place = place-from (a .m .now) (a .k) _ _ (c .before .before .before .before .before .before .before .before .before .block-of .ensures .0) (c .before .before .before .number3 .ensures .0) in (
+      at-wait-path _ _ _ _ (c .if1 .taken) ∙ settled-as _ _ _ _ (a .made) _ _ _ _ _ e f g (c .before .before .entered .ensures) (c .before .line-at .ensures .0),
+      waiting-step (a .t .now) (a .m .now) (a .k) (a .p) (a .made .routine) (a .made .head) (a .made .left) (c .before .before .before .before .before .before .before .before .before .before .before .before .pre .2) (c .before .before .before .before .before .before .before .before .before .before .before .before .pre .3) (c .before .before .before .before .before .before .before .before .before .before .before .before .pre .4) (c .before .before .before .before .before .before .before .before .before .before .before .before .pre .5) (c .before .before .before .before .before .before .before .before .before .before .before .before .pre .6)
+          _ (entered-fields _ _ _ _ _ _ _ _ e f (c .before .before .entered .ensures)) _ _ _ (c .if1 .taken) (rw g at (c .before .line-at .ensures .1)),
+    )
 
 refused-requires : tie.Need-refused-requires
 refused-requires c κs = search needs
@@ -76,9 +78,13 @@ returns-2 : tie.Need-returns-2
 returns-2 c =
     let a = c .before .before .before .before .before .before .before .before .before .before .before .before .before .before .args in
     let g : c .before .before .before .before .before .number3 .result ≡ recordOf (a .m .now) (a .k) .place = place-from (a .m .now) (a .k) _ _ (c .before .before .before .before .before .before .before .before .before .before .before .block-of .ensures .0) (c .before .before .before .before .before .number3 .ensures .0) in
-    refused-step _ _ _ _ (c .refused .ensures)
-    (no-sleep (a .t .now) (a .m .now) (a .k) (a .p) (a .made .routine) (a .made .head) (a .made .left) (c .before .before .before .before .before .before .before .before .before .before .before .before .before .before .pre .2) (c .before .before .before .before .before .before .before .before .before .before .before .before .before .before .pre .3) (c .before .before .before .before .before .before .before .before .before .before .before .before .before .before .pre .4) (c .before .before .before .before .before .before .before .before .before .before .before .before .before .before .pre .5) (c .before .before .before .before .before .before .before .before .before .before .before .before .before .before .pre .6)
-    _ _ _ (c .before .before .if1 .left) (c .before .if2 .taken) (rw g at (c .before .before .before .line-at .ensures)))
+    let e : c .before .before .before .before .before .before .before .before .before .number .result ≡ recordOf (a .m .now) (a .k) .level = level-from (a .m .now) (a .k) _ _ (c .before .before .before .before .before .before .before .before .before .before .before .block-of .ensures .0) (c .before .before .before .before .before .before .before .before .before .number .ensures .0) in
+    let f : c .before .before .before .before .before .before .before .number2 .result ≡ recordOf (a .m .now) (a .k) .child = child-from (a .m .now) (a .k) _ _ (c .before .before .before .before .before .before .before .before .before .before .before .block-of .ensures .0) (c .before .before .before .before .before .before .before .number2 .ensures .0) in (
+      c .refused .ensures ∙ at-other-path _ _ _ _ (c .before .before .if1 .left) (c .before .if2 .taken) ∙ settled-as _ _ _ _ (a .made) _ _ _ _ _ e f g (c .before .before .before .before .entered .ensures) (c .before .before .before .line-at .ensures .0),
+      refused-step _ _ _ (a .p) _ (c .refused .ensures)
+          (no-sleep (a .t .now) (a .m .now) (a .k) (a .p) (a .made .routine) (a .made .head) (a .made .left) (c .before .before .before .before .before .before .before .before .before .before .before .before .before .before .pre .2) (c .before .before .before .before .before .before .before .before .before .before .before .before .before .before .pre .3) (c .before .before .before .before .before .before .before .before .before .before .before .before .before .before .pre .4) (c .before .before .before .before .before .before .before .before .before .before .before .before .before .before .pre .5) (c .before .before .before .before .before .before .before .before .before .before .before .before .before .before .pre .6)
+          _ _ _ (c .before .before .if1 .left) (c .before .if2 .taken) (rw g at (c .before .before .before .line-at .ensures .1))),
+    )
 
 refused-requires-2 : tie.Need-refused-requires-2
 refused-requires-2 c κs = search needs
@@ -88,9 +94,12 @@ returns-3 c =
     let a = c .before .before .before .before .before .before .before .before .before .before .before .before .before .before .before .args in
     let e : c .before .before .before .before .before .before .before .before .before .before .number .result ≡ recordOf (a .m .now) (a .k) .level = level-from (a .m .now) (a .k) _ _ (c .before .before .before .before .before .before .before .before .before .before .before .before .block-of .ensures .0) (c .before .before .before .before .before .before .before .before .before .before .number .ensures .0) in
     let g : c .before .before .before .before .before .before .number3 .result ≡ recordOf (a .m .now) (a .k) .place = place-from (a .m .now) (a .k) _ _ (c .before .before .before .before .before .before .before .before .before .before .before .before .block-of .ensures .0) (c .before .before .before .before .before .before .number3 .ensures .0) in
-    refused-step _ _ _ _ (c .refused2 .ensures)
-    (too-deep (a .t .now) (a .m .now) (a .k) (a .p) (a .made .routine) (a .made .head) (a .made .left) (c .before .before .before .before .before .before .before .before .before .before .before .before .before .before .before .pre .2) (c .before .before .before .before .before .before .before .before .before .before .before .before .before .before .before .pre .3) (c .before .before .before .before .before .before .before .before .before .before .before .before .before .before .before .pre .4) (c .before .before .before .before .before .before .before .before .before .before .before .before .before .before .before .pre .5) (c .before .before .before .before .before .before .before .before .before .before .before .before .before .before .before .pre .6)
-    _ _ _ (c .before .before .if2 .left) (rw e at (c .before .if3 .taken)) (rw g at (c .before .before .before .before .line-at .ensures)))
+    let f : c .before .before .before .before .before .before .before .before .number2 .result ≡ recordOf (a .m .now) (a .k) .child = child-from (a .m .now) (a .k) _ _ (c .before .before .before .before .before .before .before .before .before .before .before .before .block-of .ensures .0) (c .before .before .before .before .before .before .before .before .number2 .ensures .0) in (
+      c .refused2 .ensures ∙ at-deep-path _ _ _ _ (c .before .before .if2 .left) (c .before .if3 .taken) ∙ settled-as _ _ _ _ (a .made) _ _ _ _ _ e f g (c .before .before .before .before .before .entered .ensures) (c .before .before .before .before .line-at .ensures .0),
+      refused-step _ _ _ (a .p) _ (c .refused2 .ensures)
+          (too-deep (a .t .now) (a .m .now) (a .k) (a .p) (a .made .routine) (a .made .head) (a .made .left) (c .before .before .before .before .before .before .before .before .before .before .before .before .before .before .before .pre .2) (c .before .before .before .before .before .before .before .before .before .before .before .before .before .before .before .pre .3) (c .before .before .before .before .before .before .before .before .before .before .before .before .before .before .before .pre .4) (c .before .before .before .before .before .before .before .before .before .before .before .before .before .before .before .pre .5) (c .before .before .before .before .before .before .before .before .before .before .before .before .before .before .before .pre .6)
+          _ _ _ (c .before .before .if2 .left) (rw e at (c .before .if3 .taken)) (rw g at (c .before .before .before .before .line-at .ensures .1))),
+    )
 
 pushed-requires : tie.Need-pushed-requires
 pushed-requires c κs = search needs
@@ -100,9 +109,11 @@ returns-4 c =
     let a = c .before .before .before .before .before .before .before .before .before .before .before .before .before .before .before .args in
     let e : c .before .before .before .before .before .before .before .before .before .before .number .result ≡ recordOf (a .m .now) (a .k) .level = level-from (a .m .now) (a .k) _ _ (c .before .before .before .before .before .before .before .before .before .before .before .before .block-of .ensures .0) (c .before .before .before .before .before .before .before .before .before .before .number .ensures .0) in
     let f : c .before .before .before .before .before .before .before .before .number2 .result ≡ recordOf (a .m .now) (a .k) .child = child-from (a .m .now) (a .k) _ _ (c .before .before .before .before .before .before .before .before .before .before .before .before .block-of .ensures .0) (c .before .before .before .before .before .before .before .before .number2 .ensures .0) in
-    let g : c .before .before .before .before .before .before .number3 .result ≡ recordOf (a .m .now) (a .k) .place = place-from (a .m .now) (a .k) _ _ (c .before .before .before .before .before .before .before .before .before .before .before .before .block-of .ensures .0) (c .before .before .before .before .before .before .number3 .ensures .0) in
-    forking-step (a .t .now) (a .m .now) (a .k) (a .p) (a .made .routine) (a .made .head) (a .made .left) (c .before .before .before .before .before .before .before .before .before .before .before .before .before .before .before .pre .2) (c .before .before .before .before .before .before .before .before .before .before .before .before .before .before .before .pre .3) (c .before .before .before .before .before .before .before .before .before .before .before .before .before .before .before .pre .4) (c .before .before .before .before .before .before .before .before .before .before .before .before .before .before .before .pre .5) (c .before .before .before .before .before .before .before .before .before .before .before .before .before .before .before .pre .6)
-    _ (rw (e, f) at (c .before .before .before .before .before .entered .ensures)) _ _ _ (rw e at (c .pushed .ensures)) (rw e at (c .before .if3 .left)) _ (c .before .before .if2 .left) (rw g at (c .before .before .before .before .line-at .ensures))
+    let g : c .before .before .before .before .before .before .number3 .result ≡ recordOf (a .m .now) (a .k) .place = place-from (a .m .now) (a .k) _ _ (c .before .before .before .before .before .before .before .before .before .before .before .before .block-of .ensures .0) (c .before .before .before .before .before .before .number3 .ensures .0) in (
+      c .pushed .ensures ∙ at-fork-path _ _ _ _ (c .before .before .if2 .left) (c .before .if3 .left) ∙ settled-as _ _ _ _ (a .made) _ _ _ _ _ e f g (c .before .before .before .before .before .entered .ensures) (c .before .before .before .before .line-at .ensures .0),
+      forking-step (a .t .now) (a .m .now) (a .k) (a .p) (a .made .routine) (a .made .head) (a .made .left) (c .before .before .before .before .before .before .before .before .before .before .before .before .before .before .before .pre .2) (c .before .before .before .before .before .before .before .before .before .before .before .before .before .before .before .pre .3) (c .before .before .before .before .before .before .before .before .before .before .before .before .before .before .before .pre .4) (c .before .before .before .before .before .before .before .before .before .before .before .before .before .before .before .pre .5) (c .before .before .before .before .before .before .before .before .before .before .before .before .before .before .before .pre .6)
+          _ (entered-fields _ _ _ _ _ _ _ _ e f (c .before .before .before .before .before .entered .ensures)) _ _ _ (pushed-fields _ _ _ _ _ _ e (c .pushed .ensures)) (rw e at (c .before .if3 .left)) _ (c .before .before .if2 .left) (rw g at (c .before .before .before .before .line-at .ensures .1)),
+    )
 
 pub settle-spec : {M : Type 1} → statement M
 settle-spec =

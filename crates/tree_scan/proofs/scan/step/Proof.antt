@@ -1,11 +1,13 @@
 -- `tree_scan::scan::step` meets its contract.
 use mathlib.Core.Path.{_≡_, sym, _∙_}
 use lib.ListN.{length}
+use Rattle.walk.specs.Question7.{ownedBy}
+use Rattle.table.specs.Decode.{tableListing}
 use native.Mathlib.Omega.{arith}
 use borrow.Author.Tests.{not-true, not-false}
 use Rattle.tree_scan.specs.Scan.{recordOf}
 use Rattle.tree_scan.proofs.ScanLaws.{size-from, wrong-size}
-use Rattle.tree_scan.proofs.StepLaws.{refused-step}
+use Rattle.tree_scan.proofs.StepLaws.{refused-step, unmade-path, wrong-size-path, right-size-path}
 use borrow.Author.Needs.{needs}
 use Rattle.tree_scan.proofs.scan.step.Statement.{statement}
 use Rattle.tree_scan.proofs.scan.step.Tie as tie
@@ -18,7 +20,11 @@ refused-requires c κs = search needs
 
 returns : tie.Need-returns
 returns c =
-    refused-step _ _ _ _ (c .refused .ensures) (c .before .before .before .made-by .ensures .nobody (not-true _ (c .before .if1 .taken)))
+    let a = c .before .before .before .before .before .before .args in
+    let n = not-true _ (c .before .if1 .taken) in (
+      c .refused .ensures ∙ unmade-path _ _ _ _ _ (c .before .before .before .made-by .ensures .0) n,
+      refused-step _ _ _ (a .p) _ (c .refused .ensures) (c .before .before .before .made-by .ensures .1 .nobody n),
+    )
 
 block-of-requires : tie.Need-block-of-requires
 block-of-requires c κs =
@@ -26,7 +32,7 @@ block-of-requires c κs =
 
 owned-by-requires : tie.Need-owned-by-requires
 owned-by-requires c κs =
-    (c .before .before .before .before .before .before .pre .0, c .before .before .before .made-by .ensures .somebody (not-false _ (c .before .if1 .left)) .there, c .before .before .before .before .before .before .pre .3 .table .most)
+    (c .before .before .before .before .before .before .pre .0, c .before .before .before .made-by .ensures .1 .somebody (not-false _ (c .before .if1 .left)) .there, c .before .before .before .before .before .before .pre .3 .table .most)
 
 add-number : tie.Need-add-number
 add-number c = search needs
@@ -47,20 +53,27 @@ returns-2 : tie.Need-returns-2
 returns-2 c =
     let a = c .before .before .before .before .before .before .before .before .before .before .before .args in
     let e : c .before .before .number .result ≡ length (recordOf (a .m .now) (a .k) .own) = size-from (a .m .now) (a .k) _ _ (c .before .before .before .before .before .block-of .ensures .0) (c .before .before .number .ensures .0) in
-    let C = c .before .before .before .before .before .before .before .before .made-by .ensures .somebody (not-false _ (c .before .before .before .before .before .before .if1 .left)) in
-    refused-step _ _ _ _ (c .refused2 .ensures)
-    (wrong-size (a .t .now) (a .m .now) (a .k) (a .p) _ _ _ (c .before .before .before .before .before .before .before .before .before .before .before .pre .2) (c .before .before .before .before .before .before .before .before .before .before .before .pre .3) (c .before .before .before .before .before .before .before .before .before .before .before .pre .4) C (λ z. c .before .if2 .taken (e ∙ z ∙ sym (c .before .before .before .before .owned-by .ensures))))
+    let C = c .before .before .before .before .before .before .before .before .made-by .ensures .1 .somebody (not-false _ (c .before .before .before .before .before .before .if1 .left)) in
+    let h : length (recordOf (a .m .now) (a .k) .own) ≡ ownedBy (tableListing (a .t .now)) (c .before .before .before .before .before .before .before .before .made-by .result .routine) → ⊥ = λ z. c .before .if2 .taken (e ∙ z ∙ sym (c .before .before .before .before .owned-by .ensures)) in (
+      c .refused2 .ensures ∙ wrong-size-path _ _ _ _ _ (c .before .before .before .before .before .before .before .before .made-by .ensures .0) (not-false _ (c .before .before .before .before .before .before .if1 .left)) h,
+      refused-step _ _ _ (a .p) _ (c .refused2 .ensures)
+          (wrong-size (a .t .now) (a .m .now) (a .k) (a .p) _ _ _ (c .before .before .before .before .before .before .before .before .before .before .before .pre .2) (c .before .before .before .before .before .before .before .before .before .before .before .pre .3) (c .before .before .before .before .before .before .before .before .before .before .before .pre .4) C h),
+    )
 
 settle-requires : tie.Need-settle-requires
 settle-requires c κs =
     let a = c .before .before .before .before .before .before .before .before .before .before .args in
     let e : c .before .number .result ≡ length (recordOf (a .m .now) (a .k) .own) = size-from (a .m .now) (a .k) _ _ (c .before .before .before .before .block-of .ensures .0) (c .before .number .ensures .0) in
-    let C = c .before .before .before .before .before .before .before .made-by .ensures .somebody (not-false _ (c .before .before .before .before .before .if1 .left)) in
+    let C = c .before .before .before .before .before .before .before .made-by .ensures .1 .somebody (not-false _ (c .before .before .before .before .before .if1 .left)) in
     (c .before .before .before .before .before .before .before .before .before .before .pre .0, c .before .before .before .before .before .before .before .before .before .before .pre .1, c .before .before .before .before .before .before .before .before .before .before .pre .2, c .before .before .before .before .before .before .before .before .before .before .pre .3, c .before .before .before .before .before .before .before .before .before .before .pre .4, C, sym e ∙ c .if2 .left ∙ c .before .before .before .owned-by .ensures)
 
 returns-3 : tie.Need-returns-3
 returns-3 c =
-    c .settle .ensures
+    let a = c .before .before .before .before .before .before .before .before .before .before .before .args in
+    let e : c .before .before .number .result ≡ length (recordOf (a .m .now) (a .k) .own) = size-from (a .m .now) (a .k) _ _ (c .before .before .before .before .before .block-of .ensures .0) (c .before .before .number .ensures .0) in (
+      c .settle .ensures .0 ∙ right-size-path _ _ _ _ _ (c .before .before .before .before .before .before .before .before .made-by .ensures .0) (not-false _ (c .before .before .before .before .before .before .if1 .left)) (sym e ∙ c .before .if2 .left ∙ c .before .before .before .before .owned-by .ensures),
+      c .settle .ensures .1,
+    )
 
 pub step-spec : {M : Type 1} → statement M
 step-spec =

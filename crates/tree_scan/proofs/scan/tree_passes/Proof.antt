@@ -33,7 +33,7 @@ step-requires c κs =
 
 returns : tie.Need-returns Inv-loop μ-loop
 returns c =
-    sym (c .before .before .step .ensures .bad (not-true _ (c .if1 .taken)))
+    sym (c .before .before .step .ensures .1 .bad (not-true _ (c .if1 .taken)))
 
 add-k : tie.Need-add-k Inv-loop μ-loop
 add-k c = search needs
@@ -43,7 +43,7 @@ loop-less c = search needs
 
 loop-again : tie.Need-loop-again Inv-loop μ-loop
 loop-again c =
-    (omega arith, c .before .before .step .ensures .good (not-false _ (c .if1 .left)))
+    (omega arith, c .before .before .step .ensures .1 .good (not-false _ (c .if1 .left)))
 
 returns-2 : tie.Need-returns-2 Inv-loop μ-loop
 returns-2 c =

@@ -1,10 +1,31 @@
--- What a routine's entry tells, in a table that passes question 6.
+-- The words of an instruction's entry and of a routine's, and what a routine's tells, in a table that passes question 6.
 use mathlib.Core.Path.{_≡_}
 use mathlib.Core.List.{List}
 use Prim.Native.Nat.{ℕ, _+_, _≤_}
 use lib.ListN.{length}
 use Rattle.walk.specs.Walk.{routineAt}
-use Rattle.table.specs.Decode.{kindsOfBits, tableListing}
+use Rattle.table.specs.Decode.{word, kindsOfBits, routineEntry, instructionEntry, sizeOf, tableListing}
+use Rattle.table_read.specs.declared.Entry.{Entry}
+use Rattle.table_read.specs.declared.Opening.{Opening}
+
+-- the five words of the entry of instruction `place` of routine r
+abbrev pub entryAt : List ℕ → ℕ → ℕ → Entry
+entryAt w r place = record {
+  kind = word w (instructionEntry w r place + 0);
+  operand = word w (instructionEntry w r place + 1);
+  cells = word w (instructionEntry w r place + 2);
+  first = word w (instructionEntry w r place + 3);
+  second = word w (instructionEntry w r place + 4);
+}
+
+-- the words of routine r's entry but that of its first instruction
+abbrev pub openingAt : List ℕ → ℕ → Opening
+openingAt w r = record {
+  arguments = word w (routineEntry r + 0);
+  bits = word w (routineEntry r + 1);
+  locals = word w (routineEntry r + 2);
+  size = sizeOf w r;
+}
 
 -- the numbers of routine r's arguments, locals and instructions, and its kinds as bits
 pub record Opened (w : List ℕ) (r arguments bits locals size : ℕ) : Type 0 where

@@ -9,7 +9,7 @@ ghost use Rattle.table.specs.Areas.{cellEnd};
 ghost use Rattle.table.specs.Decode.{word, nameAt, afterCall, sizeOf};
 ghost use Rattle.table.specs.Question6.{isTable};
 ghost use Rattle.table.specs.Entry.{Fetched};
-ghost use Rattle.table_read.specs.Opened.{Opened};
+ghost use Rattle.table_read.specs.Opened.{Opened, entryAt, openingAt};
 
 // An instruction's entry: its kind (1 `S`, 2 `A`, 3 `U`, 4 `G`, 5 `W`, 6 `F`, 7 `E`), the name or the jump, the word address of its cells, two counts.
 pub struct Entry {
@@ -23,7 +23,8 @@ pub struct Entry {
 // Instruction `place` of routine `r`.
 pub fn fetch(t: &[u32], r: usize, place: usize) -> Entry
     requires { ⌜ (isTable (now t) ≡ true) × (r < word (now t) 2) × (place < sizeOf (now t) r) ⌝ }
-    ensures { λ e. ⌜ Fetched (now (t .entry)) r place (e .kind) (e .operand) (e .cells) (e .first) (e .second) ⌝ }
+    ensures { λ e. ⌜ (e ≡ entryAt (now (t .entry)) r place)
+        × Fetched (now (t .entry)) r place (e .kind) (e .operand) (e .cells) (e .first) (e .second) ⌝ }
 {
     let a = 8 + 5 * r;
     let start = t[a + 3] as usize;
@@ -52,7 +53,7 @@ pub struct Opening {
 
 pub fn opening_of(t: &[u32], r: usize) -> Opening
     requires { ⌜ (isTable (now t) ≡ true) × (r < word (now t) 2) ⌝ }
-    ensures { λ o. ⌜ Opened (now (t .entry)) r (o .arguments) (o .bits) (o .locals) (o .size) ⌝ }
+    ensures { λ o. ⌜ (o ≡ openingAt (now (t .entry)) r) × Opened (now (t .entry)) r (o .arguments) (o .bits) (o .locals) (o .size) ⌝ }
 {
     let a = 8 + 5 * r;
     let arguments = t[a + 0] as usize;

@@ -33,7 +33,7 @@ execute-requires c κs =
     let row = rowsOf (now (a .m)) (a .running .me) in
     let routine : c .before .before .before .before .before .number .result ≡ row .routine = c .before .before .before .before .before .number .ensures ∙ c .before .before .before .before .before .before .routine .ensures in
     let place : c .before .before .number2 .result ≡ row .place = c .before .before .number2 .ensures ∙ c .before .before .before .place .ensures in
-    (c .before .before .before .before .before .before .before .before .before .before .pre, rw (routine, place) at (c .before .fetch .ensures))
+    (c .before .before .before .before .before .before .before .before .before .before .pre, rw (routine, place) at (c .before .fetch .ensures .1))
 
 same-length : tie.Need-same-length
 same-length c = search needs

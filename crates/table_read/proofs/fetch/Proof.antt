@@ -1,6 +1,7 @@
 -- `table_read::fetch` meets its contract.
 use denote.Ref.{now}
 use Prim.Native.Nat.{ℕ, _+_, _*_, _≤_}
+use mathlib.Core.Path.{refl}
 use native.Mathlib.Omega.{arith}
 use mir.Val.{Fits}
 use mir.Syntax.{w64}
@@ -118,7 +119,7 @@ returns : tie.Need-returns
 returns c =
     let s = c .before .before .before .before .before .before in
     let a = s .args in
-    fetched (now (a .t)) (s .pre .0) (a .r) (s .pre .1) (a .place) (s .pre .2)
+    (refl, fetched (now (a .t)) (s .pre .0) (a .r) (s .pre .1) (a .place) (s .pre .2))
 
 pub fetch-spec : {M : Type 1} → statement M
 fetch-spec =

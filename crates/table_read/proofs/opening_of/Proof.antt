@@ -1,6 +1,7 @@
 -- `table_read::opening_of` meets its contract.
 use denote.Ref.{now}
 use Prim.Native.Nat.{ℕ, _+_, _*_, _≤_}
+use mathlib.Core.Path.{refl}
 use native.Mathlib.Omega.{arith}
 use mir.Val.{Fits}
 use mir.Syntax.{w64}
@@ -79,16 +80,18 @@ returns c =
     let w = now (a .t) in
     let b = bounds w (s .pre .0) in
     let l = s .pre .1 in
-    let code = b .code (a .r) l in
-    record {
-      kinds = reach.kinds-by-number w (a .r) l;
-      count = reach.arguments-by-number w (a .r) l;
-      own = reach.locals-by-number w (a .r) l;
-      code = reach.code-length-by-number w (a .r) l;
-      names = b .names (a .r) l;
-      some = b .line (a .r) l;
-      few = omega arith;
-    }
+    let code = b .code (a .r) l in (
+      refl,
+      record {
+        kinds = reach.kinds-by-number w (a .r) l;
+        count = reach.arguments-by-number w (a .r) l;
+        own = reach.locals-by-number w (a .r) l;
+        code = reach.code-length-by-number w (a .r) l;
+        names = b .names (a .r) l;
+        some = b .line (a .r) l;
+        few = omega arith;
+      },
+    )
 
 pub opening-of-spec : {M : Type 1} → statement M
 opening-of-spec =

@@ -23,7 +23,7 @@ add-pass-values c =
 pass-values-requires : tie.Need-pass-values-requires
 pass-values-requires c κs =
     let M = c .before .before .before .before .before .pre in
-    let O = c .before .opening-of .ensures in
+    let O = c .before .opening-of .ensures .1 in
     may-pass M (argument-count (M .field) (c .before .before .head-at .ensures .1) O) (omega (arith, O .names))
 
 parent-of-requires : tie.Need-parent-of-requires
@@ -34,11 +34,11 @@ parent-of-requires c κs =
 
 add-put-kept : tie.Need-add-put-kept
 add-put-kept c =
-    omega (arith, c .before .before .before .before .before .pass-values .ensures .few, c .before .before .before .before .before .before .before .opening-of .ensures .names)
+    omega (arith, c .before .before .before .before .before .pass-values .ensures .few, c .before .before .before .before .before .before .before .opening-of .ensures .1 .names)
 
 cast-put-kept : tie.Need-cast-put-kept
 cast-put-kept c =
-    omega (arith, c .before .before .before .before .before .pass-values .ensures .few, c .before .before .before .before .before .before .before .opening-of .ensures .names)
+    omega (arith, c .before .before .before .before .before .pass-values .ensures .few, c .before .before .before .before .before .before .before .opening-of .ensures .1 .names)
 
 put-kept-requires : tie.Need-put-kept-requires
 put-kept-requires c κs =
@@ -64,7 +64,7 @@ add-bind-names c =
 bind-names-requires : tie.Need-bind-names-requires
 bind-names-requires c κs =
     let M = c .before .before .before .before .before .before .before .before .before .before .before .before .before .before .before .before .before .before .before .pre in
-    let O = c .before .before .before .before .before .before .before .before .before .before .before .before .before .before .before .opening-of .ensures in
+    let O = c .before .before .before .before .before .before .before .before .before .before .before .before .before .before .before .opening-of .ensures .1 in
     let p = c .before .before .before .before .before .before .before .before .before .before .before .before .before .pass-values .ensures .inBlock in
     may-bind M (changed-then (changed-then p (c .before .before .before .before .before .before .before .put-kept .ensures)) (c .before .before .before .put-working .ensures)) (argument-count (M .field) (c .before .before .before .before .before .before .before .before .before .before .before .before .before .before .before .before .head-at .ensures .1) O) (O .names)
 
@@ -77,7 +77,7 @@ returns c =
     child-made (record {
       may = c .before .before .before .before .before .before .before .before .before .before .before .before .before .before .before .before .before .before .before .before .before .before .pre;
       called = c .before .before .before .before .before .before .before .before .before .before .before .before .before .before .before .before .before .before .before .head-at .ensures .1;
-      opened = c .before .before .before .before .before .before .before .before .before .before .before .before .before .before .before .before .before .before .opening-of .ensures;
+      opened = c .before .before .before .before .before .before .before .before .before .before .before .before .before .before .before .before .before .before .opening-of .ensures .1;
       values = c .before .before .before .before .before .before .before .before .before .before .before .before .before .before .before .before .pass-values .ensures;
       parent = c .before .before .before .before .before .before .before .before .before .before .before .before .parent-of .ensures;
       kept = c .before .before .before .before .before .before .before .before .before .before .put-kept .ensures;

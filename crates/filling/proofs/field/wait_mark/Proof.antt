@@ -12,12 +12,12 @@ fetch-requires c κs = search needs
 returns : tie.Need-returns
 unfolding nonzero
 returns c =
-    sym (marked-wait (c .before .before .fetch .ensures) (c .if1 .taken))
+    sym (marked-wait (c .before .before .fetch .ensures .1) (c .if1 .taken))
 
 returns-2 : tie.Need-returns-2
 unfolding nonzero
 returns-2 c =
-    sym (unmarked-wait (c .before .before .fetch .ensures) (c .if1 .left))
+    sym (unmarked-wait (c .before .before .fetch .ensures .1) (c .if1 .left))
 
 pub wait-mark-spec : {M : Type 1} → statement M
 wait-mark-spec = tie.close (tie.spec fetch-requires returns returns-2)

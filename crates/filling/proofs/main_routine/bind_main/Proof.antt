@@ -16,20 +16,20 @@ opening-of-requires c κs =
 
 bind-environment-requires : tie.Need-bind-environment-requires
 bind-environment-requires c κs =
-    (c .before .before .before .before .pre .1, c .before .before .before .before .pre .2, omega (arith, c .before .opening-of .ensures .names))
+    (c .before .before .before .before .pre .1, c .before .before .before .before .pre .2, omega (arith, c .before .opening-of .ensures .1 .names))
 
 bind-own-requires : tie.Need-bind-own-requires
 bind-own-requires c κs =
-    let O = c .before .before .before .before .before .opening-of .ensures in
+    let O = c .before .before .before .before .before .opening-of .ensures .1 in
     (omega (arith, c .before .before .before .before .before .before .before .before .pre .1, c .before .before .before .bind-environment .ensures .inBlock .size), c .before .before .before .before .before .before .before .before .pre .2, O .names, omega (arith, O .names))
 
 add-put-word : tie.Need-add-put-word
 add-put-word c =
-    omega (arith, c .before .before .before .before .before .before .before .before .before .opening-of .ensures .names)
+    omega (arith, c .before .before .before .before .before .before .before .before .before .opening-of .ensures .1 .names)
 
 cast-put-word : tie.Need-cast-put-word
 cast-put-word c =
-    omega (arith, c .before .before .before .before .before .before .before .before .before .opening-of .ensures .names)
+    omega (arith, c .before .before .before .before .before .before .before .before .before .opening-of .ensures .1 .names)
 
 put-word-requires : tie.Need-put-word-requires
 put-word-requires c κs =
@@ -43,7 +43,7 @@ returns : tie.Need-returns
 returns c =
     let a = c .before .before .before .before .before .before .before .before .before .before .before .before .before .before .before .args in
     let E = c .before .before .before .before .before .before .before .before .before .before .bind-environment .ensures in
-    let O = c .before .before .before .before .before .before .before .before .before .before .before .before .opening-of .ensures in
+    let O = c .before .before .before .before .before .before .before .before .before .before .before .before .opening-of .ensures .1 in
     all-names (E .inBlock) (E .others)
     (ap (λ (l : List Owner). l ++ ownBindings (c .before .before .before .before .before .before .before .before .before .before .before .before .opening-of .result .locals) (a .s) 0) (E .names) ∙ main-bound (now (a .t)) (c .before .before .before .before .before .before .before .before .before .before .before .before .before .before .before .pre .0) (a .s) O)
     (O .names) (c .before .before .before .before .before .before .bind-own .ensures) (c .before .before .put-word .ensures)

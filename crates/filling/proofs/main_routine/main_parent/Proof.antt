@@ -12,11 +12,11 @@ opening-of-requires c κs =
 
 cast-count : tie.Need-cast-count
 cast-count c =
-    omega (arith, c .before .opening-of .ensures .names)
+    omega (arith, c .before .opening-of .ensures .1 .names)
 
 returns : tie.Need-returns
 returns c =
-    record { slot = refl; level = refl; base = ports-counted (now (c .before .before .before .args .t)) (c .before .before .before .pre) (c .before .opening-of .ensures); low = refl; bits = refl }
+    record { slot = refl; level = refl; base = ports-counted (now (c .before .before .before .args .t)) (c .before .before .before .pre) (c .before .opening-of .ensures .1); low = refl; bits = refl }
 
 pub main-parent-spec : {M : Type 1} → statement M
 main-parent-spec = tie.close (tie.spec opening-of-requires cast-count returns)

@@ -20,7 +20,7 @@ main-parent-requires c κs =
 
 cast-put-kept : tie.Need-cast-put-kept
 cast-put-kept c =
-    omega (arith, c .before .before .opening-of .ensures .names)
+    omega (arith, c .before .before .opening-of .ensures .1 .names)
 
 put-kept-requires : tie.Need-put-kept-requires
 put-kept-requires c κs =
@@ -41,7 +41,7 @@ same-length c =
 
 returns : tie.Need-returns
 returns c =
-    main-made (c .before .before .before .before .before .before .before .before .before .before .before .before .before .before .before .before .before .before .before .before .pre .0) (c .before .before .before .before .before .before .before .before .before .before .before .before .before .before .before .before .before .before .before .before .pre .2) (c .before .before .before .before .before .before .before .before .before .before .before .before .before .opening-of .ensures) (c .before .before .before .before .before .before .before .before .before .before .before .before .main-parent .ensures) (c .before .before .before .before .before .before .before .before .before .before .before .before .before .before .before .before .clear-words .ensures) (c .before .before .before .before .before .before .before .before .before .before .put-kept .ensures) (c .before .before .before .before .before .before .put-working .ensures) (c .before .before .bind-main .ensures)
+    main-made (c .before .before .before .before .before .before .before .before .before .before .before .before .before .before .before .before .before .before .before .before .pre .0) (c .before .before .before .before .before .before .before .before .before .before .before .before .before .before .before .before .before .before .before .before .pre .2) (c .before .before .before .before .before .before .before .before .before .before .before .before .before .opening-of .ensures .1) (c .before .before .before .before .before .before .before .before .before .before .before .before .main-parent .ensures) (c .before .before .before .before .before .before .before .before .before .before .before .before .before .before .before .before .clear-words .ensures) (c .before .before .before .before .before .before .before .before .before .before .put-kept .ensures) (c .before .before .before .before .before .before .put-working .ensures) (c .before .before .bind-main .ensures)
 
 pub main-row-spec : {M : Type 1} → statement M
 main-row-spec =

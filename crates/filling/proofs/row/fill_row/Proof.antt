@@ -48,7 +48,7 @@ add-bind-names c =
 
 bind-names-requires : tie.Need-bind-names-requires
 bind-names-requires c κs =
-    names-may-bind (c .before .before .before .before .before .before .before .before .before .before .before .before .before .pre) (c .before .before .before .before .before .before .before .before .before .before .opening-of .ensures) (c .before .before .before .put-working .ensures)
+    names-may-bind (c .before .before .before .before .before .before .before .before .before .before .before .before .before .pre) (c .before .before .before .before .before .before .before .before .before .before .opening-of .ensures .1) (c .before .before .before .put-working .ensures)
 
 same-length : tie.Need-same-length
 same-length c =
@@ -58,7 +58,7 @@ returns : tie.Need-returns
 returns c =
     let a = c .before .before .before .before .before .before .before .before .before .before .before .before .before .before .before .before .args in
     let M = c .before .before .before .before .before .before .before .before .before .before .before .before .before .before .before .before .pre in
-    child-row-filled M (c .before .before .before .before .before .before .before .before .before .before .before .before .before .opening-of .ensures) (c .before .before .before .before .before .before .before .before .before .before .wait-mark .result)
+    child-row-filled M (c .before .before .before .before .before .before .before .before .before .before .before .before .before .opening-of .ensures .1) (c .before .before .before .before .before .before .before .before .before .before .wait-mark .result)
     (c .before .before .before .before .before .before .before .before .before .before .wait-mark .ensures ∙ ap (λ (x : ℕ). isWait (instructionAt (tableListing (now (a .t))) (a .callee) x)) (c .before .before .before .before .before .before .before .before .before .before .before .place .ensures))
     (rw (c .before .before .before .before .before .before .before .before .child .ensures) at (c .before .before .before .before .before .before .put-working .ensures)) (c .before .before .bind-names .ensures)
 

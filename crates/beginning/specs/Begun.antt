@@ -16,7 +16,7 @@ use Rattle.machine_words.specs.Tests.{Dues}
 use Rattle.scheduler.specs.Rows.{Rows, noRows, withRow}
 use Rattle.scheduler.specs.Triggers.{triggersOf, readyOf}
 use Rattle.scheduler.specs.Beginning.{dueInRows, mainRow, newEnvironment}
-use Rattle.scheduler.proofs.Holds.{Holds}
+use Rattle.scheduler.specs.Holds.{Holds}
 use Rattle.blocks.specs.Blocks.{ownerAt, rowsOf, environmentOf}
 use Rattle.tidy.specs.Tidy.{Tidy}
 use Rattle.ready.specs.declared.ReadyList.{ReadyList}

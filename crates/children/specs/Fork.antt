@@ -8,7 +8,7 @@ use Rattle.table.specs.Decode.{callsAt, headAfter, tableListing}
 use Rattle.table.specs.Entry.{ChildStands}
 use Rattle.table.specs.Question6.{isTable}
 use Rattle.scheduler.specs.Engine.{rowsWithNew, newSlots}
-use Rattle.scheduler.proofs.Children.{usedBelow}
+use Rattle.scheduler.specs.Holds.{usedBelow}
 use Rattle.blocks.specs.Blocks.{rowsOf, environmentOf}
 use Rattle.blocks.specs.Store.{storeOf}
 use Rattle.blocks.specs.Changes.{SameOutside, SameTriggers}

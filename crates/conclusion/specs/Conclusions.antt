@@ -17,8 +17,7 @@ use Rattle.table.specs.Decode.{tableListing}
 use Rattle.table.specs.Question6.{isTable}
 use Rattle.machine.specs.ReadMachine.{readMachine}
 use Rattle.scheduler.specs.Beginning.{unmarkedRows, nextDueOfRows}
-use Rattle.scheduler.proofs.Holds.{Holds}
-use Rattle.scheduler.proofs.InstantOnRows.{SameOutcome}
+use Rattle.scheduler.specs.Holds.{Holds, SameOutcome}
 use Rattle.blocks.specs.Blocks.{rowsOf, environmentOf}
 use Rattle.tidy.specs.Tidy.{Tidy}
 use Rattle.run.specs.Whole.{ranBy}

@@ -9,7 +9,7 @@ use Rattle.table.specs.Decode.{headAfter}
 use Rattle.table.specs.Entry.{ChildStands}
 use Rattle.table.specs.Question6.{isTable}
 use Rattle.scheduler.specs.Rows.{Row}
-use Rattle.scheduler.proofs.Children.{usedBelow}
+use Rattle.scheduler.specs.Holds.{usedBelow}
 use Rattle.blocks.specs.Blocks.{rowsOf}
 use Rattle.blocks.specs.Store.{storeOf}
 use Rattle.tidy.specs.Tidy.{Tidy}

@@ -7,7 +7,7 @@ use Prim.Native.Nat.{ℕ, _≤_, _<_, min}
 use Rattle.listing.specs.Listing.{Listing}
 use Rattle.scheduler.specs.Ready.{insertAll}
 use Rattle.scheduler.specs.Triggers.{wakesNow, triggersOf}
-use Rattle.scheduler.proofs.Sorted.{In}
+use Rattle.scheduler.specs.Tree.{In}
 use Rattle.blocks.specs.Blocks.{Block, block, variableIn, ownerAt, rowsOf, environmentOf}
 use Rattle.ready.specs.Ordered.{Ordered}
 use Rattle.triggers.specs.Chains.{triggersAt}

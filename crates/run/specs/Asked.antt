@@ -7,7 +7,7 @@ use lib.ListN.{length}
 use Rattle.table.specs.Decode.{word, namesOf, sizeOf}
 use Rattle.table.specs.Question6.{isTable}
 use Rattle.scheduler.specs.Rows.{Row}
-use Rattle.scheduler.proofs.Children.{usedBelow}
+use Rattle.scheduler.specs.Holds.{usedBelow}
 use Rattle.blocks.specs.Blocks.{rowsOf}
 use Rattle.blocks.specs.Store.{storeOf}
 use Rattle.ready.specs.Ordered.{Ordered}

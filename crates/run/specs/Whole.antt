@@ -11,8 +11,8 @@ use Rattle.table.specs.Decode.{tableListing}
 use Rattle.table.specs.Question6.{isTable}
 use Rattle.scheduler.specs.Rows.{Owner, Rows}
 use Rattle.scheduler.specs.Engine.{RowsResult, halts, ends, RowsRunner, nextReady, runRows}
-use Rattle.scheduler.proofs.Steady.{TableFits}
-use Rattle.scheduler.proofs.Reachable.{Reached}
+use Rattle.scheduler.specs.Steady.{TableFits}
+use Rattle.scheduler.specs.Reached.{Reached}
 use Rattle.blocks.specs.Blocks.{ownerAt, rowsOf, environmentOf}
 use Rattle.tidy.specs.Tidy.{Tidy}
 use Rattle.ready.specs.Ordered.{Ordered}

@@ -2,7 +2,7 @@
 -- Letters: ts tasks, d the siblings done so far, ds those of the routines above, m a memory, k steps left, l live routines.
 use mathlib.Core.Path.{_≡_, refl, sym, ap, _∙_, fun-ext}
 use mathlib.Core.Bool.{true}
-use mathlib.Core.List.{List, [], _∷_}
+use mathlib.Core.List.{List, _∷_}
 use Prim.Native.Nat.{ℕ, suc, _≤_, _+_}
 use native.Mathlib.Nat.{le-refl, le-trans}
 use lib.ListN.{length, take, drop}
@@ -14,6 +14,8 @@ use Rattle.walk.specs.Walk.{begin, childCount, enter, execute, forkWith, inTurn
 use Rattle.walk_laws.proofs.Steps.{Within, stopped, leaves, inTurn-within, begin-within, run-within}
 use Rattle.walk_laws.proofs.Bound.{run-same, then-same, begin-same, join-same}
 use Rattle.scheduler.proofs.Quiet.{QuietNode, quiet-node}
+pub use Rattle.scheduler.specs.Agenda.{Task, see, new, goes, back}
+unfoldable pub use Rattle.scheduler.specs.Agenda.{outer, beyond, rest}
 
 pub then-assoc : (o : Result Turn) (f g : Turn → Result Turn) → ((o >>= f) >>= g) ≡ (o >>= λ a. f a >>= g)
 unfolding _>>=_
@@ -44,18 +46,6 @@ unfolding _⊕_
 ⊕-none empty = refl
 ⊕-none (more n f) = ap (more n) (⊕-none f)
 
-pub data Task : Type 0 where
-  see new : Node → ℕ → Task  -- a sleeper, a new child; its level
-  goes back : ℕ → ℕ → ℕ → List ℕ → ℕ → Task  -- one that runs, one whose children have had their turn
-
-unfoldable pub outer : List Forest → Forest
-outer [] = empty
-outer (d ∷ ds) = d
-
-unfoldable pub beyond : List Forest → List Forest
-beyond [] = []
-beyond (d ∷ ds) = ds
-
 unfoldable pub sees : Forest → ℕ → List Task → List Task
 sees empty level ts = ts
 sees (more n f) level ts = see n level ∷ sees f level ts
@@ -65,18 +55,9 @@ news empty level ts = ts
 news (more n f) level ts = new n level ∷ news f level ts
 
 module _ (listing : Listing) (now : ℕ) where
-  -- d: the siblings done so far; ds: those of the routines above
-  unfoldable pub rest : List Task → Forest → List Forest → Running → Result Turn
-  rest [] d ds s = ok (record { running = s; tree = d })
-  rest (see n level ∷ ts) d ds s = visit listing now n level s >>= λ a. rest ts (d ⊕ a .tree) ds (a .running)
-  rest (new n level ∷ ts) d ds s = begin (run listing now (s .left)) level n s >>= λ a. rest ts (d ⊕ a .tree) ds (a .running)
-  rest (goes level r place ns b ∷ ts) d ds s = run listing now (s .left) level r place ns b s >>= λ a. rest ts (d ⊕ a .tree) ds (a .running)
-  rest (back level r place ns b ∷ ts) d ds s = resume listing now (instructionAt listing r place) level r place ns b d s >>= λ a. rest ts
-      (outer ds ⊕ a .tree) (beyond ds) (a .running)
-
   -- the whole walk is the rest at its beginning
   pub rest-sees : (f : Forest) (level : ℕ) (ts : List Task) (d : Forest) (ds : List Forest) (s : Running) →
-      rest (sees f level ts) d ds s ≡ (visitForest listing now f level s >>= λ a. rest ts (d ⊕ a .tree) ds (a .running))
+      rest listing now (sees f level ts) d ds s ≡ (visitForest listing now f level s >>= λ a. rest listing now ts (d ⊕ a .tree) ds (a .running))
   unfolding rest sees visitForest _>>=_
   rest-sees empty level ts d ds s = rw (⊕-none d)
   rest-sees (more n f) level ts d ds s =
@@ -87,7 +68,7 @@ module _ (listing : Listing) (now : ℕ) where
   -- a routine's turn begins with its children's
   pub rest-visit : (r place : ℕ) (ns : List ℕ) (own : List Variable) (children : Forest) (level : ℕ) (ts : List Task) (d : Forest) (ds : List Forest)
       (s : Running) →
-      rest (see (node r place ns own children) level ∷ ts) d ds s ≡ rest (sees children (suc level) (back level r place ns (length (s .memory)) ∷ ts))
+      rest listing now (see (node r place ns own children) level ∷ ts) d ds s ≡ rest listing now (sees children (suc level) (back level r place ns (length (s .memory)) ∷ ts))
       empty (d ∷ ds) (enter own s)
   unfolding rest visit outer beyond _⊕_
   rest-visit r place ns own children level ts d ds s =
@@ -96,14 +77,14 @@ module _ (listing : Listing) (now : ℕ) where
 
   -- a sleeper whom nothing wakes is passed over
   pub rest-quiet : (n : Node) (level : ℕ) (ts : List Task) (d : Forest) (ds : List Forest) (s : Running) → QuietNode listing now (s .memory) n →
-      rest (see n level ∷ ts) d ds s ≡ rest ts (d ⊕ more n empty) ds s
+      rest listing now (see n level ∷ ts) d ds s ≡ rest listing now ts (d ⊕ more n empty) ds s
   unfolding rest _>>=_
   rest-quiet n level ts d ds s q = rw (quiet-node listing now (s .memory) n (s .left) (s .live) (s .woken) level q)
 
   -- one instruction
   pub rest-S : (level r place : ℕ) (ns : List ℕ) (b n : ℕ) (e : List Piece) (ts : List Task) (d : Forest) (ds : List Forest) (m : List Variable)
       (k l woken : ℕ) → instructionAt listing r place ≡ assign n e →
-      rest (goes level r place ns b ∷ ts) d ds (record { memory = m; left = suc k; live = l; woken = woken }) ≡ rest
+      rest listing now (goes level r place ns b ∷ ts) d ds (record { memory = m; left = suc k; live = l; woken = woken }) ≡ rest listing now
       (goes level r (suc place) ns b ∷ ts) d ds (record {
         memory = writeAt m (addressOf ns n) (evaluate m ns e);
         left = k;
@@ -115,13 +96,13 @@ module _ (listing : Listing) (now : ℕ) where
 
   pub rest-W : (level r place : ℕ) (ns : List ℕ) (b : ℕ) (ws : List ℕ) (ts : List Task) (d : Forest) (ds : List Forest) (m : List Variable)
       (k l woken : ℕ) → instructionAt listing r place ≡ wait ws →
-      rest (goes level r place ns b ∷ ts) d ds (record { memory = m; left = suc k; live = l; woken = woken }) ≡ rest ts
+      rest listing now (goes level r place ns b ∷ ts) d ds (record { memory = m; left = suc k; live = l; woken = woken }) ≡ rest listing now ts
       (d ⊕ more (node r place ns (drop b m) empty) empty) ds (record { memory = take b m; left = k; live = l; woken = woken })
   unfolding rest run step execute withMemory sleep _>>=_
   rest-W level r place ns b ws ts d ds m k l woken h = rw h
 
   pub rest-news : (k : ℕ) (f : Forest) (level : ℕ) (ts : List Task) (d : Forest) (ds : List Forest) (s : Running) → s .left ≤ k →
-      rest (news f level ts) d ds s ≡ (inTurn (begin (run listing now k) level) f s >>= λ a. rest ts (d ⊕ a .tree) ds (a .running))
+      rest listing now (news f level ts) d ds s ≡ (inTurn (begin (run listing now k) level) f s >>= λ a. rest listing now ts (d ⊕ a .tree) ds (a .running))
   unfolding rest news inTurn _>>=_
   rest-news k empty level ts d ds s l = rw (⊕-none d)
   rest-news k (more n f) level ts d ds s l =
@@ -133,8 +114,8 @@ module _ (listing : Listing) (now : ℕ) where
 
   pub rest-F : (level r place : ℕ) (ns : List ℕ) (b : ℕ) (cs : List Call) (ts : List Task) (d : Forest) (ds : List Forest) (m : List Variable)
       (k l woken : ℕ) → instructionAt listing r place ≡ fork cs → leb (l + childCount cs) 64 ≡ true → leb level 9 ≡ true →
-      rest (goes level r place ns b ∷ ts) d ds (record { memory = m; left = suc k; live = l; woken = woken }) ≡
-      rest (news (newRoutines listing m ns cs) (suc level) (back level r place ns b ∷ ts)) empty (d ∷ ds) (record {
+      rest listing now (goes level r place ns b ∷ ts) d ds (record { memory = m; left = suc k; live = l; woken = woken }) ≡
+      rest listing now (news (newRoutines listing m ns cs) (suc level) (back level r place ns b ∷ ts)) empty (d ∷ ds) (record {
         memory = m;
         left = k;
         live = l + childCount cs;

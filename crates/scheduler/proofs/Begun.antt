@@ -15,10 +15,7 @@ use Rattle.scheduler.proofs.Held.{Entry, Held, held-nil, held-put, rowF
 use Rattle.scheduler.proofs.Kept.{slotsOf}
 use Rattle.scheduler.proofs.Steady.{Above, aboveOf, SteadyRecord, Steady, steady-nil, steady-put}
 use Rattle.scheduler.proofs.Taking.{bool-not}
-
-pub data AllBegun : Tree → Type 0 where
-  begun-nil : AllBegun nil
-  begun-put : {x : Record} {k f : Tree} → x .isNew ≡ false → AllBegun k → AllBegun f → AllBegun (put x k f)
+pub use Rattle.scheduler.specs.Tree.{AllBegun, begun-nil, begun-put}
 
 -- ── a tree with every routine begun ─────────────────────────────────────────────────────────────
 unfoldable pub begunRecord : Record → Record

@@ -18,13 +18,10 @@ use Rattle.scheduler.specs.Rows.{Row, Rows, inSlot, withRow}
 use Rattle.scheduler.proofs.Priority.{newChild}
 use Rattle.scheduler.proofs.Held.{Entry, ownerAt, ownersAt, pickOwner, parentSlot, rowFor, withRow-same, withRow-other}
 use Rattle.scheduler.proofs.Reading.{bound-owner}
+pub use Rattle.scheduler.specs.Steady.{Passed, passed-nil, passed-put}
+unfoldable pub use Rattle.scheduler.specs.Holds.{one, usedBelow}
 
 -- ── the bindings ────────────────────────────────────────────────────────────────────────────────
-
--- as many arguments as letters, each a name of the caller
-pub data Passed (n : ℕ) : List Kind → List ℕ → Type 0 where
-  passed-nil : Passed n [] []
-  passed-put : {k : Kind} {ks : List Kind} {x : ℕ} {xs : List ℕ} → x < n → Passed n ks xs → Passed n (k ∷ ks) (x ∷ xs)
 
 own-at : (s b i : ℕ) (P : List Entry) → ownerAt (record { slot = s; base = b } ∷ P) (b + i) ≡ inSlot s i
 unfolding ownerAt pickOwner
@@ -88,14 +85,6 @@ child-row listing m ns c i s low d P rd same near fit =
     rw (b, o)
 
 -- ── free slots by a count ───────────────────────────────────────────────────────────────────────
-unfoldable pub one : Bool → ℕ
-one true = 1
-one false = 0
-
-unfoldable pub usedBelow : Rows → ℕ → ℕ
-usedBelow σ zero = 0
-usedBelow σ (suc n) = one ((σ n) .used) + usedBelow σ n
-
 one-le : (b : Bool) → one b ≤ 1
 unfolding one
 one-le true = omega arith

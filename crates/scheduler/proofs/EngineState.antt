@@ -14,11 +14,12 @@ use Rattle.scheduler.proofs.Place.{Record, Tree, nil, put, _⋈_, ⋈-a
 use Rattle.scheduler.proofs.Priority.{Range, range-put, range-join, range-split, parts}
 use Rattle.scheduler.proofs.Sorted.{In, Either, this, that, slotsIn}
 use Rattle.scheduler.proofs.Writing.{setUp, recordWithOwn}
-use Rattle.scheduler.proofs.Held.{Entry, ownersAt, rowFor, HeldUp, hole}
+use Rattle.scheduler.proofs.Held.{Entry, ownersAt, rowFor, hole}
 use Rattle.scheduler.proofs.Waking.{Triggers}
-use Rattle.scheduler.proofs.Moves.{placed, focus, goingOn}
+use Rattle.scheduler.proofs.Moves.{placed, focus}
 use Rattle.scheduler.proofs.Kept.{Calmer, slotsOf, slotsUp, plug-in, up-plug, Known}
 use Rattle.scheduler.proofs.Standing.{Stands}
+pub use Rattle.scheduler.specs.Reached.{Runs}
 
 -- ── what a set leaves ───────────────────────────────────────────────────────────────────────────
 pub slots-set : (environment : List Variable) (fs : List Frame) (a : ℕ) (v : Variable) → slotsUp (setUp environment fs a v) ≡ slotsUp fs
@@ -129,19 +130,6 @@ known-same σ f g fs e k = known-then {σ = σ} {σ′ = σ} f g fs fs
 
 -- ── the relation ────────────────────────────────────────────────────────────────────────────────
 module _ (listing : Listing) (now : ℕ) (triggers : Owner → List ℕ) (hi : ℕ) where
-  -- the routine at f runs
-  pub record Runs (σ : Rows) (environment : List Variable) (q : List ℕ) (j l woken : ℕ) (f : Frame) (fs : List Frame) (whole : Result Turn) : Type 0
-    where
-      pub held : HeldUp σ environment 0 (f ∷ fs)
-      pub range : Range 0 hi (plug (f ∷ fs) nil)
-      pub queue : q ≡ slotsIn (readyUp listing environment (f ∷ fs))
-      pub listsRight : Triggers listing σ triggers
-      pub known : Known σ (plug (f ∷ fs) nil)
-      pub rests : Rests listing true (f .todo)
-      pub paused : Paused listing fs
-      pub begun : (f .self) .isNew ≡ false
-      pub same : whole ≡ goingOn listing now environment j l woken f fs
-
   -- nobody runs
   pub record Idle (σ : Rows) (environment : List Variable) (q : List ℕ) (j l woken : ℕ) (fs : List Frame) (d t : Tree) (whole : Result Turn) : Type 0
     where

@@ -6,7 +6,6 @@ use mathlib.Core.List.{List, [], _∷_}
 use Prim.Native.Nat.{ℕ, _+_, _*_, _^_, _≤_, _<_}
 use native.Mathlib.Nat.{le-refl, zero-add, zero-mul}
 use native.Mathlib.Omega.{arith}
-use lib.ListN.{length}
 use Rattle.listing.specs.Listing.{Listing}
 use Rattle.walk.specs.State.{Variable, Node, node, Forest, empty, more, liveInForest, State}
 use Rattle.walk.specs.Walk.{childCount}
@@ -14,29 +13,18 @@ use Rattle.walk.specs.Instant.{unmarked, unmarkedNode, unmarkedForest, earlier,
 use Rattle.scheduler.specs.Rows.{Row, Rows}
 use Rattle.scheduler.specs.Order.{walkingOrder}
 use Rattle.scheduler.specs.Beginning.{unmarkedRows, nextDueOfRows}
-use Rattle.scheduler.proofs.Place.{Tree, erase}
+use Rattle.scheduler.proofs.Place.{Tree}
 use Rattle.scheduler.proofs.Priority.{Rising, Range, parts}
 use Rattle.scheduler.proofs.Sorted.{In, here, there, in-cases, Either, this, that}
 use Rattle.scheduler.proofs.Held.{Entry, rootCount, rowFor, Held, held-nil, held-put}
 use Rattle.scheduler.proofs.Kept.{slotsOf, slots-small}
 use Rattle.scheduler.proofs.Children.{usedBelow}
-use Rattle.scheduler.proofs.Steady.{aboveMain, Steady, steady-nil, steady-put, SteadyTree}
-use Rattle.scheduler.proofs.Begun.{AllBegun}
+use Rattle.scheduler.proofs.Steady.{aboveMain, Steady, steady-nil, steady-put}
 use Rattle.scheduler.proofs.Order.{orderKeys, walking-rises, order-made}
 use Rattle.scheduler.proofs.Folding.{Distinct, rising-distinct, used-count, slots-live, next-due}
 use Rattle.scheduler.proofs.Changing.{changed, unmarked-rows, changed-unmarked, unmarked-length, changed-slots, changed-range, changed-begun, changed-steady, changed-held, changed-used, changed-asleep}
-
--- With `marks`, the routines asleep since before this instant are marked so, and nobody else.
-pub record Holds (marks : Bool) (listing : Listing) (σ : Rows) (environment : List Variable) (state : State) : Type 0 where
-  pub environment-is : environment ≡ state .environment
-  pub tree : Tree
-  pub tree-is : erase tree ≡ state .tree
-  pub held : Held σ marks [] (length environment) tree
-  pub range : Range 0 4294967296 tree
-  pub steady : SteadyTree listing environment tree
-  pub begun : AllBegun tree
-  pub whole : (s : ℕ) → (σ s) .used ≡ true → In s (slotsOf tree)
-  pub marked : marks ≡ true → (s : ℕ) → (σ s) .asleep ≡ true → In s (slotsOf tree)
+pub use Rattle.scheduler.specs.Holds.{Holds}
+unfoldable pub use Rattle.scheduler.specs.Holds.{unmarkedState}
 
 -- ── main is alone at the top ────────────────────────────────────────────────────────────────────
 pub steady-single : (listing : Listing) {c lo hi : ℕ} {t : Tree} → Range lo hi t → Steady listing (aboveMain listing) 0 c t → rootCount t ≤ 1
@@ -89,9 +77,6 @@ module _ {marks : Bool} {listing : Listing} {σ : Rows} {environment : List Vari
         ap₂ (λ e f. earlier (dueOfVariables e) (dueOfForest f)) (H .environment-is) (H .tree-is)
 
 -- ── the written marks gone ──────────────────────────────────────────────────────────────────────
-unfoldable pub unmarkedState : State → State
-unmarkedState s = record { now = s .now; environment = unmarked (s .environment); tree = unmarkedForest (s .tree) }
-
 pub unmarked-holds : {marks : Bool} {listing : Listing} {σ : Rows} {environment : List Variable} {state : State} →
     Holds marks listing σ environment state →
     Holds marks listing (unmarkedRows σ) (unmarked environment) (unmarkedState state)

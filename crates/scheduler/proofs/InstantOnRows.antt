@@ -3,19 +3,19 @@
 use mathlib.Core.Path.{_≡_, refl, sym, ap, ap₂, subst, _∙_}
 use mathlib.Core.Bool.{true, false}
 use mathlib.Core.List.{List, []}
-use Prim.Native.Nat.{ℕ, suc, _-_, _≤_}
+use Prim.Native.Nat.{ℕ, suc, _≤_}
 use native.Mathlib.Omega.{arith}
 use lib.ListN.{length}
 use Rattle.listing.specs.Listing.{Listing}
-use Rattle.walk.specs.State.{Variable, liveInForest, State, Turn, Result, stop, ok, _>>=_}
+use Rattle.walk.specs.State.{Variable, liveInForest, State, Turn, Result, ok, _>>=_}
 use Rattle.walk.specs.Walk.{visitForest}
-use Rattle.walk.specs.Instant.{dueWrites, dueInForest, Write, applyInputs, unmarked, unmarkedForest, writtenOutputs, Done, finish, nextDue, instant}
+use Rattle.walk.specs.Instant.{dueWrites, dueInForest, Write, applyInputs, unmarked, unmarkedForest, finish, instant}
 use Rattle.walk.specs.Question7.{IsState, allAtRest}
 use Rattle.walk_laws.proofs.Steps.{Within, leaves, instantTurn-within}
 use Rattle.scheduler.specs.Rows.{Owner, Rows}
 use Rattle.scheduler.specs.Triggers.{readyOf, triggersOf}
-use Rattle.scheduler.specs.Engine.{RowsRunner, RowsResult, halts, ends, nextReady, runRows}
-use Rattle.scheduler.specs.Beginning.{dueInRows, unmarkedRows, nextDueOfRows, instantOnRows}
+use Rattle.scheduler.specs.Engine.{RowsRunner, RowsResult, nextReady, runRows}
+use Rattle.scheduler.specs.Beginning.{dueInRows, unmarkedRows, instantOnRows}
 use Rattle.scheduler.proofs.Place.{Record, Tree, nil, put, erase, full, Rests, ready}
 use Rattle.scheduler.proofs.Priority.{Range}
 use Rattle.scheduler.proofs.Sorted.{In, slotsIn}
@@ -33,29 +33,9 @@ use Rattle.scheduler.proofs.Instant.{visit-meets}
 use Rattle.scheduler.proofs.Loop.{run-meets}
 use Rattle.scheduler.proofs.Changing.{changed, due-rows, changed-due, due-live, unmarked-live, due-length, inputs-length, changed-slots, changed-range, changed-rests, changed-steady, changed-held, changed-used, changed-asleep}
 use Rattle.scheduler.proofs.Holds.{Holds, steady-single, holds-live, holds-due, unmarkedState, unmarked-holds, next-due-unmarked}
+pub use Rattle.scheduler.specs.Holds.{Agrees, SameOutcome, same-stop, same-done}
 
 -- ── the same outcome ────────────────────────────────────────────────────────────────────────────
--- What the walk's answer d of an instant at t has in common with rows, environment, steps left, live routines and waits passed at the end.
-pub record Agrees (listing : Listing) (t allowance : ℕ) (d : Done) (σ : Rows) (environment : List Variable) (left live woken : ℕ) : Type 0 where
-  pub within : left ≤ allowance
-  pub steps : d .steps ≡ allowance - left
-  pub passed : d .woken ≡ woken
-  pub listed : d .listed ≡ writtenOutputs listing environment
-  pub number : live ≡ liveInForest ((d .state) .tree)
-  -- before the written marks are cleared
-  pub last : State
-  pub moment : last .now ≡ t
-  pub before : Holds false listing σ environment last
-  pub state : d .state ≡ unmarkedState last
-  -- and after
-  pub after : Holds false listing (unmarkedRows σ) (unmarked environment) (d .state)
-  pub due : nextDueOfRows σ environment ≡ nextDue (d .state)
-
-pub data SameOutcome (listing : Listing) (t allowance : ℕ) : Result Done → RowsResult → Type 0 where
-  same-stop : {k : ℕ} → SameOutcome listing t allowance (stop k) (halts k)
-  same-done : {d : Done} {σ : Rows} {environment : List Variable} {left live woken : ℕ} → Agrees listing t allowance d σ environment left live woken →
-      SameOutcome listing t allowance (ok d) (ends σ environment left live woken)
-
 within-left : {allowance : ℕ} {o : Result Turn} {a : Turn} → Within allowance o → o ≡ ok a → (a .running) .left ≤ allowance
 within-left {allowance} {o} {a} w e = go (subst (Within allowance) e w)
   where

@@ -18,6 +18,8 @@ use Rattle.scheduler.proofs.Sorted.{In, here, there, in-left, in-right,
 use Rattle.scheduler.proofs.Held.{Entry, pathOf, rootCount, rowFor, isLeaf, Held, held-nil, held-put, HeldUp, held-top, held-under, withRow-same, withRow-other, held-keep, Hole, hole, hole-in, Away, higher, before, behind, path-length, up-keep}
 use Rattle.scheduler.proofs.Waking.{Triggers, Marked, rowAwaits, sleepers, sleepersUp}
 use Rattle.scheduler.proofs.Moves.{focus}
+unfoldable pub use Rattle.scheduler.specs.Tree.{slotsOf}
+pub use Rattle.scheduler.specs.Reached.{Known}
 
 pub bool-not : {A : Type 0} → true ≡ false → A
 bool-not e = let z : _≡_ {A = ℕ} 0 1 = cc in absurd (omega arith)
@@ -176,10 +178,6 @@ triggers-calm listing c t =
     }
 
 -- ── whoever is marked is in the tree ────────────────────────────────────────────────────────────
-unfoldable pub slotsOf : Tree → List ℕ
-slotsOf nil = []
-slotsOf (put x k f) = x .slot ∷ (slotsOf k ++ slotsOf f)
-
 unfoldable pub slotsUp : List Frame → List ℕ
 slotsUp [] = []
 slotsUp (f ∷ fs) = (f .self) .slot ∷ (slotsOf (f .done) ++ (slotsOf (f .todo) ++ slotsUp fs))
@@ -271,9 +269,6 @@ up-plug {s} (f ∷ fs) t (there i) = one (in-cases D A i) (up-plug fs W)
     one : Either (In s D) (In s A) → (In s (slotsUp fs) → In s (slotsOf (plug fs W))) → In s (slotsOf (plug fs W))
     one (this j) deep = in-plug fs W (slots-left (f .done) (put (f .self) t (f .todo)) j)
     one (that j) deep = two (in-cases (slotsOf (f .todo)) (slotsUp fs) j) deep
-
-pub record Known (σ : Rows) (t : Tree) : Type 0 where
-  pub all : (s : ℕ) → (σ s) .asleep ≡ true → In s (slotsOf t)
 
 -- a marked one in a pending forest is a sleeper there
 and-true : (a b : Bool) → a && b ≡ true → (a ≡ true) × (b ≡ true)

@@ -10,15 +10,16 @@ use lib.Seq.{take-append-seam, drop-append-seam}
 use Rattle.words.specs.Words.{isPositive}
 use Rattle.listing.specs.Listing.{Call, Listing, Piece, assign, branch, end, fork, jump, schedule, wait}
 use Rattle.walk.specs.Memory.{addressOf, anyWritten, evaluate, scheduleAt, variableAt, writeAt}
-use Rattle.walk.specs.State.{Result, Turn, Variable, _>>=_, stop}
+use Rattle.walk.specs.State.{Variable, _>>=_, stop}
 use Rattle.walk.specs.Walk.{passedWait, begin, branchWith, childCount, enter, execute, forkWith, instructionAt, join, leave, resume, run, scheduleWith, sleep, step, visit, visitForest, wake, withMemory}
 use Rattle.scheduler.specs.Engine.{assigned, branchPlace, scheduled}
 use Rattle.scheduler.specs.Triggers.{awaited}
-use Rattle.scheduler.proofs.Agenda.{Task, goes, back, outer, beyond, news, rest, rest-F, ⊕-none}
+use Rattle.scheduler.proofs.Agenda.{Task, back, outer, beyond, news, rest, rest-F, ⊕-none}
 use Rattle.scheduler.proofs.Place.{Record, Tree, nil, put, erase, _⋈_, erase-⋈, Frame, memoryOf, first, tasks, up, dones, willRun, between}
 use Rattle.scheduler.proofs.Priority.{newChild, newChildren, newChildren-erase, laterSlots}
 use Rattle.scheduler.proofs.Writing.{setUp, recordWithOwn, setFrom, set-path, memory-set}
 use Rattle.scheduler.proofs.Held.{length-set-path}
+unfoldable pub use Rattle.scheduler.specs.Agenda.{goingOn}
 
 unfoldable pub placed : Record → ℕ → Record
 placed x place = record {
@@ -59,16 +60,9 @@ newChildren-tasks listing m ns [] ss i low b level ts = refl
 newChildren-tasks listing m ns (c ∷ cs) ss i low b level ts = rw (newChildren-tasks listing m ns cs (laterSlots ss) (suc i) low b level ts)
 
 module _ (listing : Listing) (now : ℕ) where
-  -- the innermost frame runs
-  unfoldable pub goingOn : List Variable → ℕ → ℕ → ℕ → Frame → List Frame → Result Turn
-  goingOn environment j l woken f fs =
-      rest listing now (goes (length fs) ((f .self) .routine) ((f .self) .place) ((f .self) .names) (length (memoryOf environment fs)) ∷ tasks
-      (length fs) (f .todo) (up environment fs)) (erase (f .done)) (dones fs)
-      (record { memory = memoryOf environment fs ++ (f .self) .own; left = j; live = l; woken = woken })
-
   pub wakes : (environment : List Variable) (j l woken : ℕ) (fs : List Frame) (done : Tree) (x : Record) (todo : Tree) (ws : List ℕ) →
       x .isNew ≡ false → instructionAt listing (x .routine) (x .place) ≡ wait ws → willRun listing (memoryOf environment fs) x ≡ true →
-      between listing now environment j l woken fs done (put x nil todo) ≡ goingOn environment j l (suc woken)
+      between listing now environment j l woken fs done (put x nil todo) ≡ goingOn listing now environment j l (suc woken)
       (focus (placed x (suc (x .place))) done todo) fs
   unfolding between goingOn tasks first erase rest visit visitForest resume wake passedWait _>>=_ enter withMemory willRun awaited placed focus
   wakes environment j l woken fs done x todo ws b i w =
@@ -76,7 +70,7 @@ module _ (listing : Listing) (now : ℕ) where
       rw (b, i, a)
 
   pub begins : (environment : List Variable) (j l woken : ℕ) (fs : List Frame) (done : Tree) (x : Record) (todo : Tree) → x .isNew ≡ true →
-      between listing now environment j l woken fs done (put x nil todo) ≡ goingOn environment j l woken (focus (placed x (x .place)) done todo) fs
+      between listing now environment j l woken fs done (put x nil todo) ≡ goingOn listing now environment j l woken (focus (placed x (x .place)) done todo) fs
   unfolding between goingOn tasks first erase rest begin enter withMemory placed focus
   begins environment j l woken fs done x todo b = rw b
 
@@ -86,7 +80,7 @@ module _ (listing : Listing) (now : ℕ) where
       let m = memoryOf environment (f ∷ fs) in
       let a = addressOf ((f .self) .names) n in
       let v = assigned (variableAt m a) (evaluate m ((f .self) .names) e) in
-      goingOn environment (suc j) l woken f fs ≡ goingOn (set environment a v) j l woken
+      goingOn listing now environment (suc j) l woken f fs ≡ goingOn listing now (set environment a v) j l woken
       (focus (placed (recordWithOwn (f .self) (setFrom (length (memoryOf environment fs)) ((f .self) .own) a v)) (suc ((f .self) .place)))
       (f .done) (f .todo)) (setUp environment fs a v)
   unfolding goingOn rest run step execute withMemory placed focus recordWithOwn memoryOf writeAt assigned
@@ -107,7 +101,7 @@ module _ (listing : Listing) (now : ℕ) where
       let k = evaluate m ((f .self) .names) d in
       let v = scheduled (variableAt m a) (now + k) (evaluate m ((f .self) .names) e) in
       isPositive k ≡ true → ltb (now + k) 18446744073709551616 ≡ true →
-      goingOn environment (suc j) l woken f fs ≡ goingOn (set environment a v) j l woken
+      goingOn listing now environment (suc j) l woken f fs ≡ goingOn listing now (set environment a v) j l woken
       (focus (placed (recordWithOwn (f .self) (setFrom (length (memoryOf environment fs)) ((f .self) .own) a v)) (suc ((f .self) .place)))
       (f .done) (f .todo)) (setUp environment fs a v)
   unfolding goingOn rest run step execute scheduleWith withMemory placed focus recordWithOwn memoryOf scheduleAt scheduled
@@ -126,7 +120,7 @@ module _ (listing : Listing) (now : ℕ) where
   pub move-U : (environment : List Variable) (j l woken : ℕ) (f : Frame) (fs : List Frame) (e : List Piece) (k : ℕ) (z : Bool) →
       instructionAt listing ((f .self) .routine) ((f .self) .place) ≡ branch e k →
       eqb (evaluate (memoryOf environment (f ∷ fs)) ((f .self) .names) e) 0 ≡ z →
-      goingOn environment (suc j) l woken f fs ≡ goingOn environment j l woken
+      goingOn listing now environment (suc j) l woken f fs ≡ goingOn listing now environment j l woken
       (focus (placed (f .self) (branchPlace z k (suc ((f .self) .place)))) (f .done) (f .todo)) fs
   unfolding goingOn rest run step execute branchWith placed focus memoryOf branchPlace
   move-U environment j l woken f fs e k true i h = rw (i, h)
@@ -134,14 +128,14 @@ module _ (listing : Listing) (now : ℕ) where
 
   pub move-G : (environment : List Variable) (j l woken : ℕ) (f : Frame) (fs : List Frame) (k : ℕ) →
       instructionAt listing ((f .self) .routine) ((f .self) .place) ≡ jump k →
-      goingOn environment (suc j) l woken f fs ≡ goingOn environment j l woken (focus (placed (f .self) k) (f .done) (f .todo)) fs
+      goingOn listing now environment (suc j) l woken f fs ≡ goingOn listing now environment j l woken (focus (placed (f .self) k) (f .done) (f .todo)) fs
   unfolding goingOn rest run step execute placed focus
   move-G environment j l woken f fs k i = rw i
 
   -- the stops
   pub stop-16 : (environment : List Variable) (j l woken : ℕ) (f : Frame) (fs : List Frame) (n : ℕ) (d e : List Piece) →
       instructionAt listing ((f .self) .routine) ((f .self) .place) ≡ schedule n d e →
-      isPositive (evaluate (memoryOf environment (f ∷ fs)) ((f .self) .names) d) ≡ false → goingOn environment (suc j) l woken f fs ≡ stop 16
+      isPositive (evaluate (memoryOf environment (f ∷ fs)) ((f .self) .names) d) ≡ false → goingOn listing now environment (suc j) l woken f fs ≡ stop 16
   unfolding goingOn rest run step execute scheduleWith memoryOf _>>=_
   stop-16 environment j l woken f fs n d e i p = rw (i, p)
 
@@ -149,30 +143,30 @@ module _ (listing : Listing) (now : ℕ) where
       instructionAt listing ((f .self) .routine) ((f .self) .place) ≡ schedule n d e →
       isPositive (evaluate (memoryOf environment (f ∷ fs)) ((f .self) .names) d) ≡ true →
       ltb (now + evaluate (memoryOf environment (f ∷ fs)) ((f .self) .names) d) 18446744073709551616 ≡ false →
-      goingOn environment (suc j) l woken f fs ≡ stop 17
+      goingOn listing now environment (suc j) l woken f fs ≡ stop 17
   unfolding goingOn rest run step execute scheduleWith memoryOf _>>=_
   stop-17 environment j l woken f fs n d e i p q = rw (i, p, q)
 
   pub stop-14 : (environment : List Variable) (j l woken : ℕ) (f : Frame) (fs : List Frame) (cs : List Call) →
       instructionAt listing ((f .self) .routine) ((f .self) .place) ≡ fork cs → leb (l + childCount cs) 64 ≡ false →
-      goingOn environment (suc j) l woken f fs ≡ stop 14
+      goingOn listing now environment (suc j) l woken f fs ≡ stop 14
   unfolding goingOn rest run step execute forkWith _>>=_
   stop-14 environment j l woken f fs cs i p = rw (i, p)
 
   pub stop-15 : (environment : List Variable) (j l woken : ℕ) (f : Frame) (fs : List Frame) (cs : List Call) →
       instructionAt listing ((f .self) .routine) ((f .self) .place) ≡ fork cs → leb (l + childCount cs) 64 ≡ true → leb (length fs) 9 ≡ false →
-      goingOn environment (suc j) l woken f fs ≡ stop 15
+      goingOn listing now environment (suc j) l woken f fs ≡ stop 15
   unfolding goingOn rest run step execute forkWith _>>=_
   stop-15 environment j l woken f fs cs i p q = rw (i, p, q)
 
   -- no step left
-  pub move-none : (environment : List Variable) (l woken : ℕ) (f : Frame) (fs : List Frame) → goingOn environment 0 l woken f fs ≡ stop 13
+  pub move-none : (environment : List Variable) (l woken : ℕ) (f : Frame) (fs : List Frame) → goingOn listing now environment 0 l woken f fs ≡ stop 13
   unfolding goingOn rest run _>>=_
   move-none environment l woken f fs = refl
 
   pub move-W : (environment : List Variable) (j l woken : ℕ) (f : Frame) (fs : List Frame) (ws : List ℕ) →
       instructionAt listing ((f .self) .routine) ((f .self) .place) ≡ wait ws →
-      goingOn environment (suc j) l woken f fs ≡ between listing now environment j l woken fs
+      goingOn listing now environment (suc j) l woken f fs ≡ between listing now environment j l woken fs
       (f .done ⋈ put (placed (f .self) ((f .self) .place)) nil nil) (f .todo)
   unfolding goingOn between rest run step execute withMemory sleep _>>=_ placed erase
   move-W environment j l woken f fs ws i =
@@ -185,7 +179,7 @@ module _ (listing : Listing) (now : ℕ) where
 
   pub move-E : (environment : List Variable) (j l woken : ℕ) (f : Frame) (fs : List Frame) →
       instructionAt listing ((f .self) .routine) ((f .self) .place) ≡ end →
-      goingOn environment (suc j) l woken f fs ≡ between listing now environment j (l - 1) woken fs (f .done) (f .todo)
+      goingOn listing now environment (suc j) l woken f fs ≡ between listing now environment j (l - 1) woken fs (f .done) (f .todo)
   unfolding goingOn between rest run step execute withMemory leave _>>=_
   move-E environment j l woken f fs i = rw (i, take-append-seam (memoryOf environment fs) ((f .self) .own))
       (ap (λ z. rest listing now (tasks (length fs) (f .todo) (up environment fs)) z (dones fs) (record {
@@ -198,14 +192,14 @@ module _ (listing : Listing) (now : ℕ) where
   -- the last child has ended: the parent goes on at once
   pub joined : (environment : List Variable) (j l woken : ℕ) (g : Frame) (fs : List Frame) (cs : List Call) →
       instructionAt listing ((g .self) .routine) ((g .self) .place) ≡ fork cs →
-      between listing now environment j l woken (g ∷ fs) nil nil ≡ goingOn environment j l woken
+      between listing now environment j l woken (g ∷ fs) nil nil ≡ goingOn listing now environment j l woken
       (focus (placed (g .self) (suc ((g .self) .place))) (g .done) (g .todo)) fs
   unfolding goingOn between rest resume join tasks up dones memoryOf erase placed focus outer beyond
   joined environment j l woken g fs cs i = rw i
 
   pub move-F : (environment : List Variable) (j l woken : ℕ) (f : Frame) (fs : List Frame) (cs : List Call) (ss : List ℕ) (b : ℕ) →
       instructionAt listing ((f .self) .routine) ((f .self) .place) ≡ fork cs → leb (l + childCount cs) 64 ≡ true → leb (length fs) 9 ≡ true →
-      goingOn environment (suc j) l woken f fs ≡ between listing now environment j (l + childCount cs) woken (f ∷ fs) nil
+      goingOn listing now environment (suc j) l woken f fs ≡ between listing now environment j (l + childCount cs) woken (f ∷ fs) nil
       (newChildren listing (memoryOf environment (f ∷ fs)) ((f .self) .names) cs ss 0 ((f .self) .low) b)
   unfolding goingOn between up dones memoryOf erase
   move-F environment j l woken f fs cs ss b i x y =

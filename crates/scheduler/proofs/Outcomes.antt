@@ -27,15 +27,10 @@ use Rattle.scheduler.proofs.Popping.{pop, finished}
 use Rattle.scheduler.proofs.Ending.{runs-E, runs-E-last, runs-E-main, freed}
 use Rattle.scheduler.proofs.Children.{usedBelow, used-withRow, one}
 use Rattle.scheduler.proofs.Taking.{bool-not, withRow-used, used-ext, used-keep, atPlace-used, withChildren-used, rootCount-over, plug-held}
-use Rattle.scheduler.proofs.Steady.{aboveMain, aboveUp, SteadyTree, TableFits, Steady, steady-nil, steady-record, steady-head, steady-placed, SteadyHole, steady-hole, steady-node, steady-join, steady-left, steady-right}
+use Rattle.scheduler.proofs.Steady.{aboveMain, aboveUp, TableFits, Steady, steady-nil, steady-record, steady-head, steady-placed, SteadyHole, steady-hole, steady-node, steady-join, steady-left, steady-right}
+pub use Rattle.scheduler.specs.Reached.{Sound}
 
 module _ (listing : Listing) (now : ℕ) (triggers : Owner → List ℕ) (hi : ℕ) (T : TableFits listing) where
-  pub record Sound (σ : Rows) (environment : List Variable) (l : ℕ) (t : Tree) : Type 0 where
-    pub steady : SteadyTree listing environment t
-    pub used : usedBelow σ 64 ≡ l
-    pub lone : rootCount t ≡ 1
-    pub whole : (s : ℕ) → (σ s) .used ≡ true → In s (slotsOf t)
-
   -- the outcome on rows is the walk's: the same stop, or rows that hold the walk's tree with its environment and counts
   pub data AsWalk (whole : Result Turn) : RowsResult → Type 0 where
     stops-alike : {k : ℕ} → whole ≡ stop k → AsWalk whole (halts k)
@@ -48,7 +43,7 @@ module _ (listing : Listing) (now : ℕ) (triggers : Owner → List ℕ) (hi : �
   -- what is to be shown of an outcome, by the rest of the run: of what the rest gives, of a stop, of an end
   pub record Goal (j : ℕ) (whole : Result Turn) (G : RowsResult → Type 0) (go : RowsRunner) : Type 0 where
     pub deep : (σ : Rows) (environment : List Variable) (q : List ℕ) (l woken : ℕ) (f : Frame) (fs : List Frame) →
-        Runs listing now triggers hi σ environment q j l woken f fs whole → Sound σ environment l (plug (f ∷ fs) nil) →
+        Runs listing now triggers hi σ environment q j l woken f fs whole → Sound listing now triggers hi T σ environment l (plug (f ∷ fs) nil) →
         G (go σ environment q l woken ((f .self) .slot))
     pub stops : {k : ℕ} → whole ≡ stop k → G (halts k)
     pub finishes : {σ : Rows} {environment : List Variable} {l woken : ℕ} → AsWalk whole (ends σ environment j l woken) →
@@ -73,8 +68,8 @@ module _ (listing : Listing) (now : ℕ) (triggers : Owner → List ℕ) (hi : �
   placed-slot x place = refl
 
   pub sound-placed : (σ σ′ : Rows) (environment : List Variable) (l place : ℕ) (f : Frame) (fs : List Frame) →
-      ((s : ℕ) → (σ′ s) .used ≡ (σ s) .used) → Sound σ environment l (plug (f ∷ fs) nil) →
-      Sound σ′ environment l (plug (focus (placed (f .self) place) (f .done) (f .todo) ∷ fs) nil)
+      ((s : ℕ) → (σ′ s) .used ≡ (σ s) .used) → Sound listing now triggers hi T σ environment l (plug (f ∷ fs) nil) →
+      Sound listing now triggers hi T σ′ environment l (plug (focus (placed (f .self) place) (f .done) (f .todo) ∷ fs) nil)
   sound-placed σ σ′ environment l place f fs e S =
       record {
         steady = steady-head listing environment f fs nil nil (placed (f .self) place) (S .steady)
@@ -88,7 +83,7 @@ module _ (listing : Listing) (now : ℕ) (triggers : Owner → List ℕ) (hi : �
 
   pub idle-as-walk : {G : RowsResult → Type 0} {go : RowsRunner} (j : ℕ) (whole : Result Turn) → Goal j whole G go →
       (σ : Rows) (environment : List Variable) (q : List ℕ) (l woken : ℕ) (fs : List Frame) (d t : Tree) →
-      Idle listing now triggers hi σ environment q j l woken fs d t whole → Sound σ environment l (plug fs (d ⋈ t)) →
+      Idle listing now triggers hi σ environment q j l woken fs d t whole → Sound listing now triggers hi T σ environment l (plug fs (d ⋈ t)) →
       G (nextReady go j σ environment q l woken)
   unfolding nextReady focus placed
   idle-as-walk {G} {go} j whole D σ environment [] l woken fs d t I S =
@@ -99,7 +94,7 @@ module _ (listing : Listing) (now : ℕ) (triggers : Owner → List ℕ) (hi : �
       let P = pop listing now triggers hi s ss refl I in
       let r = atPlace (σ s) (firstPlace ((σ s) .asleep) ((σ s) .place)) in
       let σ′ = withRow σ s r in
-      let S′ : Sound σ environment l (plug (P .before ∷ P .frames) nil) = rw (P .tree-is) at S in
+      let S′ : Sound listing now triggers hi T σ environment l (plug (P .before ∷ P .frames) nil) = rw (P .tree-is) at S in
       at-slot G go σ′ environment ss l (countIf ((σ s) .asleep) woken) s ((P .before) .self .slot) (P .who)
       (D .deep σ′ environment ss l (countIf ((σ s) .asleep) woken) (focus (placed (P .before .self) (P .place)) (P .before .done) (P .before .todo))
       (P .frames) (P .runs)
@@ -154,7 +149,7 @@ module _ (listing : Listing) (now : ℕ) (triggers : Owner → List ℕ) (hi : �
 
   pub end-as-walk : {G : RowsResult → Type 0} {go : RowsRunner} (j : ℕ) (whole : Result Turn) → Goal j whole G go →
       (σ : Rows) (environment : List Variable) (q : List ℕ) (l woken : ℕ) (f : Frame) (fs : List Frame) →
-      Runs listing now triggers hi σ environment q (suc j) l woken f fs whole → Sound σ environment l (plug (f ∷ fs) nil) →
+      Runs listing now triggers hi σ environment q (suc j) l woken f fs whole → Sound listing now triggers hi T σ environment l (plug (f ∷ fs) nil) →
       instructionAt listing ((f .self) .routine) ((f .self) .place) ≡ end →
       G (endRows (eqb ((σ ((f .self) .slot)) .level) 0) go j (withRow σ ((f .self) .slot) freeRow)
       environment q (l - 1) woken ((σ ((f .self) .slot)) .parent))

@@ -20,6 +20,7 @@ use Rattle.scheduler.proofs.Place.{Record, width, Tree, nil, put, _⋈_
 use Rattle.scheduler.proofs.Priority.{Range, range-le, range-split, parts}
 use Rattle.scheduler.proofs.Writing.{awaitsAddress, awaitsIt, wokenBy, wokenIf, wokenUp}
 use Rattle.scheduler.proofs.Held.{Entry, ownerAt, ownersAt, pickOwner, pathOf, rowFor, Held, held-nil, held-put, HeldUp, held-top, held-under, hole, hole-in}
+unfoldable pub use Rattle.scheduler.specs.Reached.{awaitsOwner}
 
 pub bool-not : {A : Type 0} → true ≡ false → A
 bool-not e = let z : _≡_ {A = ℕ} 0 1 = cc in absurd (omega arith)
@@ -119,10 +120,6 @@ module _ (σ : Rows) (P : List Entry) (b : ℕ) (gP : GoodPath σ P) where
         go (yes i) (no l) = rw (eq-eqb a′ a i, le-ltb a b (omega arith)) (sameOwner-not _ _ (apart i (omega arith)))
 
 -- ── the awaited owners of a row ─────────────────────────────────────────────────────────────────
-unfoldable pub awaitsOwner : List Owner → List ℕ → Owner → Bool
-awaitsOwner bindings-are [] o = false
-awaitsOwner bindings-are (w ∷ ws) o = sameOwner (getD bindings-are w (inEnvironment nowhere)) o || awaitsOwner bindings-are ws o
-
 or-and : (x y l : Bool) → (x && l) || (y && l) ≡ (x || y) && l
 or-and true y true = refl
 or-and true true false = refl

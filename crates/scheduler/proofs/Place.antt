@@ -5,45 +5,22 @@
 use mathlib.Core.Path.{_≡_, refl, sym, ap, _∙_}
 use mathlib.Core.Bool.{Bool, true, false, _||_}
 use mathlib.Core.List.{List, [], _∷_, _++_}
-use Prim.Native.Nat.{ℕ, suc, _+_, _*_, _^_}
+use Prim.Native.Nat.{ℕ, suc, _+_}
 use native.Mathlib.Omega.{arith}
 use lib.ListN.{length}
 use lib.Seq.{take-append-seam, drop-append-seam}
-use Rattle.listing.specs.Listing.{Call, Listing, fork, wait}
+use Rattle.listing.specs.Listing.{Call, Listing, fork}
 use Rattle.walk.specs.Memory.{anyWritten}
-use Rattle.walk.specs.State.{Forest, Node, Result, Turn, Variable, _>>=_, _⊕_, empty, more, node}
+use Rattle.walk.specs.State.{Forest, Result, Turn, Variable, _>>=_, _⊕_, more, node}
 use Rattle.walk.specs.Walk.{enter, instructionAt, join, resume, sleep, withMemory}
 use Rattle.scheduler.specs.Triggers.{awaited, consIf}
 use Rattle.scheduler.proofs.Quiet.{Quiet, waits, joins, nobody, one-more, quiet}
-use Rattle.scheduler.proofs.Agenda.{Task, see, new, back, outer, beyond, sees, rest, rest-sees, rest-visit}
-
-pub record Record : Type 0 where
-  pub slot : ℕ
-  pub child : ℕ  -- the number of the child field that made it
-  pub low : ℕ  -- the lowest of its priorities
-  pub bits : ℕ  -- it has 2 ^ bits
-  pub isNew : Bool  -- not yet begun
-  pub routine : ℕ
-  pub place : ℕ
-  pub names : List ℕ
-  pub own : List Variable
-
-abbrev pub width : Record → ℕ
-width x = 2 ^ x .bits
-
--- a routine, its live children, its later siblings
-pub data Tree : Type 0 where
-  nil : Tree
-  put : Record → Tree → Tree → Tree
-
-unfoldable pub erase : Tree → Forest
-erase nil = empty
-erase (put x k f) = more (node (x .routine) (x .place) (x .names) (x .own) (erase k)) (erase f)
-
-infixr 30 _⋈_
-unfoldable pub _⋈_ : Tree → Tree → Tree
-nil ⋈ g = g
-put x k f ⋈ g = put x k (f ⋈ g)
+use Rattle.scheduler.proofs.Agenda.{Task, back, outer, beyond, sees, rest, rest-sees, rest-visit}
+pub use Rattle.scheduler.specs.Tree.{Record, width, Tree, nil, put, Frame}
+unfoldable pub use Rattle.scheduler.specs.Tree.{erase, _⋈_, plug, memoryOf}
+unfoldable pub use Rattle.scheduler.specs.Agenda.{first, tasks, up, dones}
+pub use Rattle.scheduler.specs.Reached.{Rests, rests-nil, rests-new, rests-wait, rests-join, Paused, at-root, under}
+unfoldable pub use Rattle.scheduler.specs.Reached.{key, willRun, ready, readyUp}
 
 pub ⋈-assoc : (f g h : Tree) → (f ⋈ g) ⋈ h ≡ f ⋈ (g ⋈ h)
 unfolding _⋈_
@@ -60,42 +37,7 @@ unfolding _⋈_ erase _⊕_
 erase-⋈ nil g = refl
 erase-⋈ (put x k f) g = ap (more (node (x .routine) (x .place) (x .names) (x .own) (erase k))) (erase-⋈ f g)
 
--- one above: itself, its siblings on both sides
-pub record Frame : Type 0 where
-  pub self : Record
-  pub done : Tree
-  pub todo : Tree
-
--- the whole tree around a place, innermost frame first
-unfoldable pub plug : List Frame → Tree → Tree
-plug [] t = t
-plug (f ∷ fs) t = plug fs (f .done ⋈ put (f .self) t (f .todo))
-
-unfoldable pub memoryOf : List Variable → List Frame → List Variable
-memoryOf environment [] = environment
-memoryOf environment (f ∷ fs) = memoryOf environment fs ++ (f .self) .own
-
 -- ── the agenda of a place ───────────────────────────────────────────────────────────────────────
-unfoldable pub first : Bool → Node → ℕ → Task
-first true n level = new n level
-first false n level = see n level
-
-unfoldable pub tasks : ℕ → Tree → List Task → List Task
-tasks level nil ts = ts
-tasks level (put x k f) ts = first (x .isNew) (node (x .routine) (x .place) (x .names) (x .own) (erase k)) level ∷ tasks level f ts
-
-unfoldable pub up : List Variable → List Frame → List Task
-up environment [] = []
-up environment (f ∷ fs) = back (length fs) ((f .self) .routine) ((f .self) .place) ((f .self) .names) (length (memoryOf environment fs)) ∷ tasks
-    (length fs) (f .todo) (up environment fs)
-
-unfoldable pub dones : List Frame → List Forest
-dones [] = []
-dones (f ∷ fs) = erase (f .done) ∷ dones fs
-
-unfoldable pub key : Record → ℕ
-key x = x .low * 64 + x .slot
-
 pub nil-not : {A : Type 0} {k : ℕ} {ks : List ℕ} → [] ≡ k ∷ ks → A
 nil-not e = let z : _≡_ {A = ℕ} 0 1 = cc in absurd (omega arith)
 
@@ -114,35 +56,6 @@ bool-not e = let z : _≡_ {A = ℕ} 0 1 = cc in absurd (omega arith)
 pub or-false : (a b : Bool) → a || b ≡ false → (a ≡ false) × (b ≡ false)
 or-false false b e = (refl, e)
 or-false true b e = bool-not e
-
-module _ (listing : Listing) where
-  -- a pending forest: sleepers at a wait, parents at a fork; and new ones, if told so
-  pub data Rests : Bool → Tree → Type 0 where
-    rests-nil : {n : Bool} → Rests n nil
-    rests-new : {x : Record} {f : Tree} → x .isNew ≡ true → Rests true f → Rests true (put x nil f)
-    rests-wait : {n : Bool} {x : Record} {f : Tree} {ws : List ℕ} → x .isNew ≡ false → instructionAt listing (x .routine) (x .place) ≡ wait ws →
-        Rests n f → Rests n (put x nil f)
-    rests-join : {n : Bool} {x y : Record} {k g f : Tree} {cs : List Call} → x .isNew ≡ false →
-        instructionAt listing (x .routine) (x .place) ≡ fork cs → Rests false (put y k g) → Rests n f → Rests n (put x (put y k g) f)
-
-  unfoldable pub willRun : List Variable → Record → Bool
-  willRun m x = x .isNew || anyWritten (m ++ x .own) (x .names) (awaited (instructionAt listing (x .routine) (x .place)))
-
-  -- the keys of the pending leaves that will run, in walking order, over the memory of the path
-  unfoldable pub ready : List Variable → Tree → List ℕ
-  ready m nil = []
-  ready m (put x nil f) = consIf (willRun m x) (key x) (ready m f)
-  ready m (put x (put y k g) f) = ready (m ++ x .own) (put y k g) ++ ready m f
-
-  unfoldable pub readyUp : List Variable → List Frame → List ℕ
-  readyUp environment [] = []
-  readyUp environment (f ∷ fs) = ready (memoryOf environment fs) (f .todo) ++ readyUp environment fs
-
-  -- the frames are at a fork, and what they have to do is pending
-  pub data Paused : List Frame → Type 0 where
-    at-root : Paused []
-    under : {f : Frame} {fs : List Frame} {cs : List Call} → (f .self) .isNew ≡ false →
-        instructionAt listing ((f .self) .routine) ((f .self) .place) ≡ fork cs → Rests true (f .todo) → Paused fs → Paused (f ∷ fs)
 
 pub data Full : Tree → Type 0 where
   full : {x : Record} {k f : Tree} → Full (put x k f)

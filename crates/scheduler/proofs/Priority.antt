@@ -16,6 +16,7 @@ use Rattle.walk.specs.Walk.{childCount, newRoutine, newRoutines, routineAt}
 use Rattle.scheduler.specs.Engine.{chooseBits, fewestBits}
 use Rattle.scheduler.specs.Triggers.{consIf}
 use Rattle.scheduler.proofs.Place.{Record, width, Tree, nil, put, _⋈_, Frame, plug, memoryOf, key, ready, readyUp, willRun, erase}
+pub use Rattle.scheduler.specs.Tree.{Range, range-nil, range-put}
 
 -- strictly rising, in [a, b)
 pub data Rising : ℕ → ℕ → List ℕ → Type 0 where
@@ -37,12 +38,6 @@ rising-le (rising-put {a = a} {b = b} {k = k} e r) = let h : suc k ≤ b = risin
 pub rising-append : {a b c : ℕ} {l m : List ℕ} → Rising a b l → Rising b c m → Rising a c (l ++ m)
 rising-append (rising-nil {a = a} e) s = rising-low a e s
 rising-append (rising-put e r) s = rising-put e (rising-append r s)
-
--- a forest within [lo, hi): each routine's range after the one before, its children's inside its own
-pub data Range : ℕ → ℕ → Tree → Type 0 where
-  range-nil : {lo hi : ℕ} → lo ≤ hi → Range lo hi nil
-  range-put : {lo hi : ℕ} {x : Record} {k f : Tree} → lo ≤ x .low → 1 ≤ width x → x .slot < 64 → Range (x .low) (x .low + width x) k →
-      Range (x .low + width x) hi f → Range lo hi (put x k f)
 
 pub range-low : {lo hi : ℕ} {t : Tree} (lo′ : ℕ) → lo′ ≤ lo → Range lo hi t → Range lo′ hi t
 range-low lo′ h (range-nil e) = range-nil (le-trans h e)

@@ -10,22 +10,14 @@ use Rattle.walk.specs.State.{Variable, Result, Turn}
 use Rattle.walk.specs.Walk.{instructionAt}
 use Rattle.scheduler.specs.Rows.{Owner, inEnvironment, inSlot, Rows, noRows}
 use Rattle.scheduler.specs.Engine.{RowsResult, halts, ends, RowsRunner, nextReady, executeRows}
-use Rattle.scheduler.proofs.Place.{Tree, nil, _⋈_, Frame, plug}
-use Rattle.scheduler.proofs.EngineState.{Runs, Idle}
+use Rattle.scheduler.proofs.Place.{Tree, _⋈_, Frame, plug}
+use Rattle.scheduler.proofs.EngineState.{Idle}
 use Rattle.scheduler.proofs.Steady.{TableFits}
 use Rattle.scheduler.proofs.Outcomes.{Sound, Goal, idle-as-walk}
 use Rattle.scheduler.proofs.Loop.{instruction-as-walk, place-is, routine-is}
+pub use Rattle.scheduler.specs.Reached.{Reached}
 
 module _ (listing : Listing) (now : ℕ) (triggers : Owner → List ℕ) (T : TableFits listing) where
-  -- Somebody runs, in step with the walk.
-  pub record Reached (left : ℕ) (σ : Rows) (environment : List Variable) (ready : List ℕ) (live woken me : ℕ) : Type 0 where
-    pub frame : Frame
-    pub frames : List Frame
-    pub whole : Result Turn
-    pub runs : Runs listing now triggers 4294967296 σ environment ready left live woken frame frames whole
-    pub sound : Sound listing now triggers 4294967296 T σ environment live (plug (frame ∷ frames) nil)
-    pub here : me ≡ (frame .self) .slot
-
   -- ── the next state, told by an outcome ────────────────────────────────────────────────────────
   -- a runner that only says where it was started
   unfoldable pub slotOwners : List ℕ → List Owner
@@ -70,7 +62,7 @@ module _ (listing : Listing) (now : ℕ) (triggers : Owner → List ℕ) (T : Ta
   pub data Told (left : ℕ) : RowsResult → Type 0 where
     told-stop : {k : ℕ} → Told left (halts k)
     told-end : {σ : Rows} {environment : List Variable} {live woken : ℕ} → Told left (ends σ environment left live woken)
-    told-next : {σ : Rows} {environment : List Variable} {ready : List ℕ} {live woken me : ℕ} → Reached left σ environment ready live woken me →
+    told-next : {σ : Rows} {environment : List Variable} {ready : List ℕ} {live woken me : ℕ} → Reached listing now triggers T left σ environment ready live woken me →
         Told left (ends (told σ ready me) environment (suc left) live woken)
 
   -- what an end says
@@ -110,7 +102,7 @@ module _ (listing : Listing) (now : ℕ) (triggers : Owner → List ℕ) (T : Ta
   me-back σ ready me = refl
 
   pub reached-told : (left : ℕ) (r : RowsResult) (σ : Rows) (environment : List Variable) (ready : List ℕ) (live woken me : ℕ) → Told left r →
-      r ≡ teller left σ environment ready live woken me → Reached left σ environment ready live woken me
+      r ≡ teller left σ environment ready live woken me → Reached listing now triggers T left σ environment ready live woken me
   unfolding teller rowsIn environmentIn leftIn liveIn wokenIn
   reached-told left _ σ environment ready live woken me (told-stop {k = k}) e = let z : _≡_ {A = ℕ} 0 (suc left) = ap leftIn e in absurd (omega arith)
   reached-told left _ σ environment ready live woken me told-end e = let z : left ≡ suc left = ap leftIn e in absurd (omega arith)
@@ -120,10 +112,10 @@ module _ (listing : Listing) (now : ℕ) (triggers : Owner → List ℕ) (T : Ta
       let a : σ₀ ≡ σ = sym (rows-back σ₀ ready₀ me₀) ∙ ap untold rows ∙ rows-back σ ready me in
       let b : ready₀ ≡ ready = sym (ready-back σ₀ ready₀ me₀) ∙ ap (λ (τ : Rows). ownerSlots ((τ 0) .bindings)) rows ∙ ready-back σ ready me in
       let c : me₀ ≡ me = sym (me-back σ₀ ready₀ me₀) ∙ ap (λ (τ : Rows). (τ 0) .place) rows ∙ me-back σ ready me in
-      subst (λ x. Reached left x environment ready live woken me) a (subst (λ x. Reached left σ₀ x ready live woken me) (ap environmentIn e)
-      (subst (λ x. Reached left σ₀ environment₀ x live woken me) b (subst (λ x. Reached left σ₀ environment₀ ready₀ x woken me) (ap liveIn e)
-      (subst (λ x. Reached left σ₀ environment₀ ready₀ live₀ x me) (ap wokenIn e)
-      (subst (λ x. Reached left σ₀ environment₀ ready₀ live₀ woken₀ x) c R)))))
+      subst (λ x. Reached listing now triggers T left x environment ready live woken me) a (subst (λ x. Reached listing now triggers T left σ₀ x ready live woken me) (ap environmentIn e)
+      (subst (λ x. Reached listing now triggers T left σ₀ environment₀ x live woken me) b (subst (λ x. Reached listing now triggers T left σ₀ environment₀ ready₀ x woken me) (ap liveIn e)
+      (subst (λ x. Reached listing now triggers T left σ₀ environment₀ ready₀ live₀ x me) (ap wokenIn e)
+      (subst (λ x. Reached listing now triggers T left σ₀ environment₀ ready₀ live₀ woken₀ x) c R)))))
 
   pub tells : (left : ℕ) (whole : Result Turn) → Goal listing now triggers 4294967296 T left whole (Told left) (teller left)
   unfolding teller
@@ -145,11 +137,11 @@ module _ (listing : Listing) (now : ℕ) (triggers : Owner → List ℕ) (T : Ta
   -- If one instruction leaves this state to the rest of the run, whatever that is, the state is reached.
   pub step-reaches : (left : ℕ) (σ σ′ : Rows) (environment environment′ : List Variable) (ready ready′ : List ℕ)
       (live live′ woken woken′ me me′ : ℕ) →
-      Reached (suc left) σ environment ready live woken me →
+      Reached listing now triggers T (suc left) σ environment ready live woken me →
       ((go : RowsRunner) → executeRows listing now triggers go left (instructionAt listing ((σ me) .routine) ((σ me) .place)) σ environment ready live
       woken me ≡
       go σ′ environment′ ready′ live′ woken′ me′) →
-      Reached left σ′ environment′ ready′ live′ woken′ me′
+      Reached listing now triggers T left σ′ environment′ ready′ live′ woken′ me′
   step-reaches left σ σ′ environment environment′ ready ready′ live live′ woken woken′ me me′ R e =
       reached-told left _ σ′ environment′ ready′ live′ woken′ me′ outcome (e (teller left))
     where
@@ -179,7 +171,7 @@ module _ (listing : Listing) (now : ℕ) (triggers : Owner → List ℕ) (T : Ta
       (fs : List Frame) (d t : Tree) (whole : Result Turn) → Idle listing now triggers 4294967296 σ environment ready left live woken fs d t whole →
       Sound listing now triggers 4294967296 T σ environment live (plug fs (d ⋈ t)) →
       ((go : RowsRunner) → nextReady go left σ environment ready live woken ≡ go σ′ environment′ ready′ live′ woken′ me′) →
-      Reached left σ′ environment′ ready′ live′ woken′ me′
+      Reached listing now triggers T left σ′ environment′ ready′ live′ woken′ me′
   pop-reaches left σ σ′ environment environment′ ready ready′ live live′ woken woken′ me′ fs d t whole I S e =
       reached-told left _ σ′ environment′ ready′ live′ woken′ me′
       (idle-as-walk listing now triggers 4294967296 T left whole (tells left whole) σ environment ready live woken fs d t I S) (e (teller left))

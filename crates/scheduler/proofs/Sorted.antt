@@ -8,10 +8,8 @@ use native.Mathlib.Omega.{arith}
 use lib.Dec.{ltb, eqb}
 use borrow.Author.Tests.{ltb-true, ltb-false, eqb-true, eqb-false}
 use Rattle.scheduler.proofs.Priority.{Spread, spread-put, Rising, rising-nil, rising-put, rising-le}
-
-pub data In (k : ℕ) : List ℕ → Type 0 where
-  here : {x : ℕ} {l : List ℕ} → k ≡ x → In k (x ∷ l)
-  there : {x : ℕ} {l : List ℕ} → In k l → In k (x ∷ l)
+pub use Rattle.scheduler.specs.Tree.{In, here, there}
+unfoldable pub use Rattle.scheduler.specs.Reached.{slotsIn}
 
 pub in-left : {k : ℕ} (l m : List ℕ) → In k l → In k (l ++ m)
 in-left _ m (here e) = here e
@@ -167,11 +165,6 @@ spread-one {j = j} {k = k} (spread-put {k = x} e r) (here p) (there q) h = let u
 spread-one {j = j} {k = k} (spread-put {k = x} e r) (there p) (here q) h = let u : suc (x / 64) ≤ j / 64 =
     spread-above r p in let v : k / 64 ≡ x / 64 = ap (λ z. z / 64) q in absurd (omega arith)
 spread-one (spread-put e r) (there p) (there q) h = spread-one r p q h
-
--- the slots of a list of keys
-unfoldable pub slotsIn : List ℕ → List ℕ
-slotsIn [] = []
-slotsIn (k ∷ ks) = k % 64 ∷ slotsIn ks
 
 pub slotsIn-append : (ks l : List ℕ) → slotsIn (ks ++ l) ≡ slotsIn ks ++ slotsIn l
 unfolding slotsIn

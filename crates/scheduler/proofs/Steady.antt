@@ -4,16 +4,15 @@
 use mathlib.Core.Path.{_≡_, refl, sym, ap, _∙_}
 use mathlib.Core.Bool.{Bool, true, false}
 use mathlib.Core.List.{List, [], _∷_}
-use Prim.Native.Nat.{ℕ, zero, suc, _+_, _*_, _-_, _^_, _≤_, _<_}
+use Prim.Native.Nat.{ℕ, zero, suc, _+_, _*_, _-_, _≤_, _<_}
 use native.Mathlib.Nat.{le-refl}
 use native.Mathlib.Omega.{arith}
 use lib.Dec.{ltb}
-use lib.ListN.{length, getD, set, drop, length-append, length-set, length-replicate, replicate}
-use Rattle.listing.specs.Listing.{Listing, Piece, Kind, byReference, byValue, Call, assign, schedule, fork}
+use lib.ListN.{length, getD, set, drop, length-append, length-set, length-replicate}
+use Rattle.listing.specs.Listing.{Listing, Kind, byReference, byValue, Call, fork}
 use Rattle.walk.specs.State.{Variable, fresh}
 use Rattle.walk.specs.Memory.{addressOf, addressesOf, bindNames, ownVariables, consecutive, top}
 use Rattle.walk.specs.Walk.{routineAt, instructionAt, childCount}
-use Rattle.walk.specs.Instant.{environmentSize, environmentNames, mainCall}
 use Rattle.walk.specs.Question7.{ownedCount, ownedBy, boundNames}
 use Rattle.scheduler.specs.Engine.{fewestBits}
 use Rattle.scheduler.specs.Records.{callsOf, noCall}
@@ -22,41 +21,10 @@ use Rattle.scheduler.proofs.Priority.{newChild, newChildren, laterSlots
 use Rattle.scheduler.proofs.Writing.{setIf, setUp, recordWithOwn, setFrom}
 use Rattle.scheduler.proofs.Moves.{placed, focus}
 use Rattle.scheduler.proofs.Children.{Passed, passed-nil, passed-put}
-
--- ── what the loader's questions 4 and 5 give ────────────────────────────────────────────────────
-unfoldable pub nameCount : Listing → ℕ → ℕ
-nameCount listing r = length ((routineAt listing r) .kinds) + (routineAt listing r) .locals
-
--- child fields whose callees take as many arguments, each a name of a caller with n names
-pub data CallsFit (listing : Listing) (n : ℕ) : List Call → Type 0 where
-  calls-nil : CallsFit listing n []
-  calls-put : {c : Call} {cs : List Call} → Passed n ((routineAt listing (c .callee)) .kinds) (c .arguments) → CallsFit listing n cs →
-      CallsFit listing n (c ∷ cs)
-
-pub record TableFits (listing : Listing) : Type 0 where
-  pub sets : (r place n : ℕ) (e : List Piece) → instructionAt listing r place ≡ assign n e → n < nameCount listing r
-  pub delays : (r place n : ℕ) (d e : List Piece) → instructionAt listing r place ≡ schedule n d e → n < nameCount listing r
-  pub forks : (r place : ℕ) (cs : List Call) → instructionAt listing r place ≡ fork cs → CallsFit listing (nameCount listing r) cs
-  pub some : (r place : ℕ) (cs : List Call) → instructionAt listing r place ≡ fork cs → (1 ≤ childCount cs) × (childCount cs ≤ 8)
-  pub few : (r : ℕ) → nameCount listing r ≤ 16
-  pub main : (routineAt listing 0) .kinds ≡ replicate (environmentSize listing) byReference
+pub use Rattle.scheduler.specs.Steady.{CallsFit, calls-nil, calls-put, TableFits, Above, SteadyRecord, Steady, steady-nil, steady-put, SteadyTree}
+unfoldable pub use Rattle.scheduler.specs.Steady.{nameCount, aboveMain, aboveOf}
 
 -- ── what children see of their parent ───────────────────────────────────────────────────────────
-pub record Above : Type 0 where
-  pub calls : List Call
-  pub names : List ℕ
-  pub low : ℕ
-  pub bits : ℕ  -- of each child
-
--- main's parent is the environment
-unfoldable pub aboveMain : Listing → Above
-aboveMain listing = record { calls = mainCall listing ∷ []; names = environmentNames listing; low = 0; bits = 32 }
-
-unfoldable pub aboveOf : Listing → Record → Above
-aboveOf listing x =
-    let cs = callsOf (instructionAt listing (x .routine) (x .place)) in
-    record { calls = cs; names = x .names; low = x .low; bits = x .bits - fewestBits (childCount cs) }
-
 pub above-at : (listing : Listing) (x : Record) (cs : List Call) → instructionAt listing (x .routine) (x .place) ≡ fork cs →
     aboveOf listing x ≡ record { calls = cs; names = x .names; low = x .low; bits = x .bits - fewestBits (childCount cs) }
 unfolding aboveOf callsOf
@@ -65,25 +33,6 @@ above-at listing x cs i = rw i
 unfoldable pub aboveUp : Listing → List Frame → Above
 aboveUp listing [] = aboveMain listing
 aboveUp listing (f ∷ fs) = aboveOf listing (f .self)
-
--- a routine at level lv, its first own address c
-pub record SteadyRecord (listing : Listing) (u : Above) (level c : ℕ) (x : Record) : Type 0 where
-  pub numbered : x .child < childCount (u .calls)
-  pub called : x .routine ≡ (getD (u .calls) (x .child) noCall) .callee
-  pub bound : x .names ≡ boundNames listing c (u .names) (getD (u .calls) (x .child) noCall)
-  pub owned : length (x .own) ≡ ownedBy listing (x .routine)
-  pub lowest : x .low ≡ u .low + x .child * 2 ^ x .bits
-  pub divided : x .bits ≡ u .bits
-  pub deep : 32 ≤ x .bits + 3 * level
-  pub many : length (x .names) ≡ nameCount listing (x .routine)
-  pub near : (n : ℕ) → n < length (x .names) → addressOf (x .names) n < c + length (x .own)
-  pub short : c + length (x .own) ≤ 16 * (level + 2)
-  pub high : level ≤ 10
-
-pub data Steady (listing : Listing) : Above → ℕ → ℕ → Tree → Type 0 where
-  steady-nil : {u : Above} {level c : ℕ} → Steady listing u level c nil
-  steady-put : {u : Above} {level c : ℕ} {x : Record} {k f : Tree} → SteadyRecord listing u level c x →
-      Steady listing (aboveOf listing x) (suc level) (c + length (x .own)) k → Steady listing u level c f → Steady listing u level c (put x k f)
 
 module _ (listing : Listing) where
   pub record SteadyNode (u : Above) (level c : ℕ) (x : Record) (k f : Tree) : Type 0 where
@@ -110,15 +59,12 @@ module _ (listing : Listing) where
   steady-right nil f s = s
   steady-right (put x k t) f (steady-put a b d) = steady-right t f d
 
-  abbrev pub SteadyTree : List Variable → Tree → Type 0
-  SteadyTree environment t = Steady listing (aboveMain listing) 0 (length environment) t
-
   pub record SteadyHole (environment : List Variable) (fs : List Frame) (t : Tree) : Type 0 where
     pub inside : Steady listing (aboveUp listing fs) (length fs) (length (memoryOf environment fs)) t
     pub again : (t′ : Tree) → Steady listing (aboveUp listing fs) (length fs) (length (memoryOf environment fs)) t′ →
-        SteadyTree environment (plug fs t′)
+        SteadyTree listing environment (plug fs t′)
 
-  pub steady-hole : (environment : List Variable) (fs : List Frame) (t : Tree) → SteadyTree environment (plug fs t) → SteadyHole environment fs t
+  pub steady-hole : (environment : List Variable) (fs : List Frame) (t : Tree) → SteadyTree listing environment (plug fs t) → SteadyHole environment fs t
   unfolding plug memoryOf aboveUp
   steady-hole environment [] t s = record { inside = s; again = λ t′ s′. s′ }
   steady-hole environment (f ∷ fs) t s =
@@ -131,7 +77,7 @@ module _ (listing : Listing) where
       }
 
   -- the routine that runs
-  pub steady-record : (environment : List Variable) (f : Frame) (fs : List Frame) (t : Tree) → SteadyTree environment (plug (f ∷ fs) t) →
+  pub steady-record : (environment : List Variable) (f : Frame) (fs : List Frame) (t : Tree) → SteadyTree listing environment (plug (f ∷ fs) t) →
       SteadyRecord listing (aboveUp listing fs) (length fs) (length (memoryOf environment fs)) (f .self)
   unfolding plug
   steady-record environment f fs t s = steady-node (steady-right (f .done) (put (f .self) t (f .todo))
@@ -139,9 +85,9 @@ module _ (listing : Listing) where
 
   -- another record with the same fixed parts
   pub steady-head : (environment : List Variable) (f : Frame) (fs : List Frame) (t t′ : Tree) (x : Record) →
-      SteadyTree environment (plug (f ∷ fs) t) → SteadyRecord listing (aboveUp listing fs) (length fs) (length (memoryOf environment fs)) x →
+      SteadyTree listing environment (plug (f ∷ fs) t) → SteadyRecord listing (aboveUp listing fs) (length fs) (length (memoryOf environment fs)) x →
       Steady listing (aboveOf listing x) (suc (length fs)) (length (memoryOf environment fs) + length (x .own)) t′ →
-      SteadyTree environment (plug (focus x (f .done) (f .todo) ∷ fs) t′)
+      SteadyTree listing environment (plug (focus x (f .done) (f .todo) ∷ fs) t′)
   unfolding plug focus
   steady-head environment f fs t t′ x s a b =
       let o = steady-hole environment fs (f .done ⋈ put (f .self) t (f .todo)) s in
@@ -200,8 +146,8 @@ module _ (listing : Listing) where
   unfolding recordWithOwn
   own-own x o = refl
 
-  pub steady-set : (environment : List Variable) (fs : List Frame) (t : Tree) (a : ℕ) (v : Variable) → SteadyTree environment (plug fs t) →
-      SteadyTree (set environment a v) (plug (setUp environment fs a v) t)
+  pub steady-set : (environment : List Variable) (fs : List Frame) (t : Tree) (a : ℕ) (v : Variable) → SteadyTree listing environment (plug fs t) →
+      SteadyTree listing (set environment a v) (plug (setUp environment fs a v) t)
   unfolding plug setUp aboveOf memoryOf
   steady-set environment [] t a v s = rw (length-set environment a v) s
   steady-set environment (f ∷ fs) t a v s =

@@ -20,6 +20,8 @@ use Rattle.scheduler.proofs.Sorted.{In, here, there, in-left, in-right,
 use Rattle.scheduler.proofs.Writing.{wokenUp}
 use Rattle.scheduler.proofs.Held.{Entry, ownerAt, ownersAt, pathOf, rootCount, rowFor, isLeaf, Held, held-nil, held-put, HeldUp, held-top, held-under, Hole, hole, hole-in}
 use Rattle.scheduler.proofs.Owners.{awaitsOwner, awaitsItBy, wokenByOwnerUp, at-start, wokenByOwner, and-true, up-same, bool-not}
+pub use Rattle.scheduler.specs.Reached.{Triggers}
+unfoldable pub use Rattle.scheduler.specs.Reached.{rowAwaits}
 
 -- ── the engine's side: slots out of a trigger list, by mark and priority ────────────────────────
 pub consIf-cases : {k : ℕ} (w : Bool) (x : ℕ) (l : List ℕ) → In k (consIf w x l) → Either ((w ≡ true) × (k ≡ x)) (In k l)
@@ -111,14 +113,6 @@ sleepersUp [] = []
 sleepersUp (f ∷ fs) = sleepers (f .todo) ++ sleepersUp fs
 
 module _ (listing : Listing) where
-  unfoldable pub rowAwaits : Row → Owner → Bool
-  rowAwaits r o = awaitsOwner (r .bindings) (awaited (instructionAt listing (r .routine) (r .place))) o
-
-  -- the trigger lists are right for whoever is marked
-  pub record Triggers (σ : Rows) (triggers : Owner → List ℕ) : Type 0 where
-    pub sound : (s : ℕ) (o : Owner) → (σ s) .asleep ≡ true → In s (triggers o) → rowAwaits (σ s) o ≡ true
-    pub full : (s : ℕ) (o : Owner) → (σ s) .asleep ≡ true → rowAwaits (σ s) o ≡ true → In s (triggers o)
-
   -- whoever is marked and later than the present one is a pending sleeper
   pub record Marked (σ : Rows) (cur : ℕ) (fs : List Frame) : Type 0 where
     pub pending : (s : ℕ) → (σ s) .asleep ≡ true → cur < (σ s) .low → In s (sleepersUp fs)
@@ -136,13 +130,13 @@ module _ (listing : Listing) where
     unfolding rowFor
     asleep-of = ap (λ (r : Row). r .asleep) e
 
-    row-awaits : (o : Owner) → rowAwaits (σ (x .slot)) o ≡ awaitsOwner (ownersAt (record { slot = x .slot; base = c } ∷ p) (x .names))
+    row-awaits : (o : Owner) → rowAwaits listing (σ (x .slot)) o ≡ awaitsOwner (ownersAt (record { slot = x .slot; base = c } ∷ p) (x .names))
         (awaited (instructionAt listing (x .routine) (x .place))) o
     unfolding rowAwaits rowFor
     row-awaits o = ap (λ (r : Row). awaitsOwner (r .bindings) (awaited (instructionAt listing (r .routine) (r .place))) o) e
 
   forest-from : {σ : Rows} {s : ℕ} {p : List Entry} {c : ℕ} {t : Tree} (o : Owner) → Held σ true p c t → In s (sleepers t) →
-      rowAwaits (σ s) o ≡ true → In (keyAt σ s) (wokenByOwner listing o p c t)
+      rowAwaits listing (σ s) o ≡ true → In (keyAt σ s) (wokenByOwner listing o p c t)
   unfolding sleepers wokenByOwner awaitsItBy
   forest-from o held-nil i h = elim i [ ]
   forest-from {σ} {s} {p} {c} o (held-put {x = x} {k = nil} {f = f} z m e hk hf) i h = go (consIf-cases (not (x .isNew)) (x .slot) (sleepers f) i)
@@ -172,7 +166,7 @@ module _ (listing : Listing) where
     pub slot : ℕ
     pub is : k ≡ keyAt σ slot
     pub asleep : (σ slot) .asleep ≡ true
-    pub awaits : rowAwaits (σ slot) o ≡ true
+    pub awaits : rowAwaits listing (σ slot) o ≡ true
     pub later : lo ≤ (σ slot) .low
 
   owed-low : {σ : Rows} {o : Owner} {lo k : ℕ} (lo′ : ℕ) → lo′ ≤ lo → Owed σ o lo k → Owed σ o lo′ k
@@ -218,7 +212,7 @@ module _ (listing : Listing) where
 
   -- along the frames
   up-from : {σ : Rows} {environment : List Variable} {n s : ℕ} {fs : List Frame} (o : Owner) → HeldUp σ environment n fs → In s (sleepersUp fs) →
-      rowAwaits (σ s) o ≡ true → In (keyAt σ s) (wokenByOwnerUp listing o environment fs)
+      rowAwaits listing (σ s) o ≡ true → In (keyAt σ s) (wokenByOwnerUp listing o environment fs)
   unfolding sleepersUp wokenByOwnerUp
   up-from o held-top i h = elim i [ ]
   up-from {σ} {environment} {n} {s} o (held-under {f = f} {fs = fs} e d c u) i h =
@@ -267,7 +261,7 @@ module _ (listing : Listing) where
 
   -- the list that the engine puts in: the members are those that the walk will wake
   module _ (σ : Rows) (triggers : Owner → List ℕ) (environment : List Variable) (n lo hi : ℕ) (f : Frame) (fs : List Frame) (t : Tree)
-      (T : Triggers σ triggers) (M : Marked σ ((f .self) .low) (f ∷ fs)) (r : Range lo hi (plug (f ∷ fs) t)) (H : HeldUp σ environment n (f ∷ fs))
+      (T : Triggers listing σ triggers) (M : Marked σ ((f .self) .low) (f ∷ fs)) (r : Range lo hi (plug (f ∷ fs) t)) (H : HeldUp σ environment n (f ∷ fs))
       (a : ℕ) (small : a < 65536) where
     abbrev cause : Owner
     cause = ownerAt (pathOf environment (f ∷ fs)) a

@@ -6,3 +6,9 @@ pub mod Engine
 pub mod Beginning
 pub mod Records
 pub mod Order
+pub mod Tree
+pub mod Held
+pub mod Steady
+pub mod Holds
+pub mod Agenda
+pub mod Reached

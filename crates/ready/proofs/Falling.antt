@@ -67,3 +67,11 @@ put-next p new others count at left h few room e =
 
 pub none-put : (new : List ℕ) (count : ℕ) → count ≤ length new → drop count (take count new) ≡ []
 none-put new count few = drop-of-length-le (take count new) {i = count} (let e = length-take-le count new few in omega arith)
+
+-- Entry i of the new ones stored behind the entries in use.
+pub put-onto : (p new others : List ℕ) (at i : ℕ) → at < length p → falling p 0 at ≡ falling new 0 i ++ others
+    → falling (set p at (getD new i 0)) 0 (suc at) ≡ falling new 0 (suc i) ++ others
+unfolding falling
+put-onto p new others at i room e =
+    let z : 0 + i ≡ i = omega arith in
+    falling-put p at (getD new i 0) room ∙ rw z (ap (λ (r : List ℕ). getD new i 0 ∷ r) e)

@@ -31,8 +31,7 @@ pub fn next_ready(m: &mut [u32], running: Running) -> Stepped
     let q = running.ready;
     let live = running.live;
     let woken = running.woken;
-    let count = q.count;
-    if count == 0 {
+    if ready::is_empty(q) {
         return Stepped {
             answer: Answer::Ends,
             running,

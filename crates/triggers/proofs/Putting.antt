@@ -1,11 +1,11 @@
 -- The pass of a write over a trigger list whose slots go before all who are ready, each in its turn.
 use mathlib.Core.Bool.{true, false}
-use mathlib.Core.List.{List, _∷_}
+use mathlib.Core.List.{List, _∷_, _++_}
 use mathlib.Core.Path.{_≡_, sym, ap, _∙_}
-use Prim.Native.Nat.{ℕ, suc, _-_, _/_, _≤_, _<_}
+use Prim.Native.Nat.{ℕ, suc, _+_, _-_, _/_, _≤_, _<_}
 use native.Mathlib.Omega.{arith}
 use lib.Dec.{leb, ltb}
-use lib.ListN.{length, set, length-set}
+use lib.ListN.{length, set, length-set, length-append}
 use borrow.Author.Tests.{ltb-true, leb-true, lt-ltb, lt-leb, le-leb}
 use Rattle.scheduler.specs.Ready.{insert, insertAll}
 use Rattle.machine.proofs.Basics.{and-left, and-right}
@@ -60,21 +60,29 @@ module _ (rows : Rows) (next most low : ℕ) where
     by-priority own e f = rw (lt-ltb 0 next (omega (arith, some)), le-leb next most near, e, f)
 
 -- ── the pass ──────────────────────────────────────────────────────────────────────────────────────
--- `count` entries of p are in use, `low` is the priority of the first. What is left of the pass, from trigger `next` on, gives `whole`.
-pub record Putting (words whole : List ℕ) (next most low : ℕ) (p : List ℕ) (count : ℕ) : Type 0 where
-  pub size : length p ≡ 64
+-- `count` slots of `new` are gathered and go before the others, the last one first; `low` is the priority of the first. What is left of the pass, from trigger
+-- `next` on, gives `whole`.
+pub record Putting (words whole others : List ℕ) (next most low : ℕ) (new : List ℕ) (count : ℕ) : Type 0 where
+  pub size : length new ≡ 64
   pub bound : most ≤ 256
-  pub order : Ordered (rowsOf words) (falling p 0 count)
-  pub first : low ≡ firstLow (rowsOf words) (falling p 0 count)
-  pub left : insertAll (rowsOf words) (triggeredFrom (rowsOf words) 0 (chained words most next)) (falling p 0 count) ≡ whole
+  pub order : Ordered (rowsOf words) (falling new 0 count ++ others)
+  pub first : low ≡ firstLow (rowsOf words) (falling new 0 count ++ others)
+  pub left : insertAll (rowsOf words) (triggeredFrom (rowsOf words) 0 (chained words most next)) (falling new 0 count ++ others) ≡ whole
 
-module _ (words whole : List ℕ) (next most low : ℕ) (p : List ℕ) (count : ℕ) (P : Putting words whole next most low p count) where
-  pub putting-end : next ≡ 0 → falling p 0 count ≡ whole
+module _ (words whole others : List ℕ) (next most low : ℕ) (new : List ℕ) (count : ℕ) (P : Putting words whole others next most low new count) where
+  abbrev l : List ℕ
+  l = falling new 0 count ++ others
+
+  size-of : length l ≡ count + length others
+  size-of = length-append (falling new 0 count) others ∙ ap (λ (k : ℕ). k + length others) (length-falling new 0 count)
+
+  pub putting-few : count + length others ≤ 64
+  putting-few = let a = ordered-few (rowsOf words) l (P .order) in let b = size-of in omega arith
+
+  pub putting-end : next ≡ 0 → l ≡ whole
   putting-end e =
       let none = ap (λ (t : ℕ). chained words most t) e ∙ chained-none words most in
-      sym (wake-none (rowsOf words) 0 (falling p 0 count))
-      ∙ sym (ap (λ (ss : List ℕ). insertAll (rowsOf words) (triggeredFrom (rowsOf words) 0 ss) (falling p 0 count)) none)
-      ∙ P .left
+      sym (wake-none (rowsOf words) 0 l) ∙ sym (ap (λ (ss : List ℕ). insertAll (rowsOf words) (triggeredFrom (rowsOf words) 0 ss) l) none) ∙ P .left
 
   module _ (G : GoesFirst (rowsOf words) next most low) where
     abbrev n : ℕ
@@ -86,9 +94,6 @@ module _ (words whole : List ℕ) (next most low : ℕ) (p : List ℕ) (count : 
     slot-small : slot < 64
     slot-small = let a = G .near in let b = P .bound in let c = G .some in omega arith
 
-    abbrev l : List ℕ
-    l = falling p 0 count
-
     goes : insert (rowsOf words) slot l ≡ slot ∷ l
     goes = insert-first (rowsOf words) slot l (let e = P .first in let h = G .early in omega arith)
 
@@ -97,10 +102,10 @@ module _ (words whole : List ℕ) (next most low : ℕ) (p : List ℕ) (count : 
 
     -- "so 64 places suffice"
     pub putting-room : count < 64
-    putting-room = let a = ordered-few (rowsOf words) (slot ∷ l) still in let b = length-falling p 0 count in omega arith
+    putting-room = let a = ordered-few (rowsOf words) (slot ∷ l) still in let b = size-of in omega arith
 
-    put : falling (set p count slot) 0 (suc count) ≡ slot ∷ l
-    put = falling-put p count slot (let a = P .size in let b = putting-room in omega arith)
+    put : falling (set new count slot) 0 (suc count) ++ others ≡ slot ∷ l
+    put = ap (λ (k : List ℕ). k ++ others) (falling-put new count slot (let a = P .size in let b = putting-room in omega arith))
 
     goes-on : insertAll (rowsOf words) (triggeredFrom (rowsOf words) 0 (chained words most next)) l
         ≡ insertAll (rowsOf words) (triggeredFrom (rowsOf words) 0 (chained words n (nextTrigger words n))) (slot ∷ l)
@@ -113,11 +118,11 @@ module _ (words whole : List ℕ) (next most low : ℕ) (p : List ℕ) (count : 
         ∙ ap (λ (k : List ℕ). insertAll (rowsOf words) (triggeredFrom (rowsOf words) 0 (chained words n (nextTrigger words n))) k)
         (sym (inserted (rowsOf words) _ slot l w) ∙ goes)
 
-    pub putting-next : Putting words whole (nextTrigger words n) n ((rowsOf words slot) .low) (set p count slot) (suc count)
+    pub putting-next : Putting words whole others (nextTrigger words n) n ((rowsOf words slot) .low) (set new count slot) (suc count)
     unfolding firstLow
     putting-next =
         record {
-          size = length-set p count slot ∙ P .size;
+          size = length-set new count slot ∙ P .size;
           bound = let a = G .near in let b = P .bound in omega arith;
           order = rw put still;
           first = rw put;

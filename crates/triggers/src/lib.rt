@@ -90,7 +90,7 @@ fn goes_first(m: &[u32], next: usize, most: usize, low: u64) -> bool
 }
 
 // A due write or an input, before any routine runs: it reaches all who await the variable. As a rule each goes before all who
-// are ready, and is stored there at once: a push by value copies the whole list right behind its store. Else each is pushed.
+// are ready: these are gathered, and put there in one go, since a push by value copies the whole list right behind its store. Else each is pushed.
 pub fn wake_all(m: &[u32], q: ReadyList, s: usize, index: usize) -> ReadyList
     requires { ⌜ (12288 ≤ length (now m)) × (s ≤ 64) × (index < 16) × (Ordered (rowsOf (now m)) (slotsOf q)) ⌝ }
     ensures { λ r. ⌜ (slotsOf r ≡ insertAll (rowsOf (now (m .entry))) (triggeredFrom (rowsOf (now (m .entry))) 0 (triggersAt (now (m .entry)) s index)) (slotsOf q))
@@ -99,20 +99,20 @@ pub fn wake_all(m: &[u32], q: ReadyList, s: usize, index: usize) -> ReadyList
     let mut next = number(blocks::word_at(m, s, 144 + index));
     let mut most: usize = 256;
     let mut low = ready::first_low(m, q);
-    let mut p = q.places;
-    let mut count = q.count;
+    let mut new = [0u8; 64];
+    let mut count: usize = 0;
     while goes_first(m, next, most, low) {
         most = next - 1;
         let slot = most / 4;
         low = blocks::low(m, slot) as u64;
-        p[count] = slot as u8;
+        new[count] = slot as u8;
         count += 1;
         next = number(blocks::word_at(m, slot, 160 + most % 4));
     }
     if next > 0 {
         return wake_from(m, q, s, index, 0);
     }
-    ReadyList { places: p, count }
+    ready::put_first(q, &new, count)
 }
 
 // ---- at the beginning of an instant ----

@@ -1,6 +1,6 @@
 -- `triggers::wake_all` meets its contract.
 use denote.Ref.{now}
-use mathlib.Core.Path.{_≡_, sym, _∙_}
+use mathlib.Core.Path.{_≡_, refl, sym, _∙_}
 use Prim.Native.Nat.{_≤_}
 use native.Mathlib.Numerals.{add-one}
 use native.Mathlib.Omega.{arith}
@@ -11,20 +11,20 @@ use Rattle.blocks.specs.Blocks.{rowsOf}
 use Rattle.ready.proofs.Distinct.{ordered-few}
 use Rattle.ready.proofs.Falling.{length-slots}
 use Rattle.ready.specs.Ordered.{Ordered}
-use Rattle.ready.specs.Slots.{slotsOf}
-use Rattle.triggers.proofs.Putting.{first-goes, Putting, putting-room, putting-next, putting-end}
+use Rattle.ready.specs.Slots.{falling, slotsOf}
+use Rattle.triggers.proofs.Putting.{first-goes, Putting, putting-room, putting-next, putting-few, putting-end}
 use Rattle.triggers.proofs.wake_all.Statement.{statement}
 use Rattle.triggers.specs.Chains.{firstTrigger, triggersAt}
 use Rattle.triggers.specs.Wakes.{triggeredFrom}
 use Rattle.triggers.proofs.wake_all.Tie as tie
 
 abbrev Inv-loop : tie.InvT-loop
-Inv-loop m q s index next₀ most₀ low₀ p₀ count₀ next most low p count =
-    (most ≤ 256) × (length p ≡ 64)
-    × (Putting m (insertAll (rowsOf m) (triggeredFrom (rowsOf m) 0 (triggersAt m s index)) (slotsOf q)) next most low p count)
+Inv-loop m q s index next₀ most₀ low₀ new₀ count₀ next most low new count =
+    (most ≤ 256) × (length new ≡ 64)
+    × (Putting m (insertAll (rowsOf m) (triggeredFrom (rowsOf m) 0 (triggersAt m s index)) (slotsOf q)) (slotsOf q) next most low new count)
 
 abbrev μ-loop : tie.MeasureT-loop
-μ-loop m q s index next₀ most₀ low₀ p₀ count₀ next most low p count =
+μ-loop m q s index next₀ most₀ low₀ new₀ count₀ next most low new count =
     most
 
 add-word-at : tie.Need-add-word-at Inv-loop μ-loop
@@ -45,13 +45,12 @@ first-low-requires c κs =
     (search needs, omega arith)
 
 loop-holds : tie.Need-loop-holds Inv-loop μ-loop
-unfolding slotsOf triggersAt
+unfolding falling triggersAt
 loop-holds c =
-    let a = c .before .before .before .before .before .args in
+    let a = c .before .before .before .before .args in
     let m = now (a .m) in
-    let len : length (a .q .places) ≡ 64 = search needs in
-    let e : c .before .before .number .result ≡ firstTrigger m (a .s) (a .index) = c .before .before .number .ensures .0 ∙ c .before .before .before .word-at .ensures in
-    (omega arith, len, record { size = len; bound = omega arith; order = search needs; first = c .before .first-low .ensures; left = rw e })
+    let e : c .before .number .result ≡ firstTrigger m (a .s) (a .index) = c .before .number .ensures .0 ∙ c .before .before .word-at .ensures in
+    (omega arith, refl, record { size = refl; bound = omega arith; order = search needs; first = c .first-low .ensures; left = rw e })
 
 goes-first-requires : tie.Need-goes-first-requires Inv-loop μ-loop
 goes-first-requires c κs = search needs
@@ -71,21 +70,21 @@ low-requires c κs =
 cast-low : tie.Need-cast-low Inv-loop μ-loop
 cast-low c = search needs
 
-cast-p : tie.Need-cast-p Inv-loop μ-loop
-cast-p c =
+cast-new : tie.Need-cast-new Inv-loop μ-loop
+cast-new c =
     let near = first-goes _ _ _ _ (sym (c .before .before .goes-first .ensures) ∙ c .before .if1 .taken) .near in
     omega arith
 
-array-write-p : tie.Need-array-write-p Inv-loop μ-loop
-array-write-p c =
+array-write-new : tie.Need-array-write-new Inv-loop μ-loop
+array-write-new c =
     let v = c .before .before .before .loop in
-    let room = putting-room _ _ _ _ _ _ _ (v .inv .2) (first-goes _ _ _ _ (sym (c .before .before .goes-first .ensures) ∙ c .before .if1 .taken)) in
+    let room = putting-room _ _ _ _ _ _ _ _ (v .inv .2) (first-goes _ _ _ _ (sym (c .before .before .goes-first .ensures) ∙ c .before .if1 .taken)) in
     omega arith
 
 add-count : tie.Need-add-count Inv-loop μ-loop
 add-count c =
     let v = c .before .before .before .loop in
-    let room = putting-room _ _ _ _ _ _ _ (v .inv .2) (first-goes _ _ _ _ (sym (c .before .before .goes-first .ensures) ∙ c .before .if1 .taken)) in
+    let room = putting-room _ _ _ _ _ _ _ _ (v .inv .2) (first-goes _ _ _ _ (sym (c .before .before .goes-first .ensures) ∙ c .before .if1 .taken)) in
     omega arith
 
 add-word-at-2 : tie.Need-add-word-at-2 Inv-loop μ-loop
@@ -111,7 +110,7 @@ loop-again c =
     let v = c .before .before .before .before .before .loop in
     let g = first-goes _ _ _ _ (sym (c .before .before .before .before .goes-first .ensures) ∙ c .before .before .before .if1 .taken) in
     let next = c .number2 .ensures .0 ∙ c .before .word-at2 .ensures in
-    let P = putting-next _ _ _ _ _ _ _ (v .inv .2) g in
+    let P = putting-next _ _ _ _ _ _ _ _ (v .inv .2) g in
     (P .bound, P .size, rw (next, c .before .before .low .ensures, add-one) P)
 
 wake-from-requires : tie.Need-wake-from-requires Inv-loop μ-loop
@@ -120,12 +119,19 @@ wake-from-requires c κs = search needs
 returns : tie.Need-returns Inv-loop μ-loop
 returns c = c .wake-from .ensures
 
+put-first-requires : tie.Need-put-first-requires Inv-loop μ-loop
+put-first-requires c κs =
+    let v = c .before .before .before .before .loop in
+    let few = putting-few _ _ _ _ _ _ _ _ (v .inv .2) in
+    let n = length-slots (c .before .before .before .before .before .before .before .before .before .args .q) in
+    omega arith
+
 returns-2 : tie.Need-returns-2 Inv-loop μ-loop
-unfolding slotsOf
 returns-2 c =
-    let v = c .before .before .before .loop in
+    let v = c .before .before .before .before .before .loop in
     let none : v .next ≡ 0 = omega arith in
-    (putting-end _ _ _ _ _ _ _ (v .inv .2) none, v .inv .2 .order)
+    let e = c .put-first .ensures .1 in
+    (e ∙ putting-end _ _ _ _ _ _ _ _ (v .inv .2) none, rw e (v .inv .2 .order))
 
 pub wake-all-spec : {M : Type 1} → statement M
 wake-all-spec =
@@ -142,8 +148,8 @@ wake-all-spec =
     sub-most
     low-requires
     cast-low
-    cast-p
-    array-write-p
+    cast-new
+    array-write-new
     add-count
     add-word-at-2
     word-at-requires-2
@@ -152,4 +158,5 @@ wake-all-spec =
     loop-again
     wake-from-requires
     returns
+    put-first-requires
     returns-2)

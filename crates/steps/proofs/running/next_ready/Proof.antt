@@ -6,6 +6,7 @@ use Prim.Native.Nat.{ℕ, suc, _+_, _<_}
 use native.Mathlib.Numerals.{add-one}
 use native.Mathlib.Omega.{arith}
 use borrow.Author.Needs.{needs}
+use borrow.Author.Tests.{eqb-true, eqb-false}
 use Rattle.scheduler.specs.Rows.{Row}
 use Rattle.scheduler.specs.Engine.{firstPlace, countIf}
 use Rattle.blocks.specs.Blocks.{rowsOf}
@@ -14,32 +15,39 @@ use Rattle.steps.proofs.Going.{first-small, pops-none, pops-first}
 use Rattle.steps.proofs.running.next_ready.Statement.{statement}
 use Rattle.steps.proofs.running.next_ready.Tie as tie
 
+is-empty-requires : tie.Need-is-empty-requires
+is-empty-requires c κs = search needs
+
 returns : tie.Need-returns
-returns c = pops-none (now (c .before .before .before .args .m)) (c .before .before .before .args .running) (c .if1 .taken)
+returns c =
+    let a = c .before .before .before .before .args in
+    pops-none (now (a .m)) (a .running) (eqb-true _ _ (sym (c .before .is-empty .ensures) ∙ c .if1 .taken))
 
 pop-requires : tie.Need-pop-requires
-pop-requires c κs = search needs
+pop-requires c κs =
+    let some : c .before .before .before .before .args .running .ready .count ≡ 0 → ⊥ = eqb-false _ _ (sym (c .before .is-empty .ensures) ∙ c .if1 .left) in
+    search needs
 
 place-requires : tie.Need-place-requires
 place-requires c κs =
-    let small : c .before .before .pop .result .slot < 64 = first-small (c .before .before .before .before .before .before .pre .slots) (c .before .before .pop .ensures .1) in search needs
+    let small : c .before .before .pop .result .slot < 64 = first-small (c .before .before .before .before .before .before .before .pre .slots) (c .before .before .pop .ensures .1) in search needs
 
 asleep-requires : tie.Need-asleep-requires
 asleep-requires c κs =
-    let small : c .before .before .before .before .pop .result .slot < 64 = first-small (c .before .before .before .before .before .before .before .before .pre .slots) (c .before .before .before .before .pop .ensures .1) in search needs
+    let small : c .before .before .before .before .pop .result .slot < 64 = first-small (c .before .before .before .before .before .before .before .before .before .pre .slots) (c .before .before .before .before .pop .ensures .1) in search needs
 
 add-set-place : tie.Need-add-set-place
 add-set-place c =
     let e = c .before .before .before .before .place .ensures in
-    let bound = c .before .before .before .before .before .before .before .before .before .before .before .pre .sleepers (c .before .before .before .before .before .before .before .pop .result .slot) (sym (c .before .before .asleep .ensures) ∙ c .before .if2 .taken) in
+    let bound = c .before .before .before .before .before .before .before .before .before .before .before .before .pre .sleepers (c .before .before .before .before .before .before .before .pop .result .slot) (sym (c .before .before .asleep .ensures) ∙ c .before .if2 .taken) in
     record { fits = omega arith }
 
 set-place-requires : tie.Need-set-place-requires
 set-place-requires c κs =
-    let small : c .before .before .before .before .before .before .before .pop .result .slot < 64 = first-small (c .before .before .before .before .before .before .before .before .before .before .before .pre .slots) (c .before .before .before .before .before .before .before .pop .ensures .1) in search needs
+    let small : c .before .before .before .before .before .before .before .pop .result .slot < 64 = first-small (c .before .before .before .before .before .before .before .before .before .before .before .before .pre .slots) (c .before .before .before .before .before .before .before .pop .ensures .1) in search needs
 
-add-t21 : tie.Need-add-t21
-add-t21 c = search needs
+add-t20 : tie.Need-add-t20
+add-t20 c = search needs
 
 same-length : tie.Need-same-length
 same-length c = search needs
@@ -47,11 +55,11 @@ same-length c = search needs
 returns-2 : tie.Need-returns-2
 unfolding firstPlace countIf
 returns-2 c =
-    let u = c .before .before .before .before .before .before .before .before .before .before .before .before .before .before .args .running in
+    let u = c .before .before .before .before .before .before .before .before .before .before .before .before .before .before .before .args .running in
     let s = c .before .before .before .before .before .before .before .before .before .before .pop .result .slot in
-    let row = rowsOf (now (c .before .before .before .before .before .before .before .before .before .before .before .before .before .before .args .m)) s in
+    let row = rowsOf (now (c .before .before .before .before .before .before .before .before .before .before .before .before .before .before .before .args .m)) s in
     let up : row .asleep ≡ true = sym (c .before .before .before .before .before .asleep .ensures) ∙ c .before .before .before .before .if2 .taken in
-    let small : s < 64 = first-small (c .before .before .before .before .before .before .before .before .before .before .before .before .before .before .pre .slots) (c .before .before .before .before .before .before .before .before .before .before .pop .ensures .1) in
+    let small : s < 64 = first-small (c .before .before .before .before .before .before .before .before .before .before .before .before .before .before .before .pre .slots) (c .before .before .before .before .before .before .before .before .before .before .pop .ensures .1) in
     let place : c .before .before .before .before .before .before .before .place .result + 1 ≡ firstPlace (row .asleep) (row .place) = rw (up, add-one) (ap suc (c .before .before .before .before .before .before .before .place .ensures)) in
     let woken : u .woken + 1 ≡ countIf (row .asleep) (u .woken) = rw (up, add-one) in
     pops-first (c .before .before .before .before .before .before .before .place .result + 1) (c .before .before .set-place .ensures) small u
@@ -59,7 +67,7 @@ returns-2 c =
 
 set-place-requires-2 : tie.Need-set-place-requires-2
 set-place-requires-2 c κs =
-    let small : c .before .before .before .before .before .before .before .pop .result .slot < 64 = first-small (c .before .before .before .before .before .before .before .before .before .before .before .pre .slots) (c .before .before .before .before .before .before .before .pop .ensures .1) in search needs
+    let small : c .before .before .before .before .before .before .before .pop .result .slot < 64 = first-small (c .before .before .before .before .before .before .before .before .before .before .before .before .pre .slots) (c .before .before .before .before .before .before .before .pop .ensures .1) in search needs
 
 same-length-2 : tie.Need-same-length-2
 same-length-2 c = search needs
@@ -67,11 +75,11 @@ same-length-2 c = search needs
 returns-3 : tie.Need-returns-3
 unfolding firstPlace countIf
 returns-3 c =
-    let u = c .before .before .before .before .before .before .before .before .before .before .before .before .before .before .args .running in
+    let u = c .before .before .before .before .before .before .before .before .before .before .before .before .before .before .before .args .running in
     let s = c .before .before .before .before .before .before .before .before .before .before .pop .result .slot in
-    let row = rowsOf (now (c .before .before .before .before .before .before .before .before .before .before .before .before .before .before .args .m)) s in
+    let row = rowsOf (now (c .before .before .before .before .before .before .before .before .before .before .before .before .before .before .before .args .m)) s in
     let up : row .asleep ≡ false = sym (c .before .before .before .before .before .asleep .ensures) ∙ c .before .before .before .before .if2 .left in
-    let small : s < 64 = first-small (c .before .before .before .before .before .before .before .before .before .before .before .before .before .before .pre .slots) (c .before .before .before .before .before .before .before .before .before .before .pop .ensures .1) in
+    let small : s < 64 = first-small (c .before .before .before .before .before .before .before .before .before .before .before .before .before .before .before .pre .slots) (c .before .before .before .before .before .before .before .before .before .before .pop .ensures .1) in
     let place : c .before .before .before .before .before .before .before .place .result ≡ firstPlace (row .asleep) (row .place) = rw up (c .before .before .before .before .before .before .before .place .ensures) in
     let woken : u .woken ≡ countIf (row .asleep) (u .woken) = rw up in
     pops-first (c .before .before .before .before .before .before .before .place .result) (c .before .before .set-place2 .ensures) small u
@@ -81,13 +89,14 @@ pub next-ready-spec : {M : Type 1} → statement M
 next-ready-spec =
     tie.close
     (tie.spec
+    is-empty-requires
     returns
     pop-requires
     place-requires
     asleep-requires
     add-set-place
     set-place-requires
-    add-t21
+    add-t20
     same-length
     returns-2
     set-place-requires-2

@@ -121,7 +121,7 @@ fn settle(t: &[u32], m: &[u32], k: usize, p: Path, made: Maker) -> Path
         return refused(p);
     }
     if 9 < level {
-        return refused(p);
+        return refused(p); // its children would be at level 11
     }
     pushed(q, level, line.cells, line.count)
 }

@@ -1,5 +1,5 @@
 -- `ready::put_first` meets its contract: after each turn the slots put so far, the last one first, stand before the others.
-use mathlib.Core.Path.{_≡_, refl, _∙_}
+use mathlib.Core.Path.{_≡_, refl}
 use mathlib.Core.List.{_++_}
 use Prim.Native.Nat.{_+_, _-_, _≤_, _<_}
 use native.Mathlib.Numerals.{add-one}
@@ -48,7 +48,7 @@ loop-again c =
     let room : v .at < length (v .p) = omega (arith, v .inv .1, v .inv .2, few) in (
       omega arith,
       omega (arith, v .inv .1),
-      length-set (v .p) (v .at) _ ∙ v .inv .2,
+      simp length-set (v .inv .2),
       rw (add-one (v .at), add-one (v .i)) (put-onto (v .p) (a .new .now) _ (v .at) (v .i) room (v .inv .3)),
     )
 

@@ -62,12 +62,14 @@ line-at-requires c κs =
 
 returns : tie.Need-returns
 returns c =
-    let a = c .before .before .before .before .before .before .before .before .before .before .before .before .args in
+    let o = c .before .before .before .before .before .before .before .before .before .before .before .before in
+    let a = o .args in
     let e : c .before .before .before .before .before .before .before .number .result ≡ recordOf (a .m .now) (a .k) .level = level-from (a .m .now) (a .k) _ _ (c .before .before .before .before .before .before .before .before .before .block-of .ensures .0) (c .before .before .before .before .before .before .before .number .ensures .0) in
     let f : c .before .before .before .before .before .number2 .result ≡ recordOf (a .m .now) (a .k) .child = child-from (a .m .now) (a .k) _ _ (c .before .before .before .before .before .before .before .before .before .block-of .ensures .0) (c .before .before .before .before .before .number2 .ensures .0) in
     let g : c .before .before .before .number3 .result ≡ recordOf (a .m .now) (a .k) .place = place-from (a .m .now) (a .k) _ _ (c .before .before .before .before .before .before .before .before .before .block-of .ensures .0) (c .before .before .before .number3 .ensures .0) in (
       at-wait-path _ _ _ _ (c .if1 .taken) ∙ settled-as _ _ _ _ (a .made) _ _ _ _ _ e f g (c .before .before .entered .ensures) (c .before .line-at .ensures .0),
-      waiting-step (a .t .now) (a .m .now) (a .k) (a .p) (a .made .routine) (a .made .head) (a .made .left) (c .before .before .before .before .before .before .before .before .before .before .before .before .pre .2) (c .before .before .before .before .before .before .before .before .before .before .before .before .pre .3) (c .before .before .before .before .before .before .before .before .before .before .before .before .pre .4) (c .before .before .before .before .before .before .before .before .before .before .before .before .pre .5) (c .before .before .before .before .before .before .before .before .before .before .before .before .pre .6)
+      waiting-step (a .t .now) (a .m .now) (a .k) (a .p) (a .made .routine) (a .made .head) (a .made .left)
+          (o .pre .2) (o .pre .3) (o .pre .4) (o .pre .5) (o .pre .6)
           _ (entered-fields _ _ _ _ _ _ _ _ e f (c .before .before .entered .ensures)) _ _ _ (c .if1 .taken) (rw g at (c .before .line-at .ensures .1)),
     )
 
@@ -76,13 +78,15 @@ refused-requires c κs = search needs
 
 returns-2 : tie.Need-returns-2
 returns-2 c =
-    let a = c .before .before .before .before .before .before .before .before .before .before .before .before .before .before .args in
+    let o = c .before .before .before .before .before .before .before .before .before .before .before .before .before .before in
+    let a = o .args in
     let g : c .before .before .before .before .before .number3 .result ≡ recordOf (a .m .now) (a .k) .place = place-from (a .m .now) (a .k) _ _ (c .before .before .before .before .before .before .before .before .before .before .before .block-of .ensures .0) (c .before .before .before .before .before .number3 .ensures .0) in
     let e : c .before .before .before .before .before .before .before .before .before .number .result ≡ recordOf (a .m .now) (a .k) .level = level-from (a .m .now) (a .k) _ _ (c .before .before .before .before .before .before .before .before .before .before .before .block-of .ensures .0) (c .before .before .before .before .before .before .before .before .before .number .ensures .0) in
     let f : c .before .before .before .before .before .before .before .number2 .result ≡ recordOf (a .m .now) (a .k) .child = child-from (a .m .now) (a .k) _ _ (c .before .before .before .before .before .before .before .before .before .before .before .block-of .ensures .0) (c .before .before .before .before .before .before .before .number2 .ensures .0) in (
       c .refused .ensures ∙ at-other-path _ _ _ _ (c .before .before .if1 .left) (c .before .if2 .taken) ∙ settled-as _ _ _ _ (a .made) _ _ _ _ _ e f g (c .before .before .before .before .entered .ensures) (c .before .before .before .line-at .ensures .0),
       refused-step _ _ _ (a .p) _ (c .refused .ensures)
-          (no-sleep (a .t .now) (a .m .now) (a .k) (a .p) (a .made .routine) (a .made .head) (a .made .left) (c .before .before .before .before .before .before .before .before .before .before .before .before .before .before .pre .2) (c .before .before .before .before .before .before .before .before .before .before .before .before .before .before .pre .3) (c .before .before .before .before .before .before .before .before .before .before .before .before .before .before .pre .4) (c .before .before .before .before .before .before .before .before .before .before .before .before .before .before .pre .5) (c .before .before .before .before .before .before .before .before .before .before .before .before .before .before .pre .6)
+          (no-sleep (a .t .now) (a .m .now) (a .k) (a .p) (a .made .routine) (a .made .head) (a .made .left)
+          (o .pre .2) (o .pre .3) (o .pre .4) (o .pre .5) (o .pre .6)
           _ _ _ (c .before .before .if1 .left) (c .before .if2 .taken) (rw g at (c .before .before .before .line-at .ensures .1))),
     )
 
@@ -91,13 +95,16 @@ refused-requires-2 c κs = search needs
 
 returns-3 : tie.Need-returns-3
 returns-3 c =
-    let a = c .before .before .before .before .before .before .before .before .before .before .before .before .before .before .before .args in
-    let e : c .before .before .before .before .before .before .before .before .before .before .number .result ≡ recordOf (a .m .now) (a .k) .level = level-from (a .m .now) (a .k) _ _ (c .before .before .before .before .before .before .before .before .before .before .before .before .block-of .ensures .0) (c .before .before .before .before .before .before .before .before .before .before .number .ensures .0) in
+    let o = c .before .before .before .before .before .before .before .before .before .before .before .before .before .before .before in
+    let a = o .args in
+    let e : c .before .before .before .before .before .before .before .before .before .before .number .result ≡ recordOf (a .m .now) (a .k) .level
+    = level-from (a .m .now) (a .k) _ _ (c .before .before .before .before .before .before .before .before .before .before .before .before .block-of .ensures .0) (c .before .before .before .before .before .before .before .before .before .before .number .ensures .0) in
     let g : c .before .before .before .before .before .before .number3 .result ≡ recordOf (a .m .now) (a .k) .place = place-from (a .m .now) (a .k) _ _ (c .before .before .before .before .before .before .before .before .before .before .before .before .block-of .ensures .0) (c .before .before .before .before .before .before .number3 .ensures .0) in
     let f : c .before .before .before .before .before .before .before .before .number2 .result ≡ recordOf (a .m .now) (a .k) .child = child-from (a .m .now) (a .k) _ _ (c .before .before .before .before .before .before .before .before .before .before .before .before .block-of .ensures .0) (c .before .before .before .before .before .before .before .before .number2 .ensures .0) in (
       c .refused2 .ensures ∙ at-deep-path _ _ _ _ (c .before .before .if2 .left) (c .before .if3 .taken) ∙ settled-as _ _ _ _ (a .made) _ _ _ _ _ e f g (c .before .before .before .before .before .entered .ensures) (c .before .before .before .before .line-at .ensures .0),
       refused-step _ _ _ (a .p) _ (c .refused2 .ensures)
-          (too-deep (a .t .now) (a .m .now) (a .k) (a .p) (a .made .routine) (a .made .head) (a .made .left) (c .before .before .before .before .before .before .before .before .before .before .before .before .before .before .before .pre .2) (c .before .before .before .before .before .before .before .before .before .before .before .before .before .before .before .pre .3) (c .before .before .before .before .before .before .before .before .before .before .before .before .before .before .before .pre .4) (c .before .before .before .before .before .before .before .before .before .before .before .before .before .before .before .pre .5) (c .before .before .before .before .before .before .before .before .before .before .before .before .before .before .before .pre .6)
+          (too-deep (a .t .now) (a .m .now) (a .k) (a .p) (a .made .routine) (a .made .head) (a .made .left)
+          (o .pre .2) (o .pre .3) (o .pre .4) (o .pre .5) (o .pre .6)
           _ _ _ (c .before .before .if2 .left) (rw e at (c .before .if3 .taken)) (rw g at (c .before .before .before .before .line-at .ensures .1))),
     )
 
@@ -106,12 +113,15 @@ pushed-requires c κs = search needs
 
 returns-4 : tie.Need-returns-4
 returns-4 c =
-    let a = c .before .before .before .before .before .before .before .before .before .before .before .before .before .before .before .args in
-    let e : c .before .before .before .before .before .before .before .before .before .before .number .result ≡ recordOf (a .m .now) (a .k) .level = level-from (a .m .now) (a .k) _ _ (c .before .before .before .before .before .before .before .before .before .before .before .before .block-of .ensures .0) (c .before .before .before .before .before .before .before .before .before .before .number .ensures .0) in
+    let o = c .before .before .before .before .before .before .before .before .before .before .before .before .before .before .before in
+    let a = o .args in
+    let e : c .before .before .before .before .before .before .before .before .before .before .number .result ≡ recordOf (a .m .now) (a .k) .level
+    = level-from (a .m .now) (a .k) _ _ (c .before .before .before .before .before .before .before .before .before .before .before .before .block-of .ensures .0) (c .before .before .before .before .before .before .before .before .before .before .number .ensures .0) in
     let f : c .before .before .before .before .before .before .before .before .number2 .result ≡ recordOf (a .m .now) (a .k) .child = child-from (a .m .now) (a .k) _ _ (c .before .before .before .before .before .before .before .before .before .before .before .before .block-of .ensures .0) (c .before .before .before .before .before .before .before .before .number2 .ensures .0) in
     let g : c .before .before .before .before .before .before .number3 .result ≡ recordOf (a .m .now) (a .k) .place = place-from (a .m .now) (a .k) _ _ (c .before .before .before .before .before .before .before .before .before .before .before .before .block-of .ensures .0) (c .before .before .before .before .before .before .number3 .ensures .0) in (
       c .pushed .ensures ∙ at-fork-path _ _ _ _ (c .before .before .if2 .left) (c .before .if3 .left) ∙ settled-as _ _ _ _ (a .made) _ _ _ _ _ e f g (c .before .before .before .before .before .entered .ensures) (c .before .before .before .before .line-at .ensures .0),
-      forking-step (a .t .now) (a .m .now) (a .k) (a .p) (a .made .routine) (a .made .head) (a .made .left) (c .before .before .before .before .before .before .before .before .before .before .before .before .before .before .before .pre .2) (c .before .before .before .before .before .before .before .before .before .before .before .before .before .before .before .pre .3) (c .before .before .before .before .before .before .before .before .before .before .before .before .before .before .before .pre .4) (c .before .before .before .before .before .before .before .before .before .before .before .before .before .before .before .pre .5) (c .before .before .before .before .before .before .before .before .before .before .before .before .before .before .before .pre .6)
+      forking-step (a .t .now) (a .m .now) (a .k) (a .p) (a .made .routine) (a .made .head) (a .made .left)
+          (o .pre .2) (o .pre .3) (o .pre .4) (o .pre .5) (o .pre .6)
           _ (entered-fields _ _ _ _ _ _ _ _ e f (c .before .before .before .before .before .entered .ensures)) _ _ _ (pushed-fields _ _ _ _ _ _ e (c .pushed .ensures)) (rw e at (c .before .if3 .left)) _ (c .before .before .if2 .left) (rw g at (c .before .before .before .before .line-at .ensures .1)),
     )
 

@@ -42,6 +42,6 @@ pub fn begin_instant(
     queue_waiting(m, dues);
     fill_rows(t, m);
     list_sleepers(m, t);
-    let due = make_due_at(m, ready::empty(), n, present.0, dues);
+    let due = make_due_at(m, ready::empty(), n, present, dues);
     write_inputs(m, due, numbers, values)
 }

@@ -42,9 +42,9 @@ fn same_states(table: &[u32], a: &[u32], b: &[u32]) -> bool
     ensures { λ r. ⌜ r ≡ walk.alike (stateOf (tableListing (firstWords (now (table .entry)))) (firstWords (now (a .entry))))
         (stateOf (tableListing (firstWords (now (table .entry)))) (firstWords (now (b .entry)))) ⌝ }
 {
-    let first = machine_words::moment_at(a, 1);
-    let second = machine_words::moment_at(b, 1);
-    if first != second {
+    let first = machine_words::present_moment(a);
+    let second = machine_words::present_moment(b);
+    if first.0 != second.0 {
         return false;
     }
     let size = environment_size(table);

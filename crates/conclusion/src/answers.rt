@@ -1,6 +1,6 @@
 // The answer of a start or an instant call.
 
-// "the next moment due or none"
+// "the next moment due or none": a figure of the result, which the caller reads as a number.
 pub enum Due {
     Never,
     At(u64),

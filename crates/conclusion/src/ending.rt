@@ -11,35 +11,36 @@ use crate::answers::Due;
 use crate::answers::Figures;
 use machine_words::number;
 use run::Ran;
+use words::Moment;
 
 // A moment due is at least 1, so 0 means none.
-fn due_at(t: u64) -> Due
-    ensures { λ r. ⌜ dueOf r ≡ dueAt t ⌝ }
+fn due_at(soonest: u64) -> Due
+    ensures { λ r. ⌜ dueOf r ≡ dueAt soonest ⌝ }
 {
-    if t == 0 {
+    if soonest == 0 {
         return Due::Never;
     }
-    Due::At(t)
+    Due::At(soonest)
 }
 
-// The instant at t has ended, after so many steps.
+// The instant at the present moment has ended, after so many steps.
 fn finished(
     table: &[u32],
     machine: &mut [u32],
-    t: u64,
+    present: Moment,
     steps: u32,
     numbers: &mut [u32],
     values: &mut [u32],
 ) -> Answer
-    requires { ⌜ (length (now table) ≡ 12288) × (MayFinish (now table) (now machine) t) × (16 ≤ length (now numbers)) × (16 ≤ length (now values)) ⌝ }
-    ensures { λ r. ⌜ ((may : MayFinish (now (table .entry)) (now (machine .entry)) t) →
+    requires { ⌜ (length (now table) ≡ 12288) × (MayFinish (now table) (now machine) (present .0)) × (16 ≤ length (now numbers)) × (16 ≤ length (now values)) ⌝ }
+    ensures { λ r. ⌜ ((may : MayFinish (now (table .entry)) (now (machine .entry)) (present .0)) →
         FinishedAs (now (table .entry)) (now (machine .entry)) (now (numbers .entry)) (now (values .entry))
         (now (machine .exit)) (now (numbers .exit)) (now (values .exit)) steps (may .state) r) ⌝ }
 {
     let inputs = number(table[0]);
     let outputs = number(table[1]);
     let listed = instants::list_outputs(machine, inputs, outputs, numbers, values);
-    let soonest = finishing::finish(machine, t, inputs + outputs);
+    let soonest = finishing::finish(machine, present, inputs + outputs);
     let due = due_at(soonest);
     Answer::Done(Figures {
         steps,
@@ -48,18 +49,18 @@ fn finished(
     })
 }
 
-// The run of the instant at t has ended or stopped.
+// The run of the instant at the present moment has ended or stopped.
 pub fn conclude(
     table: &[u32],
     machine: &mut [u32],
-    t: u64,
+    present: Moment,
     allowance: u32,
     ran: Ran,
     numbers: &mut [u32],
     values: &mut [u32],
 ) -> Answer
-    requires { ⌜ (length (now table) ≡ 12288) × (MayConclude (now table) (now machine) t allowance ran) × (16 ≤ length (now numbers)) × (16 ≤ length (now values)) ⌝ }
-    ensures { λ r. ⌜ ((may : MayConclude (now (table .entry)) (now (machine .entry)) t allowance ran) →
+    requires { ⌜ (length (now table) ≡ 12288) × (MayConclude (now table) (now machine) (present .0) allowance ran) × (16 ≤ length (now numbers)) × (16 ≤ length (now values)) ⌝ }
+    ensures { λ r. ⌜ ((may : MayConclude (now (table .entry)) (now (machine .entry)) (present .0) allowance ran) →
         Concludes (tableListing (now (table .entry))) (now (machine .entry)) (now (numbers .entry)) (now (values .entry))
         (now (machine .exit)) (now (numbers .exit)) (now (values .exit)) (may .answer) r) ⌝ }
 {
@@ -70,7 +71,7 @@ pub fn conclude(
         }
         Ran::Ended(x) => {
             let left = x.left;
-            return finished(table, machine, t, allowance - left, numbers, values);
+            return finished(table, machine, present, allowance - left, numbers, values);
         }
     }
 }

@@ -15,11 +15,11 @@ use conclusion::conclude;
 use questions::instant_question;
 use words::Moment;
 
-// The instant at t on a table's 12,288 words, its questions answered; the soonest moment due of each block is known.
+// The instant at the present moment on a table's 12,288 words, its questions answered; the soonest moment due of each block is known.
 fn instant_work(
     table: &[u32],
     machine: &mut [u32],
-    t: u64,
+    present: Moment,
     dues: &[u64; 65],
     in_numbers: &[u32],
     in_values: &[u32],
@@ -27,32 +27,31 @@ fn instant_work(
     values: &mut [u32],
     allowance: u32,
 ) -> Answer
-    requires { ⌜ (length (now table) ≡ 12288) × (MayInstant (now table) (now machine) t (now dues) (now «in_numbers») (now «in_values») allowance)
+    requires { ⌜ (length (now table) ≡ 12288) × (MayInstant (now table) (now machine) (present .0) (now dues) (now «in_numbers») (now «in_values») allowance)
         × (16 ≤ length (now numbers)) × (16 ≤ length (now values)) ⌝ }
-    ensures { λ r. ⌜ ((may : MayInstant (now (table .entry)) (now (machine .entry)) t (now (dues .entry)) (now («in_numbers» .entry)) (now («in_values» .entry)) allowance) →
+    ensures { λ r. ⌜ ((may : MayInstant (now (table .entry)) (now (machine .entry)) (present .0) (now (dues .entry)) (now («in_numbers» .entry)) (now («in_values» .entry)) allowance) →
         Concludes (tableListing (now (table .entry))) (now (machine .entry)) (now (numbers .entry)) (now (values .entry))
         (now (machine .exit)) (now (numbers .exit)) (now (values .exit))
-        (walk.instant (tableListing (now (table .entry))) (may .state) t (inputsOf (now («in_numbers» .entry)) (now («in_values» .entry))) allowance) r) ⌝ }
+        (walk.instant (tableListing (now (table .entry))) (may .state) (present .0) (inputsOf (now («in_numbers» .entry)) (now («in_values» .entry))) allowance) r) ⌝ }
 {
-    let present = Moment(t);
     let live = machine[3];
     let ready = beginning::begin_instant(table, machine, present, dues, in_numbers, in_values);
     let ran = run::run_ready(table, machine, present, ready, live, allowance);
-    conclude(table, machine, t, allowance, ran, numbers, values)
+    conclude(table, machine, present, allowance, ran, numbers, values)
 }
 
-// An instant at t, with inputs by number and value.
+// An instant at a moment, with inputs by number and value.
 pub fn instant(
     table: &[u32],
     machine: &mut [u32],
-    t: u64,
+    moment: Moment,
     in_numbers: &[u32],
     in_values: &[u32],
     out_numbers: &mut [u32],
     out_values: &mut [u32],
     allowance: u32,
 ) -> Answer
-    ensures { λ r. ⌜ InstantPromise layout (now (table .entry)) (now (machine .entry)) t (now («in_numbers» .entry)) (now («in_values» .entry))
+    ensures { λ r. ⌜ InstantPromise layout (now (table .entry)) (now (machine .entry)) (moment .0) (now («in_numbers» .entry)) (now («in_values» .entry))
         (now («out_numbers» .entry)) (now («out_values» .entry)) allowance
         (now (machine .exit)) (now («out_numbers» .exit)) (now («out_values» .exit)) (resultOf r) ⌝ }
 {
@@ -60,7 +59,7 @@ pub fn instant(
     let refusal = instant_question(
         table,
         machine,
-        t,
+        moment,
         in_numbers,
         in_values,
         out_numbers,
@@ -74,7 +73,7 @@ pub fn instant(
     instant_work(
         &table[0..12288],
         machine,
-        t,
+        moment,
         &dues,
         in_numbers,
         in_values,

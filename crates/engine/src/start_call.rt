@@ -15,7 +15,7 @@ use conclusion::conclude;
 use questions::start_question;
 use words::Moment;
 
-// The start on a table's 12,288 words, its questions answered.
+// The start on a table's 12,288 words, its questions answered: the instant 0.
 fn start_work(
     table: &[u32],
     machine: &mut [u32],
@@ -28,9 +28,10 @@ fn start_work(
     ensures { λ r. ⌜ Concludes (tableListing (now (table .entry))) (now (machine .entry)) (now (numbers .entry)) (now (values .entry))
         (now (machine .exit)) (now (numbers .exit)) (now (values .exit)) (walk.start (tableListing (now (table .entry))) allowance) r ⌝ }
 {
+    let present = Moment(0);
     let running = beginning::begin_start(table, machine);
-    let ran = run::run_on(table, machine, Moment(0), running, allowance);
-    conclude(table, machine, 0, allowance, ran, numbers, values)
+    let ran = run::run_on(table, machine, present, running, allowance);
+    conclude(table, machine, present, allowance, ran, numbers, values)
 }
 
 // "The start is the instant 0, with main newly called and no inputs."

@@ -7,6 +7,7 @@ use comparison::Comparison;
 use engine::Answer;
 use engine::Due;
 use engine::Figures;
+use words::Moment;
 
 // Number, place, steps used, output writes listed; 1 and the next moment due, or 0 and 0 for none.
 #[repr(C)]
@@ -92,6 +93,7 @@ pub extern "C" fn fabrwent_start(
     figures_of(engine::start(table, machine, out_numbers, out_values, allowance))
 }
 
+// Here, at the boundary, a number is made a moment.
 #[no_mangle]
 pub extern "C" fn fabrwent_instant(
     table: &[u32],
@@ -110,7 +112,7 @@ pub extern "C" fn fabrwent_instant(
     figures_of(engine::instant(
         table,
         machine,
-        t,
+        Moment(t),
         in_numbers,
         in_values,
         out_numbers,

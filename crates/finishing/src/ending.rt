@@ -13,25 +13,26 @@ use crate::places::clear_header;
 use crate::places::set_places;
 use crate::working::clear_working;
 use machine_words::due::sooner_of_variables;
+use words::Moment;
 
 // 2 to the 32: a moment's low word counts to here.
 const SIZE: u64 = 4294967296;
 
 // The present moment and the number of live routines.
-fn store_header(m: &mut [u32], t: u64, count: u32)
+fn store_header(m: &mut [u32], present: Moment, count: u32)
     requires { ⌜ 12288 ≤ length (now m) ⌝ }
-    ensures { λ _. ⌜ now (m .exit) ≡ stored (now (m .entry)) (t % 4294967296) (t / 4294967296) count ⌝ }
+    ensures { λ _. ⌜ now (m .exit) ≡ stored (now (m .entry)) (present .0 % 4294967296) (present .0 / 4294967296) count ⌝ }
 {
-    m[1] = (t % SIZE) as u32;
-    m[2] = (t / SIZE) as u32;
+    m[1] = (present.0 % SIZE) as u32;
+    m[2] = (present.0 / SIZE) as u32;
     m[3] = count;
 }
 
-// At moment t: header, order list and places written, working words cleared. Gives the next moment due (0: none), over the `size` environment
+// At the present moment: header, order list and places written, working words cleared. Gives the next moment due (0: none), over the `size` environment
 // variables and the slots, which the pass that makes the order list finds: it looks at those blocks in which a waiting write may stand.
-pub fn finish(m: &mut [u32], t: u64, size: usize) -> u64
+pub fn finish(m: &mut [u32], present: Moment, size: usize) -> u64
     requires { ⌜ (12288 ≤ length (now m)) × (size ≤ 16) × (Tidy size (now m)) ⌝ }
-    ensures { λ r. ⌜ (Ended t (walkingOrder (rowsOf (now (m .entry)))) (now (m .entry)) (now (m .exit)))
+    ensures { λ r. ⌜ (Ended (present .0) (walkingOrder (rowsOf (now (m .entry)))) (now (m .entry)) (now (m .exit)))
         × (dueAt r ≡ nextDueOfRows (rowsOf (now (m .entry))) (environmentOf size (now (m .entry)))) ⌝ }
 {
     clear_header(m);
@@ -40,6 +41,6 @@ pub fn finish(m: &mut [u32], t: u64, size: usize) -> u64
     let count = ordered.count;
     set_places(m, count);
     clear_working(m);
-    store_header(m, t, count as u32);
+    store_header(m, present, count as u32);
     ordered.soonest
 }

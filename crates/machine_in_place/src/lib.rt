@@ -4,9 +4,10 @@
 use machine_words::Test;
 use machine_words::block_rests;
 use machine_words::due::sooner;
-use machine_words::moment_at;
 use machine_words::number;
+use machine_words::present_moment;
 use machine_words::zero_from;
+use words::Moment;
 ghost use mathlib.Core.Path.{_≡_};
 ghost use Prim.Native.Nat.{_≤_, _<_};
 ghost use lib.ListN.{length, getD};
@@ -18,9 +19,9 @@ ghost use Rattle.walk.specs.Instant.{earlier};
 ghost use Rattle.machine_words.specs.Tests.{testOf, tested, slotDue, slotsDue, blocksDue, SlotDues, Dues};
 
 // Is slot s free and all 0, or does the order list of n routines lead back to it?
-fn slot_holds(m: &[u32], n: usize, s: usize, present: u64) -> Test
+fn slot_holds(m: &[u32], n: usize, s: usize, present: Moment) -> Test
     requires { ⌜ (length (now m) ≡ 12288) × (s < 64) × (n ≤ 64) ⌝ }
-    ensures { λ r. ⌜ testOf r ≡ tested (slotHolds n present (now (m .entry)) s) (slotDue (now (m .entry)) s) ⌝ }
+    ensures { λ r. ⌜ testOf r ≡ tested (slotHolds n (present .0) (now (m .entry)) s) (slotDue (now (m .entry)) s) ⌝ }
 {
     let at = 328 + s * 184;
     let p = number(m[at]);
@@ -43,12 +44,12 @@ fn slot_holds(m: &[u32], n: usize, s: usize, present: u64) -> Test
     block_rests(m, at, k, present)
 }
 
-// All slots, with the sooner of a moment and theirs; the soonest of each is kept.
-fn slots_hold(m: &[u32], n: usize, present: u64, soonest: u64, dues: &mut [u64; 65]) -> Test
+// All slots, with the sooner of a moment due (0: none) and theirs; the soonest of each is kept.
+fn slots_hold(m: &[u32], n: usize, present: Moment, soonest: u64, dues: &mut [u64; 65]) -> Test
     requires { ⌜ (length (now m) ≡ 12288) × (n ≤ 64) × (length (now dues) ≡ 65) ⌝ }
-    ensures { λ r. ⌜ (testOf r ≡ tested (slotsHold n present (now (m .entry)) 64) (earlier (dueAt soonest) (slotsDue (now (m .entry)) 64)))
+    ensures { λ r. ⌜ (testOf r ≡ tested (slotsHold n (present .0) (now (m .entry)) 64) (earlier (dueAt soonest) (slotsDue (now (m .entry)) 64)))
         × (length (now (dues .exit)) ≡ 65)
-        × (slotsHold n present (now (m .entry)) 64 ≡ true → SlotDues 0 (now (m .entry)) (now (dues .entry)) (now (dues .exit))) ⌝ }
+        × (slotsHold n (present .0) (now (m .entry)) 64 ≡ true → SlotDues 0 (now (m .entry)) (now (dues .entry)) (now (dues .exit))) ⌝ }
 {
     let mut found = soonest;
     let mut s: usize = 64;
@@ -115,7 +116,7 @@ fn blocks_in_place(m: &[u32], n: usize, size: usize, dues: &mut [u64; 65]) -> Te
         × (length (now (dues .exit)) ≡ 65)
         × (blocksInPlace size (now (m .entry)) ≡ true → Dues size (now (m .entry)) (now (dues .exit))) ⌝ }
 {
-    let present = moment_at(m, 1);
+    let present = present_moment(m);
     if !zero_from(m, 12104, 8) {
         return Test::Fails;
     }

@@ -1,4 +1,4 @@
-// The soonest moment due. A moment due is at least 1, so 0 stands for none.
+// The soonest moment due. A moment due is at least 1, so 0 stands for none: a number that can mean none is bare, and no `Moment`.
 
 use crate::moment_at;
 ghost use mathlib.Core.Path.{_≡_};

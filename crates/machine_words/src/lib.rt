@@ -4,6 +4,7 @@
 pub mod due;
 
 use due::sooner;
+use words::Moment;
 ghost use mathlib.Core.Path.{_≡_};
 ghost use Prim.Native.Nat.{_+_, _*_, _<_, _≤_};
 ghost use lib.ListN.{length};
@@ -34,22 +35,22 @@ pub fn number(x: u32) -> usize
     x as usize
 }
 
-// The moment in the two words from `at` on, the low half first.
-pub fn moment_at(m: &[u32], at: usize) -> u64
+// The moment in the two words from `at` on, the low half first: bare, since 0 stands for none in a variable's words.
+fn moment_at(m: &[u32], at: usize) -> u64
     requires { ⌜ at + 1 < length (now m) ⌝ }
-    ensures { λ t. ⌜ t ≡ momentAt (now (m .entry)) at ⌝ }
+    ensures { λ r. ⌜ r ≡ momentAt (now (m .entry)) at ⌝ }
 {
     let low = wide(m[at]);
     let high = wide(m[at + 1]);
     low + high * 4294967296
 }
 
-// The present moment.
-pub fn present_moment(m: &[u32]) -> u64
-    requires { ⌜ length (now m) ≡ 12288 ⌝ }
-    ensures { λ t. ⌜ t ≡ momentAt (now (m .entry)) 1 ⌝ }
+// The present moment, of words 1 and 2. No other function makes a moment of the machine's words.
+pub fn present_moment(m: &[u32]) -> Moment
+    requires { ⌜ 2 < length (now m) ⌝ }
+    ensures { λ r. ⌜ r .0 ≡ momentAt (now (m .entry)) 1 ⌝ }
 {
-    moment_at(m, 1)
+    Moment(moment_at(m, 1))
 }
 
 // Are the k words from `at` on 0? It goes on to the last one, since the compiler then takes several at a time.
@@ -69,19 +70,19 @@ pub fn zero_from(m: &[u32], at: usize, k: usize) -> bool
 }
 
 // Is a waiting write due after the present moment, or is there none and its value 0?
-fn due_later(due: u64, value: u32, present: u64) -> bool
-    ensures { λ b. ⌜ b ≡ cond (eqb due 0) (eqb value 0) (ltb present due) ⌝ }
+fn due_later(due: u64, value: u32, present: Moment) -> bool
+    ensures { λ b. ⌜ b ≡ cond (eqb due 0) (eqb value 0) (ltb (present .0) due) ⌝ }
 {
     if due == 0 {
         return value == 0;
     }
-    present < due
+    present.0 < due
 }
 
 // Is the variable at `at` as an instant leaves it?
-fn variable_rests(m: &[u32], at: usize, present: u64) -> bool
+fn variable_rests(m: &[u32], at: usize, present: Moment) -> bool
     requires { ⌜ at + 6 ≤ length (now m) ⌝ }
-    ensures { λ b. ⌜ b ≡ variableRests present (now (m .entry)) at ⌝ }
+    ensures { λ b. ⌜ b ≡ variableRests (present .0) (now (m .entry)) at ⌝ }
 {
     let due = moment_at(m, at + 2);
     if !due_later(due, m[at + 1], present) {
@@ -91,9 +92,9 @@ fn variable_rests(m: &[u32], at: usize, present: u64) -> bool
 }
 
 // Are the k variables from `at` on as an instant leaves them? With the soonest moment that they are due at.
-fn variables_rest(m: &[u32], at: usize, k: usize, present: u64) -> Test
+fn variables_rest(m: &[u32], at: usize, k: usize, present: Moment) -> Test
     requires { ⌜ (k ≤ 16) × (at + k * 6 ≤ length (now m)) ⌝ }
-    ensures { λ r. ⌜ testOf r ≡ tested (variablesRest present (now (m .entry)) at k) (dueOfVariables (variablesIn (now (m .entry)) at k)) ⌝ }
+    ensures { λ r. ⌜ testOf r ≡ tested (variablesRest (present .0) (now (m .entry)) at k) (dueOfVariables (variablesIn (now (m .entry)) at k)) ⌝ }
 {
     let mut found: u64 = 0;
     let mut i: usize = 0;
@@ -110,9 +111,9 @@ fn variables_rest(m: &[u32], at: usize, k: usize, present: u64) -> Test
 }
 
 // Has the block at `at` k variables at rest, and only zeros after them?
-pub fn block_rests(m: &[u32], at: usize, k: usize, present: u64) -> Test
+pub fn block_rests(m: &[u32], at: usize, k: usize, present: Moment) -> Test
     requires { ⌜ at + 184 ≤ length (now m) ⌝ }
-    ensures { λ r. ⌜ testOf r ≡ tested (blockRests present (now (m .entry)) at k) (dueOfVariables (variablesIn (now (m .entry)) (at + 8) k)) ⌝ }
+    ensures { λ r. ⌜ testOf r ≡ tested (blockRests (present .0) (now (m .entry)) at k) (dueOfVariables (variablesIn (now (m .entry)) (at + 8) k)) ⌝ }
 {
     if 16 < k {
         return Test::Fails;

@@ -10,11 +10,12 @@ use engine::instant;
 use engine::start;
 use printing::put_end_line;
 use printing::put_write_lines;
+use words::Moment;
 
 // "allowance 10,000"
 const ALLOWANCE: u32 = 10000;
 
-// What the last call's result gave: the present moment, and the next moment due.
+// What the last call's result gave: the present moment, and the next moment due. The session's moments are the trace's numbers.
 pub struct Clock {
     pub now: u64,
     pub due: Due,
@@ -58,14 +59,14 @@ fn tell(answer: Answer) -> Told
     }
 }
 
-// The next moment due if it is before t.
-pub fn due_before(due: Due, t: u64) -> Due
-    ensures { λ r. ⌜ Soon (dueOf due) t r ⌝ }
+// The next moment due if it is before a time.
+pub fn due_before(due: Due, time: u64) -> Due
+    ensures { λ r. ⌜ Soon (dueOf due) time r ⌝ }
 {
     match due {
         Due::Never => Due::Never,
         Due::At(m) => {
-            if m < t {
+            if m < time {
                 return Due::At(m);
             }
             Due::Never
@@ -73,14 +74,14 @@ pub fn due_before(due: Due, t: u64) -> Due
     }
 }
 
-// The next moment due if it is not after t.
-pub fn due_until(due: Due, t: u64) -> Due
-    ensures { λ r. ⌜ Soon (dueOf due) (suc t) r ⌝ }
+// The next moment due if it is not after a time.
+pub fn due_until(due: Due, time: u64) -> Due
+    ensures { λ r. ⌜ Soon (dueOf due) (suc time) r ⌝ }
 {
     match due {
         Due::Never => Due::Never,
         Due::At(m) => {
-            if m <= t {
+            if m <= time {
                 return Due::At(m);
             }
             Due::Never
@@ -88,17 +89,17 @@ pub fn due_until(due: Due, t: u64) -> Due
     }
 }
 
-// The answer to a call at t, after the present moment.
+// The answer to a call at a time, after the present moment.
 pub fn print_answer(
     answer: Answer,
     present: u64,
-    t: u64,
+    time: u64,
     numbers: &[u32],
     values: &[u32],
     out: &mut [u8],
 ) -> Made
     requires { ⌜ (16 ≤ length (now numbers)) × (16 ≤ length (now values)) × (1100 ≤ length (now out)) × (resultOf answer .listed ≤ 16) ⌝ }
-    ensures { λ r. ⌜ ResultPrinted (resultOf answer) present t (now (numbers .entry)) (now (values .entry)) (now (out .entry)) (now (out .exit)) r ⌝ }
+    ensures { λ r. ⌜ ResultPrinted (resultOf answer) present time (now (numbers .entry)) (now (values .entry)) (now (out .entry)) (now (out .exit)) r ⌝ }
 {
     let result = tell(answer);
     let number = result.number;
@@ -107,9 +108,9 @@ pub fn print_answer(
         return Made::Ended(n);
     }
     let count = result.listed as usize;
-    let n = put_write_lines(out, 0, t, numbers, values, count);
+    let n = put_write_lines(out, 0, time, numbers, values, count);
     let due = result.due;
-    Made::Went(Clock { now: t, due }, n)
+    Made::Went(Clock { now: time, due }, n)
 }
 
 // The start.
@@ -128,12 +129,12 @@ pub fn make_start(
     print_answer(answer, 0, 0, out_numbers, out_values, out)
 }
 
-// The instant at t with so many of these inputs, after the present moment.
+// The instant at a time with so many of these inputs, after the present moment. Here, at the session's boundary, a number is made a moment.
 pub fn make_instant(
     table: &[u32],
     machine: &mut [u32],
     present: u64,
-    t: u64,
+    time: u64,
     numbers: &[u32],
     values: &[u32],
     count: usize,
@@ -143,19 +144,19 @@ pub fn make_instant(
 ) -> Made
     requires { ⌜ (12288 ≤ length (now table)) × (12288 ≤ length (now machine)) × (count ≤ length (now numbers)) × (count ≤ length (now values))
         × (length (now «out_numbers») ≡ 16) × (length (now «out_values») ≡ 16) × (1100 ≤ length (now out)) ⌝ }
-    ensures { λ r. ⌜ InstantMade present t (take count (now (numbers .entry))) (take count (now (values .entry)))
+    ensures { λ r. ⌜ InstantMade present time (take count (now (numbers .entry))) (take count (now (values .entry)))
         (now (table .entry)) (now (machine .entry)) (now («out_numbers» .entry)) (now («out_values» .entry)) (now (out .entry))
         (now (machine .exit)) (now («out_numbers» .exit)) (now («out_values» .exit)) (now (out .exit)) r ⌝ }
 {
     let answer = instant(
         table,
         machine,
-        t,
+        Moment(time),
         &numbers[..count],
         &values[..count],
         out_numbers,
         out_values,
         ALLOWANCE,
     );
-    print_answer(answer, present, t, out_numbers, out_values, out)
+    print_answer(answer, present, time, out_numbers, out_values, out)
 }

@@ -14,6 +14,7 @@ ghost use Rattle.machine.specs.ReadMachine.{readMachine};
 ghost use Rattle.questions.specs.Asked.{machineRefusal, longEnough, numbersRise, asked, MachineAsked, InstantAsked, StartAsked};
 use machine_words::number;
 use question7::MachineCheck;
+use words::Moment;
 
 // "Table 12,288 words of 32 bits, machine 12,288, output lists 16 each"
 pub const MEMORY: usize = 12288;
@@ -60,14 +61,14 @@ fn long_enough(table: usize, machine: usize, numbers: usize, values: usize) -> b
     values >= OUTPUTS
 }
 
-// 10 "Is nothing due before t?": whether something is, by the next moment due (0: none).
-fn due_before(soonest: u64, t: u64) -> bool
-    ensures { λ r. ⌜ r ≡ dueBefore (dueAt soonest) t ⌝ }
+// 10 "Is nothing due before t?", t being the call's moment: whether something is, by the next moment due (0: none).
+fn due_before(soonest: u64, moment: Moment) -> bool
+    ensures { λ r. ⌜ r ≡ dueBefore (dueAt soonest) (moment .0) ⌝ }
 {
     if soonest == 0 {
         return false;
     }
-    soonest < t
+    soonest < moment.0
 }
 
 // 11 "Are the input numbers below i and strictly rising?"
@@ -100,25 +101,25 @@ fn allowance_fits(allowance: u32) -> bool
     allowance <= 1000000
 }
 
-// 9 to 12, of the 12,288 words of a running machine and its next moment due.
+// 9 to 12, of the 12,288 words of a running machine and its next moment due (0: none).
 fn state_question(
     machine: &[u32],
     soonest: u64,
     inputs: usize,
-    t: u64,
+    moment: Moment,
     numbers: &[u32],
     allowance: u32,
 ) -> u32
     requires { ⌜ length (now machine) ≡ 12288 ⌝ }
-    ensures { λ r. ⌜ ((next : Outcome) → asked r next ≡ ask 9 (ltb (momentAt (now (machine .entry)) 1) t)
-        (ask 10 (not (dueBefore (dueAt soonest) t))
+    ensures { λ r. ⌜ ((next : Outcome) → asked r next ≡ ask 9 (ltb (momentAt (now (machine .entry)) 1) (moment .0))
+        (ask 10 (not (dueBefore (dueAt soonest) (moment .0)))
         (ask 11 (numbersRise inputs 0 (now (numbers .entry))) (ask 12 (allowed allowance) next)))) ⌝ }
 {
     let present = machine_words::present_moment(machine);
-    if t <= present {
+    if moment.0 <= present.0 {
         return 9;
     }
-    if due_before(soonest, t) {
+    if due_before(soonest, moment) {
         return 10;
     }
     if !numbers_rise(numbers, inputs) {
@@ -134,13 +135,13 @@ fn state_question(
 fn machine_question(
     table: &[u32],
     machine: &[u32],
-    t: u64,
+    moment: Moment,
     numbers: &[u32],
     allowance: u32,
     dues: &mut [u64; 65],
 ) -> u32
     requires { ⌜ (12288 ≤ length (now table)) × (12288 ≤ length (now machine)) × (isTable (firstWords (now table)) ≡ true) × (length (now dues) ≡ 65) ⌝ }
-    ensures { λ r. ⌜ MachineAsked (tableListing (firstWords (now (table .entry)))) (firstWords (now (machine .entry))) t (now (numbers .entry)) allowance
+    ensures { λ r. ⌜ MachineAsked (tableListing (firstWords (now (table .entry)))) (firstWords (now (machine .entry))) (moment .0) (now (numbers .entry)) allowance
         (now (dues .exit)) r ⌝ }
 {
     let check = question7::check_machine(table, machine, dues);
@@ -153,7 +154,14 @@ fn machine_question(
         }
         MachineCheck::Running(soonest) => {
             let inputs = number(table[0]);
-            state_question(&machine[0..12288], soonest, inputs, t, numbers, allowance)
+            state_question(
+                &machine[0..12288],
+                soonest,
+                inputs,
+                moment,
+                numbers,
+                allowance,
+            )
         }
     }
 }
@@ -162,7 +170,7 @@ fn machine_question(
 pub fn instant_question(
     table: &[u32],
     machine: &[u32],
-    t: u64,
+    moment: Moment,
     in_numbers: &[u32],
     in_values: &[u32],
     out_numbers: &[u32],
@@ -171,7 +179,7 @@ pub fn instant_question(
     dues: &mut [u64; 65],
 ) -> u32
     requires { ⌜ length (now dues) ≡ 65 ⌝ }
-    ensures { λ r. ⌜ InstantAsked (now (table .entry)) (now (machine .entry)) t (now («in_numbers» .entry)) (now («in_values» .entry))
+    ensures { λ r. ⌜ InstantAsked (now (table .entry)) (now (machine .entry)) (moment .0) (now («in_numbers» .entry)) (now («in_values» .entry))
         (now («out_numbers» .entry)) (now («out_values» .entry)) allowance (now (dues .exit)) r ⌝ }
 {
     if !long_enough(
@@ -188,7 +196,7 @@ pub fn instant_question(
     if !table_check::is_table(table) {
         return 6;
     }
-    machine_question(table, machine, t, in_numbers, allowance, dues)
+    machine_question(table, machine, moment, in_numbers, allowance, dues)
 }
 
 // All questions of the start: 1, 6, 12.

@@ -52,9 +52,9 @@ pub fn assign_step(
 
 // The waiting write put on the name's variable, and the next instruction. Word 7 of the variable's block is 1 from then on: the event queue
 // looks for the next moment due in just those blocks where it is.
-fn schedule_at(m: &mut [u32], running: Running, name: usize, moment: u64, value: u32) -> Stepped
-    requires { ⌜ (MayChange (now m) running name) × (0 < moment) ⌝ }
-    ensures { λ r. ⌜ ChangesName (now (m .entry)) (now (m .exit)) running name (λ x. scheduled x moment value) r ⌝ }
+fn schedule_at(m: &mut [u32], running: Running, name: usize, moment: Moment, value: u32) -> Stepped
+    requires { ⌜ (MayChange (now m) running name) × (0 < moment .0) ⌝ }
+    ensures { λ r. ⌜ ChangesName (now (m .entry)) (now (m .exit)) running name (λ x. scheduled x (moment .0) value) r ⌝ }
 {
     let me = running.me;
     let binding = variables::owner(m, me, name);
@@ -97,10 +97,7 @@ pub fn schedule_step(
         };
     }
     match words::later_moment(present, Delay(delay)) {
-        Later::At(moment) => {
-            let due = moment.0;
-            schedule_at(m, running, name, due, value)
-        }
+        Later::At(moment) => schedule_at(m, running, name, moment, value),
         Later::TooLate => Stepped {
             answer: Answer::Halts(17),
             running,

@@ -11,6 +11,7 @@ ghost use Rattle.blocks.specs.Changes.{InBlock, Changes, madeBlock, assignedBlo
 ghost use Rattle.variables.specs.Bindings.{ReadOf, BoundTo};
 use blocks::put_word;
 use blocks::word_at;
+use words::Moment;
 
 // 2 to the 32: a moment's low word counts to here.
 const SIZE: u64 = 4294967296;
@@ -51,7 +52,7 @@ pub fn written(m: &[u32], s: usize, index: usize) -> bool
     word_at(m, s, 128 + index) != 0
 }
 
-// The moment of its waiting write, 0 without one.
+// The moment of its waiting write, 0 without one: a bare number, since it can mean none.
 pub fn due(m: &[u32], s: usize, index: usize) -> u64
     requires { ⌜ (12288 ≤ length (now m)) × (s ≤ 64) × (index < 16) ⌝ }
     ensures { λ r. ⌜ ReadOf (now (m .entry)) s index (λ x. waitingMoment (x .waiting)) r ⌝ }
@@ -70,14 +71,15 @@ pub fn assign(m: &mut [u32], s: usize, index: usize, v: u32)
     put_word(m, s, 128 + index, 1);
 }
 
-// A waiting write of v due at t; it replaces the old one.
-pub fn schedule(m: &mut [u32], s: usize, index: usize, t: u64, v: u32)
-    requires { ⌜ (12288 ≤ length (now m)) × (s ≤ 64) × (index < 16) × (0 < t) ⌝ }
-    ensures { λ _. ⌜ Changes s (now (m .entry)) (now (m .exit)) (scheduledBlock index t v (block (now (m .entry)) s)) (withVariable (ownerAt s index) (λ x. scheduled x t v)) ⌝ }
+// A waiting write of v due at a moment; it replaces the old one.
+pub fn schedule(m: &mut [u32], s: usize, index: usize, moment: Moment, v: u32)
+    requires { ⌜ (12288 ≤ length (now m)) × (s ≤ 64) × (index < 16) × (0 < moment .0) ⌝ }
+    ensures { λ _. ⌜ Changes s (now (m .entry)) (now (m .exit)) (scheduledBlock index (moment .0) v (block (now (m .entry)) s))
+        (withVariable (ownerAt s index) (λ x. scheduled x (moment .0) v)) ⌝ }
 {
     put_word(m, s, 9 + index * 6, v);
-    put_word(m, s, 10 + index * 6, (t % SIZE) as u32);
-    put_word(m, s, 11 + index * 6, (t / SIZE) as u32);
+    put_word(m, s, 10 + index * 6, (moment.0 % SIZE) as u32);
+    put_word(m, s, 11 + index * 6, (moment.0 / SIZE) as u32);
 }
 
 // The waiting write is made, and is gone.
@@ -93,12 +95,13 @@ fn make(m: &mut [u32], s: usize, index: usize)
     put_word(m, s, 128 + index, 1);
 }
 
-// "Every waiting write due at t is made, and is gone": that of one variable, which is unwritten otherwise.
-pub fn make_due(m: &mut [u32], s: usize, index: usize, t: u64)
-    requires { ⌜ (12288 ≤ length (now m)) × (s ≤ 64) × (index < 16) × (0 < t) ⌝ }
-    ensures { λ _. ⌜ Changes s (now (m .entry)) (now (m .exit)) (dueBlock index t (block (now (m .entry)) s)) (withVariable (ownerAt s index) (λ x. dueVariable t x)) ⌝ }
+// "Every waiting write due at t is made, and is gone", t being the present moment: that of one variable, which is unwritten otherwise.
+pub fn make_due(m: &mut [u32], s: usize, index: usize, present: Moment)
+    requires { ⌜ (12288 ≤ length (now m)) × (s ≤ 64) × (index < 16) × (0 < present .0) ⌝ }
+    ensures { λ _. ⌜ Changes s (now (m .entry)) (now (m .exit)) (dueBlock index (present .0) (block (now (m .entry)) s))
+        (withVariable (ownerAt s index) (λ x. dueVariable (present .0) x)) ⌝ }
 {
-    if due(m, s, index) == t {
+    if due(m, s, index) == present.0 {
         make(m, s, index);
         return;
     }

@@ -11,8 +11,8 @@ use borrow.Author.Needs.{needs}
 use Rattle.machine_in_place.proofs.blocks_in_place.Statement.{statement}
 use Rattle.machine_in_place.proofs.blocks_in_place.Tie as tie
 
-moment-at-requires : tie.Need-moment-at-requires
-moment-at-requires c κs = search needs
+present-moment-requires : tie.Need-present-moment-requires
+present-moment-requires c κs = search needs
 
 zero-from-requires : tie.Need-zero-from-requires
 zero-from-requires c κs = search needs
@@ -38,7 +38,7 @@ returns-2 c =
     let q = has-failed _ _ _ (c .before .before .block-rests .ensures) (c .enum-told .given .1) in
     let no : blocksInPlace (a .size) (a .m .now) ≡ false =
     unfold blocksInPlace in
-    rw (sym (c .before .before .before .before .zero-from .ensures) ∙ not-false _ (c .before .before .before .if1 .left), ← c .before .before .before .before .before .moment-at .ensures, q) in
+    rw (sym (c .before .before .before .before .zero-from .ensures) ∙ not-false _ (c .before .before .before .if1 .left), ← c .before .before .before .before .before .present-moment .ensures, q) in
     (fails _ _ no, search needs, not-both no)
 
 element-write-dues : tie.Need-element-write-dues
@@ -53,9 +53,9 @@ returns-3 c =
     let b = c .before .before .before .before .before in
     let o = b .before .before .before .before .before in
     let q = has-passed _ _ _ _ (b .block-rests .ensures) (c .before .before .before .outer .given .1) in
-    let same : blocksInPlace (o .args .size) (o .args .m .now) ≡ slotsHold (o .args .n) (b .before .before .before .moment-at .result) (o .args .m .now) 64 =
+    let same : blocksInPlace (o .args .size) (o .args .m .now) ≡ slotsHold (o .args .n) (b .before .before .before .present-moment .result .0) (o .args .m .now) 64 =
     unfold blocksInPlace in
-    rw (sym (b .before .before .zero-from .ensures) ∙ not-false _ (b .before .if1 .left), ← b .before .before .before .moment-at .ensures, q .0, ← o .pre .2) in (
+    rw (sym (b .before .before .zero-from .ensures) ∙ not-false _ (b .before .if1 .left), ← b .before .before .before .present-moment .ensures, q .0, ← o .pre .2) in (
       rw (same, ← q .1) (c .slots-hold .ensures .0),
       c .slots-hold .ensures .1,
       λ e. all-kept _ _ (now (o .args .dues)) _ _ (o .pre .3) (q .1) (c .slots-hold .ensures .2 (sym same ∙ e)),
@@ -65,7 +65,7 @@ pub blocks-in-place-spec : {M : Type 1} → statement M
 blocks-in-place-spec =
     tie.close
     (tie.spec
-    moment-at-requires
+    present-moment-requires
     zero-from-requires
     returns
     block-rests-requires

@@ -13,7 +13,7 @@ use Rattle.machine_in_place.proofs.slots_hold.Tie as tie
 
 abbrev Inv-loop : tie.InvT-loop
 Inv-loop m n present soonest dues₀ found₀ s₀ dues found s =
-    SlotsLeft n present m soonest found s × (length dues ≡ 65) × SlotDues s m dues₀ dues
+    SlotsLeft n (present .0) m soonest found s × (length dues ≡ 65) × SlotDues s m dues₀ dues
 
 abbrev μ-loop : tie.MeasureT-loop
 μ-loop m n present soonest dues₀ found₀ s₀ dues found s =

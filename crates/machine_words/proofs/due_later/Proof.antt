@@ -9,7 +9,7 @@ returns c =
 
 returns-2 : tie.Need-returns-2
 returns-2 c =
-    rw (ne-eqb _ _ (c .if1 .left))
+    rw (ne-eqb _ _ (c .before .if1 .left))
 
 pub due-later-spec : {M : Type 1} → statement M
 due-later-spec = tie.close (tie.spec returns returns-2)

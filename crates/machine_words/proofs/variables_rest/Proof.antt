@@ -13,7 +13,7 @@ use Rattle.machine_words.proofs.variables_rest.Tie as tie
 
 abbrev Inv-loop : tie.InvT-loop
 Inv-loop m at k present found₀ i₀ found i =
-    (variablesRest present m (at + i * 6) (k - i) ≡ variablesRest present m at k) × VariablesLeft m at k 0 found i
+    (variablesRest (present .0) m (at + i * 6) (k - i) ≡ variablesRest (present .0) m at k) × VariablesLeft m at k 0 found i
 
 abbrev μ-loop : tie.MeasureT-loop
 μ-loop m at k present found₀ i₀ found i =

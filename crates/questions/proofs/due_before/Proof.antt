@@ -9,7 +9,7 @@ returns c =
 
 returns-2 : tie.Need-returns-2
 returns-2 c =
-    some-due _ _ (c .if1 .left)
+    some-due _ _ (c .before .if1 .left)
 
 pub due-before-spec : {M : Type 1} → statement M
 due-before-spec = tie.close (tie.spec returns returns-2)

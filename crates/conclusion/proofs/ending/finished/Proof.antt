@@ -55,7 +55,7 @@ returns : tie.Need-returns
 returns c =
     let a = c .before .before .before .before .before .before .before .before .before .before .before .before .before .before .before .before .before .before .before .before .before .args in
     λ may.
-    finished-as (now (a .table)) (now (a .machine)) _ (a .t) may (λ k. omega (arith, c .before .before .before .before .before .before .before .before .before .before .before .before .before .before .before .before .before .before .before .slice-known .given k)) (c .before .before .before .finish .ensures .0)
+    finished-as (now (a .table)) (now (a .machine)) _ (a .present .0) may (λ k. omega (arith, c .before .before .before .before .before .before .before .before .before .before .before .before .before .before .before .before .before .before .before .slice-known .given k)) (c .before .before .before .finish .ensures .0)
     _ _ (c .before .before .before .before .before .before .before .before .before .before .before .before .before .before .before .number .ensures .0) (c .before .before .before .before .before .before .before .before .before .before .before .before .before .number2 .ensures .0) _ _ _ _ (a .steps) _ _ _
     (c .before .before .before .before .before .before .before .before .before .list-outputs .ensures) (c .before .before .before .finish .ensures .1) (c .due-at .ensures)
 

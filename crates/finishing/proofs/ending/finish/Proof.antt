@@ -46,8 +46,8 @@ returns c =
     let a = c .before .before .before .before .before .before .before .before .before .before .before .before .before .before .before .before .before .before .before .before .before .before .before .args in
     let h = c .before .before .before .before .before .before .before .before .before .before .before .before .before .before .before .before .before .before .before .before .clear-header .ensures in
     let o = c .before .before .before .before .before .before .before .before .before .before .before .before .before .before .order-slots .ensures in (
-      subst (λ (l : List ℕ). Ended (a .t) (walkingOrder (rowsOf (now (a .m)))) (now (a .m)) l) (sym (c .before .before .store-header .ensures))
-          (instant-ended (a .t) _ (search needs) h (o .0) (c .before .before .before .before .before .before .before .before .before .before .set-places .ensures) (c .before .before .before .before .before .before .clear-working .ensures)),
+      subst (λ (l : List ℕ). Ended (a .present .0) (walkingOrder (rowsOf (now (a .m)))) (now (a .m)) l) (sym (c .before .before .store-header .ensures))
+          (instant-ended (a .present .0) _ (search needs) h (o .0) (c .before .before .before .before .before .before .before .before .before .before .set-places .ensures) (c .before .before .before .before .before .before .clear-working .ensures)),
       all-due (now (a .m)) _ (a .size) _ _ h (c .before .before .before .before .before .before .before .before .before .before .before .before .before .before .before .before .before .before .before .before .before .before .before .pre .1) (c .before .before .before .before .before .before .before .before .before .before .before .before .before .before .before .before .sooner-of-variables .ensures) (o .1),
     )
 

@@ -10,15 +10,15 @@ use Rattle.instants.proofs.due.make_due_in.Statement.{statement}
 use Rattle.instants.proofs.due.make_due_in.Tie as tie
 
 abbrev Inv-loop : tie.InvT-loop
-Inv-loop m₀ s count t i₀ woken₀ m i woken = (i ≤ count) × DueSoFar s count t i m₀ m (slotsOf woken₀) (slotsOf woken)
+Inv-loop m₀ s count present i₀ woken₀ m i woken = (i ≤ count) × DueSoFar s count (present .0) i m₀ m (slotsOf woken₀) (slotsOf woken)
 
 abbrev μ-loop : tie.MeasureT-loop
-μ-loop m₀ s count t i₀ woken₀ m i woken = count - i
+μ-loop m₀ s count present i₀ woken₀ m i woken = count - i
 
 loop-holds : tie.Need-loop-holds Inv-loop μ-loop
 loop-holds c =
     let a = c .before .args in
-    (omega arith, none-due-yet (a .s) (a .count) (a .t) (now (a .m)) (slotsOf (a .ready)) (c .before .pre .4))
+    (omega arith, none-due-yet (a .s) (a .count) (a .present .0) (now (a .m)) (slotsOf (a .ready)) (c .before .pre .4))
 
 make-due-requires : tie.Need-make-due-requires Inv-loop μ-loop
 make-due-requires c κs = search needs
@@ -38,7 +38,7 @@ loop-again : tie.Need-loop-again Inv-loop μ-loop
 loop-again c =
     let a = c .before .before .before .before .before .before .before .before .before .args in
     let v = c .before .before .before .before .before .before .before .loop in
-    (search needs, one-more-due (a .s) (a .count) (a .t) (v .i) (search needs) (search needs) (search needs) (c .before .before .before .before .before .before .loop-test .taken) (v .inv .1) (c .before .before .before .before .make-due .ensures) (c .wake-if-written .ensures))
+    (search needs, one-more-due (a .s) (a .count) (a .present .0) (v .i) (search needs) (search needs) (search needs) (c .before .before .before .before .before .before .loop-test .taken) (v .inv .1) (c .before .before .before .before .make-due .ensures) (c .wake-if-written .ensures))
 
 same-length : tie.Need-same-length Inv-loop μ-loop
 same-length c = search needs

@@ -10,17 +10,17 @@ use Rattle.instants.proofs.due.make_due_slots.Statement.{statement}
 use Rattle.instants.proofs.due.make_due_slots.Tie as tie
 
 abbrev Inv-loop : tie.InvT-loop
-Inv-loop m₀ t dues s₀ woken₀ m s woken =
-    (s ≤ 64) × SlotsSoFar t s m₀ m (slotsOf woken₀) (slotsOf woken)
+Inv-loop m₀ present dues s₀ woken₀ m s woken =
+    (s ≤ 64) × SlotsSoFar (present .0) s m₀ m (slotsOf woken₀) (slotsOf woken)
 
 abbrev μ-loop : tie.MeasureT-loop
-μ-loop m₀ t dues s₀ woken₀ m s woken =
+μ-loop m₀ present dues s₀ woken₀ m s woken =
     64 - s
 
 loop-holds : tie.Need-loop-holds Inv-loop μ-loop
 loop-holds c =
     let a = c .before .args in
-    (omega arith, no-slot-yet (a .t) (now (a .m)) (slotsOf (a .ready)) (c .before .pre .4))
+    (omega arith, no-slot-yet (a .present .0) (now (a .m)) (slotsOf (a .ready)) (c .before .pre .4))
 
 mul-make-due-slot : tie.Need-mul-make-due-slot Inv-loop μ-loop
 mul-make-due-slot c = search needs
@@ -45,7 +45,7 @@ loop-again c =
     let a = c .before .before .before .before .before .before .before .before .args in
     let v = c .before .before .before .before .before .before .loop in
     let one = c .before .before .make-due-slot .ensures in
-    (search needs, one-more-slot (a .t) (v .s) (search needs) (v .inv .1) (one .0) (one .1) (one .2))
+    (search needs, one-more-slot (a .present .0) (v .s) (search needs) (v .inv .1) (one .0) (one .1) (one .2))
 
 same-length : tie.Need-same-length Inv-loop μ-loop
 same-length c = search needs

@@ -51,8 +51,8 @@ returns c =
     let next : c .before .before .before .before .before .before .before .before .before .before .before .before .place .result + 1 ≡ suc here = rw add-one (ap suc (c .before .before .before .before .before .before .before .before .before .before .before .before .place .ensures)) in
     let p = then-queued (bound .block) (c .before .before .before .before .before .before .before .before .before .before .schedule .ensures) (c .before .before .before .before .before .before .put-word .ensures) in
     let q = placed-as (c .before .before .before .before .before .before .before .before .before .before .before .before .place .result + 1) (suc here) next (c .before .before .set-place .ensures) in
-    changes-name u (a .name) binding bound (o .pre .0 .there) (o .pre .0 .runs .slot) (λ (y : Variable). scheduled y (a .moment) (a .value)) p q
-    (λ n there. scheduled-all (binding .index) (bound .block) there (a .moment) (a .value) (o .pre .1) p)
+    changes-name u (a .name) binding bound (o .pre .0 .there) (o .pre .0 .runs .slot) (λ (y : Variable). scheduled y (a .moment .0) (a .value)) p q
+    (λ n there. scheduled-all (binding .index) (bound .block) there (a .moment .0) (a .value) (o .pre .1) p)
 
 pub schedule-at-spec : {M : Type 1} → statement M
 schedule-at-spec =

@@ -5,6 +5,7 @@ ghost use Prim.Native.Nat.{_≤_};
 ghost use lib.ListN.{length};
 ghost use Rattle.beginning.specs.Queue.{flagOf, Queued};
 
+// The note of a block by its soonest moment due (0: none).
 fn flag(due: u64) -> u32
     ensures { λ r. ⌜ r ≡ flagOf due ⌝ }
 {
@@ -14,7 +15,7 @@ fn flag(due: u64) -> u32
     1
 }
 
-// Each block by its soonest moment due (0: none), as question 7's pass has kept it.
+// Each block by its soonest moment due, as question 7's pass has kept it.
 pub fn queue_waiting(m: &mut [u32], dues: &[u64; 65])
     requires { ⌜ (12288 ≤ length (now m)) × (length (now dues) ≡ 65) ⌝ }
     ensures { λ _. ⌜ Queued 65 (now (dues .entry)) (now (m .entry)) (now (m .exit)) ⌝ }

@@ -11,3 +11,4 @@ pub mod Stepping
 pub mod FirstSteps
 pub mod Calling
 pub mod Moving
+pub mod Ending

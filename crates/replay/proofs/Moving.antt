@@ -195,7 +195,7 @@ pub data Runs (listing trace : Bytes) : (table machine numbers values : List ℕ
       Advances listing trace table machine numbers values outNumbers outValues out phase table′ machine′ numbers′ values′ outNumbers′ outValues′ out′ (Went next n) →
       Runs listing trace table′ machine′ numbers′ values′ next bytes → Runs listing trace table machine numbers values phase (take n out′ ++ bytes)
 
-over-nothing : (listing trace table machine numbers values : List ℕ) (bytes : Bytes) → Stands listing trace table machine numbers values Over bytes → [] ≡ bytes
+pub over-nothing : (listing trace table machine numbers values : List ℕ) (bytes : Bytes) → Stands listing trace table machine numbers values Over bytes → [] ≡ bytes
 over-nothing listing trace table machine numbers values _ over = refl
 
 run-prints : (listing trace : Bytes) {table machine numbers values : List ℕ} {phase : Phase} {bytes : Bytes} → Runs listing trace table machine numbers values phase bytes →

@@ -2,9 +2,12 @@
 // Every byte that it prints is printed by `replay::advance`, whose steps from the opening to the end print the session.
 ghost use mathlib.Core.Path.{_≡_};
 ghost use lib.ListN.{length};
+ghost use mathlib.Core.Bool.{true};
 ghost use Rattle.io.specs.Counts.{Counts};
+ghost use Rattle.replay.specs.Advancing.{longEnough};
+ghost use Rattle.replay.specs.Ending.{isOver};
 ghost use Rattle.replay.specs.Phases.{memories};
-ghost use Rattle.session.specs.Turning.{isOver, Turned, Ran};
+ghost use Rattle.session.specs.Turning.{Turned, Ran, Played};
 use libc::STDERR_FILENO;
 use libc::STDOUT_FILENO;
 use replay::Advanced;
@@ -111,7 +114,13 @@ fn is_over(phase: Phase) -> bool
     }
 }
 
-// One step, and what it prints is written out. Whether it was written the kit's `io` does not promise: a turn that could not write is the last.
+// A turn: the next phase, and whether what it printed was written out, as the kit's `io` told it.
+struct Stepped {
+    next: Phase,
+    is_written: bool,
+}
+
+// One step, and what it prints is written out.
 fn turn(
     listing: &[u8],
     trace: &[u8],
@@ -123,7 +132,8 @@ fn turn(
     out_values: &mut [u32],
     out: &mut [u8],
     phase: Phase,
-) -> Phase
+) -> Stepped
+    requires { ⌜ longEnough (now table) (now machine) (now numbers) (now values) (now «out_numbers») (now «out_values») (now out) ≡ true ⌝ }
     ensures { λ r. ⌜ Turned (now (listing .entry)) (now (trace .entry))
         (memories (now (table .entry)) (now (machine .entry)) (now (numbers .entry)) (now (values .entry)) (now («out_numbers» .entry)) (now («out_values» .entry)) (now (out .entry))) phase
         (memories (now (table .exit)) (now (machine .exit)) (now (numbers .exit)) (now (values .exit)) (now («out_numbers» .exit)) (now («out_values» .exit)) (now (out .exit))) r ⌝ }
@@ -143,17 +153,25 @@ fn turn(
     match answer {
         Advanced::Went(next, printed) => {
             let is_written = io::write_all(STDOUT_FILENO, &out[..printed]);
-            if is_written {
-                return next;
-            }
-            os::fail(b"session: writing");
-            Phase::Over
+            Stepped { next, is_written }
         }
-        Advanced::TooShort => Phase::Over,
+        // never: the memories are long enough
+        Advanced::TooShort => Stepped {
+            next: Phase::Over,
+            is_written: false,
+        },
     }
 }
 
-// The steps to the end. A proved loop has to end, so it counts its turns down, from a number that no session reaches in practice.
+// How a run ended.
+enum Ending {
+    // all is printed
+    Ended,
+    // what the last turn printed could not be written out
+    NotWritten,
+}
+
+// The steps to the end: each leaves fewer to be made, so that no turns are counted.
 fn run(
     listing: &[u8],
     trace: &[u8],
@@ -164,15 +182,15 @@ fn run(
     out_numbers: &mut [u32],
     out_values: &mut [u32],
     out: &mut [u8],
-)
-    ensures { λ _. ⌜ Ran (now (listing .entry)) (now (trace .entry))
+) -> Ending
+    requires { ⌜ longEnough (now table) (now machine) (now numbers) (now values) (now «out_numbers») (now «out_values») (now out) ≡ true ⌝ }
+    ensures { λ r. ⌜ Ran (now (listing .entry)) (now (trace .entry))
         (memories (now (table .entry)) (now (machine .entry)) (now (numbers .entry)) (now (values .entry)) (now («out_numbers» .entry)) (now («out_values» .entry)) (now (out .entry)))
-        (memories (now (table .exit)) (now (machine .exit)) (now (numbers .exit)) (now (values .exit)) (now («out_numbers» .exit)) (now («out_values» .exit)) (now (out .exit))) ⌝ }
+        (memories (now (table .exit)) (now (machine .exit)) (now (numbers .exit)) (now (values .exit)) (now («out_numbers» .exit)) (now («out_values» .exit)) (now (out .exit))) r ⌝ }
 {
     let mut phase = Phase::Opening;
-    let mut turns = u64::MAX;
-    while turns > 0 && !is_over(phase) {
-        phase = turn(
+    while !is_over(phase) {
+        let made = turn(
             listing,
             trace,
             table,
@@ -184,12 +202,19 @@ fn run(
             out,
             phase,
         );
-        turns -= 1;
+        if !made.is_written {
+            return Ending::NotWritten;
+        }
+        let next = made.next;
+        phase = next;
     }
+    Ending::Ended
 }
 
-// The session on memories of its own. It has no result and is lent nothing to write in.
-fn play(listing: &[u8], trace: &[u8]) {
+// The session on memories of its own.
+fn play(listing: &[u8], trace: &[u8]) -> Ending
+    ensures { λ r. ⌜ Played (now (listing .entry)) (now (trace .entry)) r ⌝ }
+{
     let mut table = memory();
     let mut machine = memory();
     let mut numbers = inputs();
@@ -207,9 +232,10 @@ fn play(listing: &[u8], trace: &[u8]) {
         &mut out_numbers,
         &mut out_values,
         &mut out,
-    );
+    )
 }
 
+// It has no result and is lent nothing, so there is nothing that it could promise: what it does, the stored output shows.
 fn main() {
     let mut listing = text();
     let first = read_argument(1, &mut listing);
@@ -223,5 +249,8 @@ fn main() {
     }
     let m = first.count;
     let n = second.count;
-    play(&listing[..m], &trace[..n]);
+    let ending = play(&listing[..m], &trace[..n]);
+    if let Ending::NotWritten = ending {
+        os::fail(b"session: writing");
+    }
 }

@@ -1,85 +1,82 @@
--- `session::run` meets its contract. The measure is the number of turns that are left; from turn to turn the lent memories keep their lengths.
-use mathlib.Core.Path.{_≡_, refl}
-use borrow.Author.Needs.{needs}
-use native.Mathlib.Omega.{arith}
-use lib.ListN.{length}
+-- `session::run` meets its contract. The measure is the number of steps that can still be made; from turn to turn the lent memories keep their lengths.
+use mathlib.Core.Path.{sym, _∙_}
+use borrow.Author.Tests.{not-true, not-false}
 use Rattle.replay.specs.Phases.{memories}
-use Rattle.session.specs.Turning.{Turns, begins, then}
+use Rattle.replay.specs.Ending.{stepsLeft, AsLong}
+use Rattle.replay.proofs.Ending.{made-as-long, still-long}
+use Rattle.session.proofs.Turning.{Going, begun, run-ended, goes-on, run-stops, fewer}
 use Rattle.session.proofs.run.Statement.{statement}
 use Rattle.session.proofs.run.Tie as tie
 
 abbrev Inv-loop : tie.InvT-loop
-Inv-loop listing trace table machine numbers values outNumbers outValues out phase₀ turns₀ table′ machine′ numbers′ values′ outNumbers′ outValues′ out′ phase turns =
-    Turns listing trace (memories table machine numbers values outNumbers outValues out) (memories table′ machine′ numbers′ values′ outNumbers′ outValues′ out′) phase × (length table′ ≡ length table) × (length machine′ ≡ length machine) × (length numbers′ ≡ length numbers) × (length values′ ≡ length values) × (length outNumbers′ ≡ length outNumbers) × (length outValues′ ≡ length outValues) × (length out′ ≡ length out)
+Inv-loop listing trace table machine numbers values outNumbers outValues out phase₀ table′ machine′ numbers′ values′ outNumbers′ outValues′ out′ phase =
+    Going listing trace (memories table machine numbers values outNumbers outValues out) (memories table′ machine′ numbers′ values′ outNumbers′ outValues′ out′) phase
 
 abbrev μ-loop : tie.MeasureT-loop
-μ-loop listing trace table machine numbers values outNumbers outValues out phase₀ turns₀ table′ machine′ numbers′ values′ outNumbers′ outValues′ out′ phase turns = turns
+μ-loop listing trace table machine numbers values outNumbers outValues out phase₀ table′ machine′ numbers′ values′ outNumbers′ outValues′ out′ phase = stepsLeft trace phase
 
 loop-holds : tie.Need-loop-holds Inv-loop μ-loop
-loop-holds c = (begins, refl, refl, refl, refl, refl, refl, refl)
+loop-holds c = begun
 
 is-over-requires : tie.Need-is-over-requires Inv-loop μ-loop
 is-over-requires c κs = tt
 
 turn-requires : tie.Need-turn-requires Inv-loop μ-loop
-turn-requires c κs = tt
-
-sub-turns : tie.Need-sub-turns Inv-loop μ-loop
-sub-turns c = omega arith
-
-loop-less : tie.Need-loop-less Inv-loop μ-loop
-loop-less c = omega arith
-
-loop-again : tie.Need-loop-again Inv-loop μ-loop
-loop-again c = (then (c .before .before .before .before .before .before .before .before .before .before .before .before .before .before .before .before .before .before .before .before .before .before .before .before .before .loop .inv .0) (c .before .before .before .before .before .before .before .before .before .before .before .before .before .before .turn .ensures), search needs, search needs, search needs, search needs, search needs, search needs, search needs)
+turn-requires c κs = still-long (made-as-long (c .before .before .before .before .before .before .before .before .before .loop .inv .made)) (c .before .before .before .before .before .before .before .before .before .before .before .before .before .before .before .before .before .before .before .pre)
 
 same-length : tie.Need-same-length Inv-loop μ-loop
-same-length c = search needs
+same-length c = c .before .before .before .before .before .before .before .before .before .before .before .before .before .before .before .table .given ∙ made-as-long (c .before .before .before .before .before .before .before .before .before .before .before .before .before .before .before .before .before .before .before .before .before .before .before .before .before .before .loop .inv .made) .table-is
 
 same-length-2 : tie.Need-same-length-2 Inv-loop μ-loop
-same-length-2 c = search needs
+same-length-2 c = c .before .before .before .before .before .before .before .before .before .before .before .before .before .machine .given ∙ made-as-long (c .before .before .before .before .before .before .before .before .before .before .before .before .before .before .before .before .before .before .before .before .before .before .before .before .before .before .loop .inv .made) .machine-is
 
 same-length-3 : tie.Need-same-length-3 Inv-loop μ-loop
-same-length-3 c = search needs
+same-length-3 c = c .before .before .before .before .before .before .before .before .before .before .before .numbers .given ∙ made-as-long (c .before .before .before .before .before .before .before .before .before .before .before .before .before .before .before .before .before .before .before .before .before .before .before .before .before .before .loop .inv .made) .numbers-are
 
 same-length-4 : tie.Need-same-length-4 Inv-loop μ-loop
-same-length-4 c = search needs
+same-length-4 c = c .before .before .before .before .before .before .before .before .before .values .given ∙ made-as-long (c .before .before .before .before .before .before .before .before .before .before .before .before .before .before .before .before .before .before .before .before .before .before .before .before .before .before .loop .inv .made) .values-are
 
 same-length-5 : tie.Need-same-length-5 Inv-loop μ-loop
-same-length-5 c = search needs
+same-length-5 c = c .before .before .before .before .before .before .before .out-numbers .given ∙ made-as-long (c .before .before .before .before .before .before .before .before .before .before .before .before .before .before .before .before .before .before .before .before .before .before .before .before .before .before .loop .inv .made) .out-numbers-are
 
 same-length-6 : tie.Need-same-length-6 Inv-loop μ-loop
-same-length-6 c = search needs
+same-length-6 c = c .before .before .before .before .before .out-values .given ∙ made-as-long (c .before .before .before .before .before .before .before .before .before .before .before .before .before .before .before .before .before .before .before .before .before .before .before .before .before .before .loop .inv .made) .out-values-are
 
 same-length-7 : tie.Need-same-length-7 Inv-loop μ-loop
-same-length-7 c = search needs
+same-length-7 c = c .before .before .before .out .given ∙ made-as-long (c .before .before .before .before .before .before .before .before .before .before .before .before .before .before .before .before .before .before .before .before .before .before .before .before .before .before .loop .inv .made) .out-is
 
 returns : tie.Need-returns Inv-loop μ-loop
-returns c = record { last = c .before .before .before .loop .phase; turns = c .before .before .before .loop .inv .0 }
+returns c = run-stops (c .before .before .before .before .before .before .before .before .before .before .before .before .before .before .before .before .before .before .before .before .before .before .before .before .before .before .loop .inv) (sym (c .before .before .before .before .before .before .before .before .before .before .before .before .before .before .before .before .before .before .before .before .before .before .before .before .before .is-over .ensures) ∙ not-true _ (c .before .before .before .before .before .before .before .before .before .before .before .before .before .before .before .before .before .before .before .before .before .before .before .before .if1 .taken)) (c .before .before .before .before .before .before .before .before .before .before .before .before .before .before .before .before .turn .ensures)
+
+loop-less : tie.Need-loop-less Inv-loop μ-loop
+loop-less c = fewer (c .before .before .before .before .before .before .before .before .before .before .before .before .before .before .before .before .before .before .before .before .before .before .before .before .before .before .loop .inv) (sym (c .before .before .before .before .before .before .before .before .before .before .before .before .before .before .before .before .before .before .before .before .before .before .before .before .before .is-over .ensures) ∙ not-true _ (c .before .before .before .before .before .before .before .before .before .before .before .before .before .before .before .before .before .before .before .before .before .before .before .before .if1 .taken)) (c .before .before .before .before .before .before .before .before .before .before .before .before .before .before .before .before .turn .ensures)
+
+loop-again : tie.Need-loop-again Inv-loop μ-loop
+loop-again c = goes-on (c .before .before .before .before .before .before .before .before .before .before .before .before .before .before .before .before .before .before .before .before .before .before .before .before .before .before .loop .inv) (sym (c .before .before .before .before .before .before .before .before .before .before .before .before .before .before .before .before .before .before .before .before .before .before .before .before .before .is-over .ensures) ∙ not-true _ (c .before .before .before .before .before .before .before .before .before .before .before .before .before .before .before .before .before .before .before .before .before .before .before .before .if1 .taken)) (c .before .before .before .before .before .before .before .before .before .before .before .before .before .before .before .before .turn .ensures)
 
 same-length-8 : tie.Need-same-length-8 Inv-loop μ-loop
-same-length-8 c = search needs
+same-length-8 c = made-as-long (c .before .before .loop .inv .made) .table-is
 
 same-length-9 : tie.Need-same-length-9 Inv-loop μ-loop
-same-length-9 c = search needs
+same-length-9 c = made-as-long (c .before .before .loop .inv .made) .machine-is
 
 same-length-10 : tie.Need-same-length-10 Inv-loop μ-loop
-same-length-10 c = search needs
+same-length-10 c = made-as-long (c .before .before .loop .inv .made) .numbers-are
 
 same-length-11 : tie.Need-same-length-11 Inv-loop μ-loop
-same-length-11 c = search needs
+same-length-11 c = made-as-long (c .before .before .loop .inv .made) .values-are
 
 same-length-12 : tie.Need-same-length-12 Inv-loop μ-loop
-same-length-12 c = search needs
+same-length-12 c = made-as-long (c .before .before .loop .inv .made) .out-numbers-are
 
 same-length-13 : tie.Need-same-length-13 Inv-loop μ-loop
-same-length-13 c = search needs
+same-length-13 c = made-as-long (c .before .before .loop .inv .made) .out-values-are
 
 same-length-14 : tie.Need-same-length-14 Inv-loop μ-loop
-same-length-14 c = search needs
+same-length-14 c = made-as-long (c .before .before .loop .inv .made) .out-is
 
 returns-2 : tie.Need-returns-2 Inv-loop μ-loop
-returns-2 c = record { last = c .before .loop .phase; turns = c .before .loop .inv .0 }
+returns-2 c = run-ended (c .before .before .loop .inv) (sym (c .before .is-over .ensures) ∙ not-false _ (c .if1 .left))
 
 pub run-spec : {M : Type 1} → statement M
 run-spec =
@@ -90,9 +87,6 @@ run-spec =
     loop-holds
     is-over-requires
     turn-requires
-    sub-turns
-    loop-less
-    loop-again
     same-length
     same-length-2
     same-length-3
@@ -101,6 +95,8 @@ run-spec =
     same-length-6
     same-length-7
     returns
+    loop-less
+    loop-again
     same-length-8
     same-length-9
     same-length-10

@@ -1,10 +1,8 @@
 -- `session::turn` meets its contract.
-use mathlib.Core.Path.{refl, sym, ap}
-use mathlib.Core.Logic.{inl, inr}
+use mathlib.Core.Path.{sym, subst}
 use lib.Seq.{length-take-le}
-use Rattle.replay.specs.declared.phase.Advanced.{Advanced}
-use Rattle.session.specs.Turning.{phaseAfter}
 use Rattle.session.proofs.Room.{went-room}
+use Rattle.session.proofs.Turning.{turned, not-short}
 use borrow.Author.Needs.{needs}
 use Rattle.session.proofs.turn.Statement.{statement}
 use Rattle.session.proofs.turn.Tie as tie
@@ -16,102 +14,66 @@ enum-known-answer : tie.Need-enum-known-answer
 enum-known-answer c = search needs
 
 slice-reshare-prefix-write-all : tie.Need-slice-reshare-prefix-write-all
-slice-reshare-prefix-write-all c =
-    went-room (c .before .before .before .before .before .before .before .before .before .before .before .before .before .before .before .before .before .advance .ensures) (c .before .answer .given .1)
+slice-reshare-prefix-write-all c = went-room (c .before .before .before .before .before .before .before .before .before .before .before .before .before .before .before .before .before .advance .ensures) (c .before .answer .given .1)
 
 slice-aggregate-write-all : tie.Need-slice-aggregate-write-all
-slice-aggregate-write-all c =
-    sym (length-take-le _ _ (went-room (c .before .before .before .before .before .before .before .before .before .before .before .before .before .before .before .before .before .before .advance .ensures) (c .before .before .answer .given .1)))
+slice-aggregate-write-all c = sym (length-take-le _ _ (went-room (c .before .before .before .before .before .before .before .before .before .before .before .before .before .before .before .before .before .before .advance .ensures) (c .before .before .answer .given .1)))
 
 write-all-requires : tie.Need-write-all-requires
 write-all-requires c κs = search needs
 
-same-length : tie.Need-same-length
-same-length c = c .before .before .before .before .before .before .before .before .before .before .before .before .before .before .before .before .before .before .before .table .given
-
-same-length-2 : tie.Need-same-length-2
-same-length-2 c = c .before .before .before .before .before .before .before .before .before .before .before .before .before .before .before .before .before .machine .given
-
-same-length-3 : tie.Need-same-length-3
-same-length-3 c = c .before .before .before .before .before .before .before .before .before .before .before .before .before .before .before .numbers .given
-
-same-length-4 : tie.Need-same-length-4
-same-length-4 c = c .before .before .before .before .before .before .before .before .before .before .before .before .before .values .given
-
-same-length-5 : tie.Need-same-length-5
-same-length-5 c = c .before .before .before .before .before .before .before .before .before .before .before .out-numbers .given
-
-same-length-6 : tie.Need-same-length-6
-same-length-6 c = c .before .before .before .before .before .before .before .before .before .out-values .given
-
-same-length-7 : tie.Need-same-length-7
-same-length-7 c = c .before .before .before .before .before .before .before .out .given
-
-returns : tie.Need-returns
-returns c =
-    let d = c .before .before .before .before .before .before .before .before .before .before .before .before .before .before .before .before .before .before .before .before .advance in
-    record { answer = d .result; advances = d .ensures; goes = inl (sym (ap (λ (x : Advanced). phaseAfter x) (c .before .before .before .before .answer .given .1))) }
-
-slice-aggregate-fail : tie.Need-slice-aggregate-fail
-slice-aggregate-fail c = search needs
-
-fail-requires : tie.Need-fail-requires
-fail-requires c κs = search needs
-
 enum-told : tie.Need-enum-told
 enum-told c = search needs
 
+same-length : tie.Need-same-length
+same-length c = c .before .before .before .before .before .before .before .before .before .before .before .before .before .before .before .before .before .before .table .given
+
+same-length-2 : tie.Need-same-length-2
+same-length-2 c = c .before .before .before .before .before .before .before .before .before .before .before .before .before .before .before .before .machine .given
+
+same-length-3 : tie.Need-same-length-3
+same-length-3 c = c .before .before .before .before .before .before .before .before .before .before .before .before .before .before .numbers .given
+
+same-length-4 : tie.Need-same-length-4
+same-length-4 c = c .before .before .before .before .before .before .before .before .before .before .before .before .values .given
+
+same-length-5 : tie.Need-same-length-5
+same-length-5 c = c .before .before .before .before .before .before .before .before .before .before .out-numbers .given
+
+same-length-6 : tie.Need-same-length-6
+same-length-6 c = c .before .before .before .before .before .before .before .before .out-values .given
+
+same-length-7 : tie.Need-same-length-7
+same-length-7 c = c .before .before .before .before .before .before .out .given
+
+returns : tie.Need-returns
+returns c =
+    turned (c .before .before .before .before .before .before .before .before .before .before .before .before .before .before .before .before .before .before .before .advance .ensures) (c .write-all .result) (c .before .before .before .answer .given .1)
+    (record { table-is = same-length c; machine-is = same-length-2 c; numbers-are = same-length-3 c; values-are = same-length-4 c; out-numbers-are = same-length-5 c; out-values-are = same-length-6 c; out-is = same-length-7 c })
+
 same-length-8 : tie.Need-same-length-8
-same-length-8 c = c .before .before .before .before .before .before .before .before .before .before .before .before .before .before .before .before .before .before .before .before .before .table .given
+same-length-8 c = c .before .before .before .before .before .before .before .before .before .before .before .before .before .before .before .table .given
 
 same-length-9 : tie.Need-same-length-9
-same-length-9 c = c .before .before .before .before .before .before .before .before .before .before .before .before .before .before .before .before .before .before .before .machine .given
+same-length-9 c = c .before .before .before .before .before .before .before .before .before .before .before .before .before .machine .given
 
 same-length-10 : tie.Need-same-length-10
-same-length-10 c = c .before .before .before .before .before .before .before .before .before .before .before .before .before .before .before .before .before .numbers .given
+same-length-10 c = c .before .before .before .before .before .before .before .before .before .before .before .numbers .given
 
 same-length-11 : tie.Need-same-length-11
-same-length-11 c = c .before .before .before .before .before .before .before .before .before .before .before .before .before .before .before .values .given
+same-length-11 c = c .before .before .before .before .before .before .before .before .before .values .given
 
 same-length-12 : tie.Need-same-length-12
-same-length-12 c = c .before .before .before .before .before .before .before .before .before .before .before .before .before .out-numbers .given
+same-length-12 c = c .before .before .before .before .before .before .before .out-numbers .given
 
 same-length-13 : tie.Need-same-length-13
-same-length-13 c = c .before .before .before .before .before .before .before .before .before .before .before .out-values .given
+same-length-13 c = c .before .before .before .before .before .out-values .given
 
 same-length-14 : tie.Need-same-length-14
-same-length-14 c = c .before .before .before .before .before .before .before .before .before .out .given
+same-length-14 c = c .before .before .before .out .given
 
 returns-2 : tie.Need-returns-2
-returns-2 c =
-    let d = c .before .before .before .before .before .before .before .before .before .before .before .before .before .before .before .before .before .before .before .before .before .before .advance in
-    record { answer = d .result; advances = d .ensures; goes = inr refl }
-
-same-length-15 : tie.Need-same-length-15
-same-length-15 c = c .before .before .before .before .before .before .before .before .before .before .before .before .before .before .before .table .given
-
-same-length-16 : tie.Need-same-length-16
-same-length-16 c = c .before .before .before .before .before .before .before .before .before .before .before .before .before .machine .given
-
-same-length-17 : tie.Need-same-length-17
-same-length-17 c = c .before .before .before .before .before .before .before .before .before .before .before .numbers .given
-
-same-length-18 : tie.Need-same-length-18
-same-length-18 c = c .before .before .before .before .before .before .before .before .before .values .given
-
-same-length-19 : tie.Need-same-length-19
-same-length-19 c = c .before .before .before .before .before .before .before .out-numbers .given
-
-same-length-20 : tie.Need-same-length-20
-same-length-20 c = c .before .before .before .before .before .out-values .given
-
-same-length-21 : tie.Need-same-length-21
-same-length-21 c = c .before .before .before .out .given
-
-returns-3 : tie.Need-returns-3
-returns-3 c =
-    let d = c .before .before .before .before .before .before .before .before .before .before .before .before .before .before .before .before .advance in
-    record { answer = d .result; advances = d .ensures; goes = inr refl }
+returns-2 c = not-short (rw (c .enum-told .given .1) at (c .before .before .before .before .before .before .before .before .before .before .before .before .before .before .before .before .advance .ensures)) (c .before .before .before .before .before .before .before .before .before .before .before .before .before .before .before .before .before .before .before .before .before .before .before .before .before .before .before .before .before .before .before .before .before .pre)
 
 pub turn-spec : {M : Type 1} → statement M
 turn-spec =
@@ -122,6 +84,7 @@ turn-spec =
     slice-reshare-prefix-write-all
     slice-aggregate-write-all
     write-all-requires
+    enum-told
     same-length
     same-length-2
     same-length-3
@@ -130,9 +93,6 @@ turn-spec =
     same-length-6
     same-length-7
     returns
-    slice-aggregate-fail
-    fail-requires
-    enum-told
     same-length-8
     same-length-9
     same-length-10
@@ -140,12 +100,4 @@ turn-spec =
     same-length-12
     same-length-13
     same-length-14
-    returns-2
-    same-length-15
-    same-length-16
-    same-length-17
-    same-length-18
-    same-length-19
-    same-length-20
-    same-length-21
-    returns-3)
+    returns-2)

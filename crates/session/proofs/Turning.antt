@@ -1,0 +1,72 @@
+-- The turns of a run: from what `advance` promises to the steps made from the opening.
+use mathlib.Core.Path.{_≡_, refl, sym, ap, subst, _∙_}
+use mathlib.Core.Bool.{Bool, true, false}
+use mathlib.Core.List.{List}
+use Prim.Native.Nat.{ℕ, suc, _<_}
+use native.Mathlib.Omega.{arith}
+use lib.ListN.{length}
+use Rattle.listing.specs.Bytes.{Bytes}
+use Rattle.walk.specs.Session.{session}
+use Rattle.replay.specs.Phases.{Memories, memories}
+use Rattle.replay.specs.Advancing.{lengthsSuffice, longEnough, Advances, too-short}
+use Rattle.replay.specs.Ending.{isOver, stepsLeft, AsLong, Calls, StepsMade, none, one-more}
+use Rattle.replay.specs.declared.phase.Phase.{Phase}
+use Rattle.replay.specs.declared.phase.Phase.the-variants.{Opening, Over}
+use Rattle.replay.specs.declared.phase.Advanced.{Advanced}
+use Rattle.replay.specs.declared.phase.Advanced.the-variants.{Went, TooShort}
+use Rattle.replay.proofs.Ending.{is-over, step-falls, steps-print}
+use Rattle.session.specs.Turning.{Turned, Ran, ended, not-written}
+use Rattle.session.specs.declared.Stepped.{Stepped}
+use Rattle.session.specs.declared.Ending.the-variants.{Ended, NotWritten}
+
+module _ {listing trace table machine numbers values outNumbers outValues out table′ machine′ numbers′ values′ outNumbers′ outValues′ out′ : List ℕ} {phase : Phase} {r : Advanced}
+    (a : Advances listing trace table machine numbers values outNumbers outValues out phase table′ machine′ numbers′ values′ outNumbers′ outValues′ out′ r) where
+  pub turned : {next : Phase} {n : ℕ} (b : Bool) → r ≡ Went next n →
+      AsLong (memories table machine numbers values outNumbers outValues out) (memories table′ machine′ numbers′ values′ outNumbers′ outValues′ out′) →
+      Turned listing trace (memories table machine numbers values outNumbers outValues out) phase (memories table′ machine′ numbers′ values′ outNumbers′ outValues′ out′)
+      (record { next = next; «is_written» = b })
+  turned {n = n} b e long =
+      record {
+        printed = n;
+        calls = record {
+          advances = subst (λ (x : Advanced). Advances listing trace table machine numbers values outNumbers outValues out phase table′ machine′ numbers′ values′ outNumbers′ outValues′ out′ x) e a;
+          as-long = long;
+        };
+      }
+
+-- Memories that are long enough are not too short.
+pub not-short : {listing trace table machine numbers values outNumbers outValues out table′ machine′ numbers′ values′ outNumbers′ outValues′ out′ : List ℕ} {phase : Phase} {A : Type 0} →
+    Advances listing trace table machine numbers values outNumbers outValues out phase table′ machine′ numbers′ values′ outNumbers′ outValues′ out′ TooShort →
+    longEnough table machine numbers values outNumbers outValues out ≡ true → A
+not-short (too-short short same) e = absurd (let z : _≡_ {A = ℕ} 0 1 = cc in let y : ⊥ = omega arith in y)
+
+-- Memories of these lengths are long enough.
+pub lent-long : {table machine numbers values outNumbers outValues out : ℕ} → 12288 ≡ table → 12288 ≡ machine → 17 ≡ numbers → 17 ≡ values → 16 ≡ outNumbers → 16 ≡ outValues →
+    1100 ≡ out → lengthsSuffice table machine numbers values outNumbers outValues out ≡ true
+unfolding lengthsSuffice
+lent-long a b c d e f g = rw (sym a, sym b, sym c, sym d, sym e, sym f, sym g)
+
+-- Between two turns: so many steps have been made.
+pub record Going (listing trace : Bytes) (m m′ : Memories) (phase : Phase) : Type 0 where
+  pub count : ℕ
+  pub bytes : Bytes
+  pub made : StepsMade listing trace m count m′ phase bytes
+
+pub begun : {listing trace : Bytes} {m : Memories} → Going listing trace m m Opening
+begun = record { count = 0; bytes = _; made = none }
+
+module _ {listing trace : Bytes} {m m′ : Memories} {phase : Phase} (g : Going listing trace m m′ phase) where
+  pub run-ended : isOver phase ≡ true → Ran listing trace m m′ Ended
+  run-ended e =
+      let made : StepsMade listing trace m (g .count) m′ Over (g .bytes) = subst (λ (x : Phase). StepsMade listing trace m (g .count) m′ x (g .bytes)) (is-over phase e) (g .made) in
+      ended (subst (λ (x : Bytes). StepsMade listing trace m (g .count) m′ Over x) (steps-print made) made)
+
+  module _ {m″ : Memories} {r : Stepped} (on : isOver phase ≡ false) (turn : Turned listing trace m′ phase m″ r) where
+    pub goes-on : Going listing trace m m″ (r .next)
+    goes-on = record { count = suc (g .count); bytes = _; made = one-more (g .made) on (turn .calls) }
+
+    pub run-stops : Ran listing trace m m″ NotWritten
+    run-stops = not-written (one-more (g .made) on (turn .calls))
+
+    pub fewer : stepsLeft trace (r .next) < stepsLeft trace phase
+    fewer = step-falls (g .made) on (turn .calls)

@@ -1,74 +1,58 @@
--- A session played step by step: the print so far, and what is still to be printed.
+-- A session played step by step: so far the print is what the steps printed.
 use mathlib.Core.Path.{_≡_, refl, sym, ap, subst, _∙_}
-use mathlib.Core.List.{List, [], _++_, append-assoc, append-nil}
-use Prim.Native.Nat.{ℕ, _+_, _-_, _≤_}
+use mathlib.Core.Bool.{Bool, true, false}
+use mathlib.Core.List.{List, [], _++_, append-assoc}
+use Prim.Native.Nat.{ℕ, suc, _+_, _-_, _≤_, _<_}
 use native.Mathlib.Omega.{arith}
-use lib.ListN.{length, take, drop}
-use lib.Seq.{take-add, take-all}
+use lib.Dec.{eqb}
+use lib.ListN.{length, take, drop, length-append}
+use lib.Seq.{take-add, take-all, take-at, drop-at, length-take-le}
+use borrow.Author.Tests.{eqb-true, eq-eqb}
 use Rattle.listing.specs.Bytes.{Bytes}
 use Rattle.walk.specs.Session.{session}
-use Rattle.replay.specs.Advancing.{Advances, went, Steps}
-use Rattle.replay.specs.Standing.{Stands, opening, over}
+use Rattle.replay.specs.Phases.{Memories, memories}
+use Rattle.replay.specs.Advancing.{lengthsSuffice, longEnough, Advances, too-short, went}
+use Rattle.replay.specs.Ending.{isOver, stepsLeft, AsLong, Calls, StepsMade, none, one-more}
 use Rattle.replay.specs.declared.phase.Phase.{Phase}
 use Rattle.replay.specs.declared.phase.Phase.the-variants.{Opening, Over}
 use Rattle.replay.specs.declared.phase.Advanced.{Advanced}
-use Rattle.replay.specs.declared.phase.Advanced.the-variants.{Went}
-use Rattle.session_tests.specs.Playing.{StandsAt, Follows, follows, Takes, on}
+use Rattle.replay.specs.declared.phase.Advanced.the-variants.{Went, TooShort}
+use Rattle.replay.proofs.Ending.{is-over, made-left, step-falls, steps-print}
+use Rattle.cases.specs.Words.{Tells}
+use Rattle.cases.proofs.Telling.{tells-no}
+use Rattle.session_tests.specs.Playing.{StandsAt, Follows, follows, differs, Takes, on, failed}
 use Rattle.session_tests.specs.declared.playing.Followed.{Followed}
 use Rattle.session_tests.specs.declared.playing.Followed.the-variants as FV
 use Rattle.session_tests.specs.declared.playing.Taken.{Taken}
 use Rattle.session_tests.specs.declared.playing.Taken.the-variants as TV
 
--- the step that `advance` promises
-pub step-of : {listing trace table machine ins news numbers values out : List ℕ} {phase : Phase} {table′ machine′ ins′ news′ numbers′ values′ out′ : List ℕ} {next : Phase} {n : ℕ}
-    → Advances listing trace table machine ins news numbers values out phase table′ machine′ ins′ news′ numbers′ values′ out′ (Went next n)
-    → Steps listing trace table machine ins news phase table′ machine′ ins′ news′ out′ (record { phase = next; printed = n })
-step-of (went h m) = m .steps
-
--- so far the print is the session's, and the rest is still to be printed
-pub record Playing (listing trace print table machine ins news : List ℕ) (phase : Phase) (at : ℕ) : Type 0 where
-  pub rest : Bytes
-  pub stands : Stands listing trace table machine ins news phase rest
-  pub within : at ≤ length print
-  pub parts : session listing trace ≡ take at print ++ rest
-
-pub begun : (listing trace print table machine ins news : List ℕ) → Playing listing trace print table machine ins news Opening 0
-begun listing trace print table machine ins news =
-    record { rest = session listing trace; stands = opening refl; within = omega arith; parts = refl }
-
-pub stepped : {listing trace print table machine ins news table′ machine′ ins′ news′ out′ : List ℕ} {phase next : Phase} {at n to : ℕ}
-    → Playing listing trace print table machine ins news phase at
-    → Steps listing trace table machine ins news phase table′ machine′ ins′ news′ out′ (record { phase = next; printed = n }) → to ≡ at + n
-    → StandsAt print at out′ n → Playing listing trace print table′ machine′ ins′ news′ next to
-stepped {print = print} {out′ = out′} {at = at} {n = n} {to = to} p s e a =
-    let l = s .prints (p .rest) (p .stands) in
-    let more : take to print ≡ take at print ++ take n out′ =
-    ap (λ (k : ℕ). take k print) e ∙ (take-add at n print ∙ ap (λ (x : Bytes). take at print ++ x) (a .same)) in
+-- ── one step ──────────────────────────────────────────────────────────────────────────────────────
+-- the call that `advance` promises
+pub call-of : {listing trace table machine ins news numbers values out : List ℕ} {phase : Phase} {table′ machine′ ins′ news′ numbers′ values′ out′ : List ℕ} {a : Advanced} {next : Phase}
+    {n : ℕ} → Advances listing trace table machine ins news numbers values out phase table′ machine′ ins′ news′ numbers′ values′ out′ a → a ≡ Went next n
+    → AsLong (memories table machine ins news numbers values out) (memories table′ machine′ ins′ news′ numbers′ values′ out′)
+    → Calls listing trace (memories table machine ins news numbers values out) phase (memories table′ machine′ ins′ news′ numbers′ values′ out′) (Went next n)
+call-of {listing} {trace} {table} {machine} {ins} {news} {numbers} {values} {out} {phase} {table′} {machine′} {ins′} {news′} {numbers′} {values′} {out′} k e long =
     record {
-      rest = l .rest;
-      stands = l .stands;
-      within = let h = a .stored in omega arith;
-      parts = p .parts ∙ (ap (λ (x : Bytes). take at print ++ x) (l .parts) ∙ (sym (append-assoc (take at print) (take n out′) (l .rest)) ∙ ap (λ (x : Bytes). x ++ l .rest) (sym more)));
+      advances = subst (λ (x : Advanced). Advances listing trace table machine ins news numbers values out phase table′ machine′ ins′ news′ numbers′ values′ out′ x) e k;
+      as-long = long;
     }
 
--- nothing is left to be printed
-none-left : {listing trace table machine ins news : List ℕ} {rest : Bytes} {phase : Phase} → phase ≡ Over → Stands listing trace table machine ins news phase rest → rest ≡ []
-none-left {listing} {trace} {table} {machine} {ins} {news} {rest} e s = go (subst (λ (x : Phase). Stands listing trace table machine ins news x rest) e s)
-  where
-    go : {rest : Bytes} → Stands listing trace table machine ins news Over rest → rest ≡ []
-    go over = refl
+-- memories that are long enough are not too short
+pub not-short : {listing trace table machine ins news numbers values out : List ℕ} {phase : Phase} {table′ machine′ ins′ news′ numbers′ values′ out′ : List ℕ} {A : Type 0}
+    → Advances listing trace table machine ins news numbers values out phase table′ machine′ ins′ news′ numbers′ values′ out′ TooShort
+    → longEnough table machine ins news numbers values out ≡ true → A
+not-short (too-short short same) e = absurd (let z : _≡_ {A = ℕ} 0 1 = cc in let y : ⊥ = omega arith in y)
 
-pub played : {listing trace print table machine ins news : List ℕ} {phase : Phase} {at : ℕ} → Playing listing trace print table machine ins news phase at → phase ≡ Over
-    → at ≡ length print → print ≡ session listing trace
-played {print = print} {at = at} p o e =
-    sym (p .parts ∙ (ap (λ (x : Bytes). take at print ++ x) (none-left o (p .stands)) ∙ (append-nil (take at print) ∙ take-all at print (omega arith))))
+-- memories of these lengths are long enough
+pub lent-long : {table machine ins news numbers values out : ℕ} → 12288 ≡ table → 12288 ≡ machine → 17 ≡ ins → 17 ≡ news → 16 ≡ numbers → 16 ≡ values → 1100 ≡ out
+    → lengthsSuffice table machine ins news numbers values out ≡ true
+unfolding lengthsSuffice
+lent-long a b c d e f g = rw (sym a, sym b, sym c, sym d, sym e, sym f, sym g)
 
--- ── the answers of the functions, by their cases ──────────────────────────────────────────────────
-pub step-taken : {listing trace table machine ins news numbers values out : List ℕ} {phase : Phase} {table′ machine′ ins′ news′ numbers′ values′ out′ : List ℕ} {a : Advanced} {next : Phase} {n : ℕ}
-    → Advances listing trace table machine ins news numbers values out phase table′ machine′ ins′ news′ numbers′ values′ out′ a → a ≡ Went next n
-    → Steps listing trace table machine ins news phase table′ machine′ ins′ news′ out′ (record { phase = next; printed = n })
-step-taken {listing} {trace} {table} {machine} {ins} {news} {numbers} {values} {out} {phase} {table′} {machine′} {ins′} {news′} {numbers′} {values′} {out′} k e =
-    step-of (subst (λ (x : Advanced). Advances listing trace table machine ins news numbers values out phase table′ machine′ ins′ news′ numbers′ values′ out′ x) e k)
+-- the part of the print that was compared
+pub part-is : (print : List ℕ) (at n : ℕ) → take (at + n - at) (drop at print) ≡ take n (drop at print)
+part-is print at n = ap (λ (k : ℕ). take k (drop at print)) (let z : at + n - at ≡ n = omega arith in z)
 
 pub followed : {print : List ℕ} {at : ℕ} {out : List ℕ} {n : ℕ} {f : Followed} {to : ℕ} → Follows print at out n f → f ≡ FV.To to → (to ≡ at + n) × StandsAt print at out n
 followed {print} {at} {out} {n} k e = go (subst (λ (x : Followed). Follows print at out n x) e k)
@@ -76,16 +60,83 @@ followed {print} {at} {out} {n} k e = go (subst (λ (x : Followed). Follows prin
     go : {to : ℕ} → Follows print at out n (FV.To to) → (to ≡ at + n) × StandsAt print at out n
     go (follows h s) = (h, s)
 
-pub taken-on : {listing trace print table machine ins news : List ℕ} {phase : Phase} {at : ℕ} {table′ machine′ ins′ news′ out′ : List ℕ} {t : Taken} {next : Phase} {to : ℕ}
-    → Playing listing trace print table machine ins news phase at → Takes listing trace print table machine ins news phase at table′ machine′ ins′ news′ out′ t
-    → t ≡ TV.On next to → Playing listing trace print table′ machine′ ins′ news′ next to
-taken-on {listing} {trace} {print} {table} {machine} {ins} {news} {phase} {at} {table′} {machine′} {ins′} {news′} {out′} p k e =
-    go (subst (λ (x : Taken). Takes listing trace print table machine ins news phase at table′ machine′ ins′ news′ out′ x) e k)
+pub not-followed : {print : List ℕ} {at : ℕ} {out : List ℕ} {n : ℕ} {f : Followed} → Follows print at out n f → f ≡ FV.Differs → StandsAt print at out n → ⊥
+not-followed {print} {at} {out} {n} k e = go (subst (λ (x : Followed). Follows print at out n x) e k)
   where
-    go : {next : Phase} {to : ℕ} → Takes listing trace print table machine ins news phase at table′ machine′ ins′ news′ out′ (TV.On next to)
-        → Playing listing trace print table′ machine′ ins′ news′ next to
-    go (on s h a) = stepped p s h a
+    go : Follows print at out n FV.Differs → StandsAt print at out n → ⊥
+    go (differs h) = h
 
--- the part of the print that was compared
-pub part-is : (print : List ℕ) (at n : ℕ) → take (at + n - at) (drop at print) ≡ take n (drop at print)
-part-is print at n = ap (λ (k : ℕ). take k (drop at print)) (let z : at + n - at ≡ n = omega arith in z)
+-- ── the steps so far ──────────────────────────────────────────────────────────────────────────────
+pub record Playing (listing trace print : List ℕ) (m m′ : Memories) (phase : Phase) (at : ℕ) : Type 0 where
+  pub count : ℕ
+  pub made : StepsMade listing trace m count m′ phase (take at print)
+  pub within : at ≤ length print
+
+pub begun : {listing trace print : List ℕ} {m : Memories} → Playing listing trace print m m Opening 0
+begun = record { count = 0; made = none; within = omega arith }
+
+module _ {listing trace print : List ℕ} {m m′ : Memories} {phase : Phase} {at : ℕ} (p : Playing listing trace print m m′ phase at) where
+  -- all is printed: the print is the session exactly if all of it was compared
+  pub played : isOver phase ≡ true → Tells (eqb at (length print)) (print ≡ session listing trace)
+  played e =
+      let made : StepsMade listing trace m (p .count) m′ Over (take at print) = subst (λ (x : Phase). StepsMade listing trace m (p .count) m′ x (take at print)) (is-over phase e) (p .made) in
+      let is = steps-print made in
+      let within = p .within in
+      record {
+        means = λ t. sym (take-all at print (let h = eqb-true at (length print) t in omega arith)) ∙ is;
+        whenever = λ s. eq-eqb at (length print) (sym (length-take-le at print within) ∙ ap (λ (x : List ℕ). length x) (is ∙ sym s));
+      }
+
+  module _ (going : isOver phase ≡ false) {m″ : Memories} where
+    -- what the step printed stands in a print that is the session
+    stands-there : {next : Phase} {n : ℕ} → Calls listing trace m′ phase m″ (Went next n) → n ≤ length (m″ .out) → print ≡ session listing trace → StandsAt print at (m″ .out) n
+    stands-there {n = n} call room s =
+        let left = made-left (one-more (p .made) going call) in
+        let piece = take n (m″ .out) in
+        let before = take at print in
+        let whole : print ≡ before ++ (piece ++ left .rest) = s ∙ (left .parts ∙ append-assoc before piece (left .rest)) in
+        let here : length before ≡ at = length-take-le at print (p .within) in
+        let long : length piece ≡ n = length-take-le n (m″ .out) room in
+        let sizes : length print ≡ length before + (length piece + length (left .rest)) =
+        ap (λ (x : List ℕ). length x) whole ∙ (length-append before (piece ++ left .rest) ∙ ap (λ (k : ℕ). length before + k) (length-append piece (left .rest))) in
+        record {
+          printed = room;
+          stored = omega arith;
+          same = ap (λ (x : List ℕ). take n x) (ap (λ (x : List ℕ). drop at x) whole ∙ drop-at before (piece ++ left .rest) at here) ∙ take-at piece (left .rest) n long;
+        }
+
+    went-on : {next : Phase} {n to : ℕ} → Calls listing trace m′ phase m″ (Went next n) → to ≡ at + n → StandsAt print at (m″ .out) n → Playing listing trace print m m″ next to
+    went-on {next} {n} {to} call e a =
+        let more : take at print ++ take n (m″ .out) ≡ take to print =
+        sym (ap (λ (k : ℕ). take k print) e ∙ (take-add at n print ∙ ap (λ (x : Bytes). take at print ++ x) (a .same))) in
+        record {
+          count = suc (p .count);
+          made = subst (λ (x : Bytes). StepsMade listing trace m (suc (p .count)) m″ next x) more (one-more (p .made) going call);
+          within = let h = a .stored in omega arith;
+        }
+
+    room-of : {next : Phase} {n : ℕ} → Calls listing trace m′ phase m″ (Went next n) → n ≤ length (m″ .out)
+    room-of call = by (call .advances)
+      where
+        by : {table machine ins news numbers values out table′ machine′ ins′ news′ numbers′ values′ out′ : List ℕ} {next : Phase} {n : ℕ} →
+            Advances listing trace table machine ins news numbers values out phase table′ machine′ ins′ news′ numbers′ values′ out′ (Went next n) → n ≤ length out′
+        by (went long moves) = moves .steps .room
+
+    module _ {t : Taken} (k : Takes listing trace print m′ phase at m″ t) where
+      pub taken-on : {next : Phase} {to : ℕ} → t ≡ TV.On next to → Playing listing trace print m m″ next to
+      taken-on e = go (subst (λ (x : Taken). Takes listing trace print m′ phase at m″ x) e k)
+        where
+          go : {next : Phase} {to : ℕ} → Takes listing trace print m′ phase at m″ (TV.On next to) → Playing listing trace print m m″ next to
+          go (on call h a) = went-on call h a
+
+      pub taken-less : {next : Phase} {to : ℕ} → t ≡ TV.On next to → stepsLeft trace next < stepsLeft trace phase
+      taken-less e = go (subst (λ (x : Taken). Takes listing trace print m′ phase at m″ x) e k)
+        where
+          go : {next : Phase} {to : ℕ} → Takes listing trace print m′ phase at m″ (TV.On next to) → stepsLeft trace next < stepsLeft trace phase
+          go (on call h a) = step-falls (p .made) going call
+
+      pub taken-wrong : t ≡ TV.Failed → Tells false (print ≡ session listing trace)
+      taken-wrong e = go (subst (λ (x : Taken). Takes listing trace print m′ phase at m″ x) e k)
+        where
+          go : Takes listing trace print m′ phase at m″ TV.Failed → Tells false (print ≡ session listing trace)
+          go (failed call apart) = tells-no (λ s. apart (stands-there call (room-of call) s))

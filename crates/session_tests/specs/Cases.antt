@@ -34,14 +34,15 @@ between s from to = take (to - from) (drop from s)
 abbrev pub Agrees : List ℕ → Case → Type 0
 Agrees s c = between s (c .print) (c .«print_to») ≡ session (between s (c .listing) (c .«listing_to»)) (between s (c .trace) (c .«trace_to»))
 
--- so many cases from a place on agree
-pub data AllAgree (s : List ℕ) : ℕ → ℕ → Type 0 where
-  none : {at : ℕ} → AllAgree s at 0
-  one : {at n : ℕ} (c : Case) → CaseAt s at c → Agrees s c → AllAgree s (c .«print_to») n → AllAgree s at (suc n)
+-- of so many cases from a place on so many fail
+pub data Failing (s : List ℕ) : ℕ → ℕ → ℕ → Type 0 where
+  none : {at : ℕ} → Failing s at 0 0
+  agrees : {at n k : ℕ} (c : Case) → CaseAt s at c → Agrees s c → Failing s (c .«print_to») n k → Failing s at (suc n) k
+  fails : {at n k : ℕ} (c : Case) → CaseAt s at c → (Agrees s c → ⊥) → Failing s (c .«print_to») n k → Failing s at (suc n) (suc k)
 
--- All cases of a file were run: their number stands first, and if none of them failed, all agree.
+-- All cases of a file were run: their number stands first, and so many of them fail.
 pub record Ran (s : List ℕ) (r : Tally) : Type 0 where
   pub count : r .cases ≡ wordAt s 0
   pub few : r .cases < 4294967296
   pub failed : r .failed ≤ r .cases
-  pub agree : r .failed ≡ 0 → AllAgree s (onward s 0 4) (r .cases)
+  pub counts : Failing s (onward s 0 4) (r .cases) (r .failed)

@@ -4,8 +4,12 @@ pub mod playing;
 
 ghost use mathlib.Core.Bool.{true};
 ghost use mathlib.Core.Path.{_≡_};
+ghost use lib.ListN.{length};
+ghost use Rattle.cases.specs.Words.{Tells};
+ghost use Rattle.replay.specs.Advancing.{longEnough};
+ghost use Rattle.replay.specs.Ending.{AsLong};
+ghost use Rattle.replay.specs.Phases.{memories};
 ghost use Rattle.session_tests.specs.Cases.{CaseAt, Inside, Agrees, Ran};
-ghost use Rattle.session_tests.specs.Playing.{AsLong};
 use crate::playing::plays;
 use cases::frame::part_at;
 use cases::frame::past;
@@ -56,10 +60,10 @@ fn run_case(
     values: &mut [u32],
     out: &mut [u8],
 ) -> bool
-    requires { ⌜ Inside (now s) case ⌝ }
-    ensures { λ r. ⌜ (r ≡ true → Agrees (now (s .entry)) case)
-        × AsLong (now (table .entry)) (now (machine .entry)) (now (ins .entry)) (now (news .entry)) (now (numbers .entry)) (now (values .entry)) (now (out .entry))
-        (now (table .exit)) (now (machine .exit)) (now (ins .exit)) (now (news .exit)) (now (numbers .exit)) (now (values .exit)) (now (out .exit)) ⌝ }
+    requires { ⌜ Inside (now s) case × (longEnough (now table) (now machine) (now ins) (now news) (now numbers) (now values) (now out) ≡ true) ⌝ }
+    ensures { λ r. ⌜ Tells r (Agrees (now (s .entry)) case)
+        × AsLong (memories (now (table .entry)) (now (machine .entry)) (now (ins .entry)) (now (news .entry)) (now (numbers .entry)) (now (values .entry)) (now (out .entry)))
+        (memories (now (table .exit)) (now (machine .exit)) (now (ins .exit)) (now (news .exit)) (now (numbers .exit)) (now (values .exit)) (now (out .exit))) ⌝ }
 {
     let listing = case.listing;
     let listing_to = case.listing_to;
@@ -104,9 +108,10 @@ fn run_file(
     values: &mut [u32],
     out: &mut [u8],
 ) -> Tally
+    requires { ⌜ longEnough (now table) (now machine) (now ins) (now news) (now numbers) (now values) (now out) ≡ true ⌝ }
     ensures { λ r. ⌜ Ran (now (s .entry)) r
-        × AsLong (now (table .entry)) (now (machine .entry)) (now (ins .entry)) (now (news .entry)) (now (numbers .entry)) (now (values .entry)) (now (out .entry))
-        (now (table .exit)) (now (machine .exit)) (now (ins .exit)) (now (news .exit)) (now (numbers .exit)) (now (values .exit)) (now (out .exit)) ⌝ }
+        × AsLong (memories (now (table .entry)) (now (machine .entry)) (now (ins .entry)) (now (news .entry)) (now (numbers .entry)) (now (values .entry)) (now (out .entry)))
+        (memories (now (table .exit)) (now (machine .exit)) (now (ins .exit)) (now (news .exit)) (now (numbers .exit)) (now (values .exit)) (now (out .exit))) ⌝ }
 {
     let count = word_at(s, 0) as u64;
     let mut at = past(s, 0, 4);
@@ -126,16 +131,44 @@ fn run_file(
     }
 }
 
+// A table or a machine.
+fn memory() -> [u32; 12288]
+    ensures { λ r. ⌜ 12288 ≡ length r ⌝ }
+{
+    [0; 12288]
+}
+
+// The inputs of a call.
+fn inputs() -> [u32; 17]
+    ensures { λ r. ⌜ 17 ≡ length r ⌝ }
+{
+    [0; 17]
+}
+
+// The outputs that a call lists.
+fn outputs() -> [u32; 16]
+    ensures { λ r. ⌜ 16 ≡ length r ⌝ }
+{
+    [0; 16]
+}
+
+// What one step prints.
+fn piece() -> [u8; 1100]
+    ensures { λ r. ⌜ 1100 ≡ length r ⌝ }
+{
+    [0; 1100]
+}
+
 fn main() {
     let mut file = io::large_buffer();
     let length = read_file(b"sessions.dat", &mut file);
-    let mut table = [0u32; 12288];
-    let mut machine = [0u32; 12288];
-    let mut ins = [0u32; 17];
-    let mut news = [0u32; 17];
-    let mut numbers = [0u32; 16];
-    let mut values = [0u32; 16];
-    let mut out = [0u8; 1100];
+    let mut table = memory();
+    let mut machine = memory();
+    let mut ins = inputs();
+    let mut news = inputs();
+    let mut numbers = outputs();
+    let mut values = outputs();
+    let mut out = piece();
     let tally = run_file(
         &file[..length],
         &mut table,

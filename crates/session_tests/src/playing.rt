@@ -1,8 +1,12 @@
 // One session, step by step, each piece held against the stored print.
+ghost use mathlib.Core.Bool.{true};
 ghost use mathlib.Core.Path.{_≡_};
-ghost use Rattle.replay.specs.declared.phase.Phase.the-variants.{Over};
+ghost use Rattle.walk.specs.Session.{session};
+ghost use Rattle.replay.specs.Advancing.{longEnough};
+ghost use Rattle.replay.specs.Ending.{isOver, AsLong};
+ghost use Rattle.replay.specs.Phases.{memories};
 ghost use Rattle.cases.specs.Words.{Tells};
-ghost use Rattle.session_tests.specs.Playing.{Follows, Takes, AsLong, Plays};
+ghost use Rattle.session_tests.specs.Playing.{Follows, Takes};
 use replay::Advanced;
 use replay::Phase;
 use replay::advance;
@@ -53,10 +57,10 @@ fn take_step(
     phase: Phase,
     at: usize,
 ) -> Taken
-    ensures { λ r. ⌜ Takes (now (listing .entry)) (now (trace .entry)) (now (print .entry)) (now (table .entry)) (now (machine .entry)) (now (ins .entry)) (now (news .entry)) phase at
-        (now (table .exit)) (now (machine .exit)) (now (ins .exit)) (now (news .exit)) (now (out .exit)) r
-        × AsLong (now (table .entry)) (now (machine .entry)) (now (ins .entry)) (now (news .entry)) (now (numbers .entry)) (now (values .entry)) (now (out .entry))
-        (now (table .exit)) (now (machine .exit)) (now (ins .exit)) (now (news .exit)) (now (numbers .exit)) (now (values .exit)) (now (out .exit)) ⌝ }
+    requires { ⌜ longEnough (now table) (now machine) (now ins) (now news) (now numbers) (now values) (now out) ≡ true ⌝ }
+    ensures { λ r. ⌜ Takes (now (listing .entry)) (now (trace .entry)) (now (print .entry))
+        (memories (now (table .entry)) (now (machine .entry)) (now (ins .entry)) (now (news .entry)) (now (numbers .entry)) (now (values .entry)) (now (out .entry))) phase at
+        (memories (now (table .exit)) (now (machine .exit)) (now (ins .exit)) (now (news .exit)) (now (numbers .exit)) (now (values .exit)) (now (out .exit))) r ⌝ }
 {
     match advance(
         listing,
@@ -70,6 +74,7 @@ fn take_step(
         out,
         phase,
     ) {
+        // never: the memories are long enough
         Advanced::TooShort => Taken::Failed,
         Advanced::Went(next, n) => match follows(print, at, out, n) {
             Followed::Differs => Taken::Failed,
@@ -79,12 +84,19 @@ fn take_step(
 }
 
 fn is_over(phase: Phase) -> bool
-    ensures { λ r. ⌜ Tells r (phase ≡ Over) ⌝ }
+    ensures { λ r. ⌜ r ≡ isOver phase ⌝ }
 {
-    if let Phase::Over = phase { true } else { false }
+    match phase {
+        Phase::Opening => false,
+        Phase::Starting => false,
+        Phase::Reading(_, _) => false,
+        Phase::Toward(_, _, _, _) => false,
+        Phase::Until(_, _, _) => false,
+        Phase::Over => true,
+    }
 }
 
-// Does the session print what is stored, and nothing more? A session of the file has far fewer steps than are counted here.
+// Is what is stored what the session prints?
 pub fn plays(
     listing: &[u8],
     trace: &[u8],
@@ -97,15 +109,14 @@ pub fn plays(
     values: &mut [u32],
     out: &mut [u8],
 ) -> bool
-    ensures { λ r. ⌜ Plays (now (listing .entry)) (now (trace .entry)) (now (print .entry)) r
-        × AsLong (now (table .entry)) (now (machine .entry)) (now (ins .entry)) (now (news .entry)) (now (numbers .entry)) (now (values .entry)) (now (out .entry))
-        (now (table .exit)) (now (machine .exit)) (now (ins .exit)) (now (news .exit)) (now (numbers .exit)) (now (values .exit)) (now (out .exit)) ⌝ }
+    requires { ⌜ longEnough (now table) (now machine) (now ins) (now news) (now numbers) (now values) (now out) ≡ true ⌝ }
+    ensures { λ r. ⌜ Tells r (now (print .entry) ≡ session (now (listing .entry)) (now (trace .entry)))
+        × AsLong (memories (now (table .entry)) (now (machine .entry)) (now (ins .entry)) (now (news .entry)) (now (numbers .entry)) (now (values .entry)) (now (out .entry)))
+        (memories (now (table .exit)) (now (machine .exit)) (now (ins .exit)) (now (news .exit)) (now (numbers .exit)) (now (values .exit)) (now (out .exit))) ⌝ }
 {
     let mut phase = Phase::Opening;
     let mut at: usize = 0;
-    let mut turns: u32 = 100000;
-    while turns > 0 {
-        turns -= 1;
+    while !is_over(phase) {
         let Taken::On(next, to) = take_step(
             listing,
             trace,
@@ -122,11 +133,8 @@ pub fn plays(
         ) else {
             return false;
         };
-        at = to;
         phase = next;
-        if is_over(next) {
-            return at == print.len();
-        }
+        at = to;
     }
-    false
+    at == print.len()
 }

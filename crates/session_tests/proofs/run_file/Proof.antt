@@ -1,10 +1,14 @@
-use mathlib.Core.Path.{_≡_, refl, _∙_}
+-- `session_tests::run_file` meets its contract.
+use mathlib.Core.Path.{_≡_, refl, sym, _∙_}
 use mathlib.Core.Logic.{⊎-elim}
 use native.Mathlib.Omega.{arith}
 use Prim.Native.Nat.{_-_, _≤_, _<_}
-use borrow.Author.Tests.{not-false}
+use borrow.Author.Tests.{not-true, not-false}
 use Rattle.cases.specs.Frame.{wordAt, onward}
-use Rattle.session_tests.specs.Playing.{AsLong}
+use Rattle.replay.specs.Phases.{memories}
+use Rattle.replay.specs.Ending.{AsLong}
+use Rattle.replay.proofs.Ending.{still-long}
+use Rattle.cases.proofs.Telling.{never}
 use Rattle.session_tests.proofs.Turning.{Rest, begun, one-agrees, one-fails, ended}
 use borrow.Author.Needs.{needs}
 use Rattle.session_tests.proofs.run_file.Statement.{statement}
@@ -12,7 +16,7 @@ use Rattle.session_tests.proofs.run_file.Tie as tie
 
 abbrev Inv-loop : tie.InvT-loop
 Inv-loop s table₀ machine₀ ins₀ news₀ numbers₀ values₀ out₀ count at₀ done₀ failed₀ table machine ins news numbers values out at done failed =
-    (count ≡ wordAt s 0) × (count < 4294967296) × (done ≤ count) × (failed ≤ done) × AsLong table₀ machine₀ ins₀ news₀ numbers₀ values₀ out₀ table machine ins news numbers values out × Rest s (onward s 0 4) count at done failed
+    (count ≡ wordAt s 0) × (count < 4294967296) × (done ≤ count) × (failed ≤ done) × AsLong (memories table₀ machine₀ ins₀ news₀ numbers₀ values₀ out₀) (memories table machine ins news numbers values out) × Rest s (onward s 0 4) count at done failed
 
 abbrev μ-loop : tie.MeasureT-loop
 μ-loop s table₀ machine₀ ins₀ news₀ numbers₀ values₀ out₀ count at₀ done₀ failed₀ table machine ins news numbers values out at done failed = count - done
@@ -30,15 +34,14 @@ past-requires c κs =
 
 loop-holds : tie.Need-loop-holds Inv-loop μ-loop
 loop-holds c =
-    (c .before .word-at .ensures, omega arith, omega arith, omega arith, record { tableIs = refl; machineIs = refl; insAre = refl; newsAre = refl; numbersAre = refl; valuesAre = refl; outIs = refl }, begun (c .past .ensures))
+    (c .before .word-at .ensures, omega arith, omega arith, omega arith, record { table-is = refl; machine-is = refl; numbers-are = refl; values-are = refl; out-numbers-are = refl; out-values-are = refl; out-is = refl }, begun (c .past .ensures))
 
 case-at-requires : tie.Need-case-at-requires Inv-loop μ-loop
 case-at-requires c κs =
     tt
 
 run-case-requires : tie.Need-run-case-requires Inv-loop μ-loop
-run-case-requires c κs =
-    c .before .before .before .before .before .before .before .case-at .ensures .1
+run-case-requires c κs = (c .before .before .before .before .before .before .before .case-at .ensures .1, still-long (c .before .before .before .before .before .before .before .before .before .loop .inv .4) (c .before .before .before .before .before .before .before .before .before .before .before .before .before .before .before .before .before .before .before .before .pre))
 
 add-failed : tie.Need-add-failed Inv-loop μ-loop
 add-failed c = omega arith
@@ -58,46 +61,46 @@ loop-again c =
       i .1,
       omega arith,
       ⊎-elim (λ w. omega arith) (λ w. omega arith) (c .if1 .came),
-      record { tableIs = r .1 .tableIs ∙ i .4 .tableIs; machineIs = r .1 .machineIs ∙ i .4 .machineIs; insAre = r .1 .insAre ∙ i .4 .insAre; newsAre = r .1 .newsAre ∙ i .4 .newsAre; numbersAre = r .1 .numbersAre ∙ i .4 .numbersAre; valuesAre = r .1 .valuesAre ∙ i .4 .valuesAre; outIs = r .1 .outIs ∙ i .4 .outIs },
+      record { table-is = r .1 .table-is ∙ i .4 .table-is; machine-is = r .1 .machine-is ∙ i .4 .machine-is; numbers-are = r .1 .numbers-are ∙ i .4 .numbers-are; values-are = r .1 .values-are ∙ i .4 .values-are; out-numbers-are = r .1 .out-numbers-are ∙ i .4 .out-numbers-are; out-values-are = r .1 .out-values-are ∙ i .4 .out-values-are; out-is = r .1 .out-is ∙ i .4 .out-is },
       ⊎-elim
-          (λ w. one-fails (c .before .before .before .before .before .before .before .before .before .before .before .before .before .before .before .before .before .before .before .before .before .before .before .before .before .loop .failed) (w .1))
-          (λ w. one-agrees (case .result) (case .ensures .0) (r .0 (not-false _ (w .0 .left))) (c .before .before .before .before .before .before .before .before .before .before .before .before .before .before .before .before .before .before .before .before .before .before .before .before .loop-test .taken) (w .1) (i .5))
+          (λ w. one-fails (case .result) (case .ensures .0) (c .before .before .before .before .before .before .before .before .before .before .before .before .before .before .before .before .before .before .before .before .before .before .before .before .loop-test .taken) (i .5) (λ a. never (sym (not-true _ (w .0 .taken)) ∙ r .0 .whenever a)) (w .1))
+          (λ w. one-agrees (case .result) (case .ensures .0) (c .before .before .before .before .before .before .before .before .before .before .before .before .before .before .before .before .before .before .before .before .before .before .before .before .loop-test .taken) (i .5) (r .0 .means (not-false _ (w .0 .left))) (w .1))
           (c .if1 .came),
     )
 
 same-length : tie.Need-same-length Inv-loop μ-loop
 same-length c =
-    c .before .loop .inv .4 .tableIs
+    c .before .loop .inv .4 .table-is
 
 same-length-2 : tie.Need-same-length-2 Inv-loop μ-loop
 same-length-2 c =
-    c .before .loop .inv .4 .machineIs
+    c .before .loop .inv .4 .machine-is
 
 same-length-3 : tie.Need-same-length-3 Inv-loop μ-loop
 same-length-3 c =
-    c .before .loop .inv .4 .insAre
+    c .before .loop .inv .4 .numbers-are
 
 same-length-4 : tie.Need-same-length-4 Inv-loop μ-loop
 same-length-4 c =
-    c .before .loop .inv .4 .newsAre
+    c .before .loop .inv .4 .values-are
 
 same-length-5 : tie.Need-same-length-5 Inv-loop μ-loop
 same-length-5 c =
-    c .before .loop .inv .4 .numbersAre
+    c .before .loop .inv .4 .out-numbers-are
 
 same-length-6 : tie.Need-same-length-6 Inv-loop μ-loop
 same-length-6 c =
-    c .before .loop .inv .4 .valuesAre
+    c .before .loop .inv .4 .out-values-are
 
 same-length-7 : tie.Need-same-length-7 Inv-loop μ-loop
 same-length-7 c =
-    c .before .loop .inv .4 .outIs
+    c .before .loop .inv .4 .out-is
 
 returns : tie.Need-returns Inv-loop μ-loop
 returns c =
     let i = c .before .loop .inv in
     let e : c .before .loop .done ≡ c .before .before .before .word-at .result = omega arith in
-    (record { count = e ∙ i .0; few = omega arith; failed = i .3; agree = λ z. rw e (ended (c .loop-test .left) (i .5) z) }, i .4)
+    (record { count = e ∙ i .0; few = omega arith; failed = i .3; counts = rw e (ended (c .loop-test .left) (i .5)) }, i .4)
 
 pub run-file-spec : {M : Type 1} → statement M
 run-file-spec =

@@ -48,7 +48,8 @@ slice-aggregate-run-7 c = search needs
 
 run-requires : tie.Need-run-requires
 run-requires c κs =
-    lent-long (c .before .before .before .before .before .before .before .before .before .before .before .before .before .memory .ensures) (c .before .before .before .before .before .before .before .before .before .before .before .before .memory2 .ensures) (c .before .before .before .before .before .before .before .before .before .before .before .inputs .ensures) (c .before .before .before .before .before .before .before .before .before .before .inputs2 .ensures) (c .before .before .before .before .before .before .before .before .before .outputs .ensures) (c .before .before .before .before .before .before .before .before .outputs2 .ensures) (c .before .before .before .before .before .before .before .piece .ensures)
+    lent-long (c .before .before .before .before .before .before .before .before .before .before .before .before .before .memory .ensures) (c .before .before .before .before .before .before .before .before .before .before .before .before .memory2 .ensures) (c .before .before .before .before .before .before .before .before .before .before .before .inputs .ensures)
+    (c .before .before .before .before .before .before .before .before .before .before .inputs2 .ensures) (c .before .before .before .before .before .before .before .before .before .outputs .ensures) (c .before .before .before .before .before .before .before .before .outputs2 .ensures) (c .before .before .before .before .before .before .before .piece .ensures)
 
 returns : tie.Need-returns
 returns c = search needs

@@ -73,7 +73,9 @@ same-length-14 : tie.Need-same-length-14
 same-length-14 c = c .before .before .before .out .given
 
 returns-2 : tie.Need-returns-2
-returns-2 c = not-short (rw (c .enum-told .given .1) at (c .before .before .before .before .before .before .before .before .before .before .before .before .before .before .before .before .advance .ensures)) (c .before .before .before .before .before .before .before .before .before .before .before .before .before .before .before .before .before .before .before .before .before .before .before .before .before .before .before .before .before .before .before .before .before .pre)
+returns-2 c =
+    not-short (rw (c .enum-told .given .1) at (c .before .before .before .before .before .before .before .before .before .before .before .before .before .before .before .before .advance .ensures))
+    (c .before .before .before .before .before .before .before .before .before .before .before .before .before .before .before .before .before .before .before .before .before .before .before .before .before .before .before .before .before .before .before .before .before .pre)
 
 pub turn-spec : {M : Type 1} → statement M
 turn-spec =

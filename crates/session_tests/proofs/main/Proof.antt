@@ -66,7 +66,8 @@ slice-aggregate-run-file-8 c = search needs
 
 run-file-requires : tie.Need-run-file-requires
 run-file-requires c κs =
-    lent-long (c .before .before .before .before .before .before .before .before .before .before .before .before .before .before .memory .ensures) (c .before .before .before .before .before .before .before .before .before .before .before .before .before .memory2 .ensures) (c .before .before .before .before .before .before .before .before .before .before .before .before .inputs .ensures) (c .before .before .before .before .before .before .before .before .before .before .before .inputs2 .ensures) (c .before .before .before .before .before .before .before .before .before .before .outputs .ensures) (c .before .before .before .before .before .before .before .before .before .outputs2 .ensures) (c .before .before .before .before .before .before .before .before .piece .ensures)
+    lent-long (c .before .before .before .before .before .before .before .before .before .before .before .before .before .before .memory .ensures) (c .before .before .before .before .before .before .before .before .before .before .before .before .before .memory2 .ensures) (c .before .before .before .before .before .before .before .before .before .before .before .before .inputs .ensures)
+    (c .before .before .before .before .before .before .before .before .before .before .before .inputs2 .ensures) (c .before .before .before .before .before .before .before .before .before .before .outputs .ensures) (c .before .before .before .before .before .before .before .before .before .outputs2 .ensures) (c .before .before .before .before .before .before .before .before .piece .ensures)
 
 slice-aggregate-sum-up : tie.Need-slice-aggregate-sum-up
 slice-aggregate-sum-up c = search needs

@@ -7,6 +7,7 @@ pub mod Text
 pub mod Limits
 pub mod Questions
 pub mod Load
+pub mod Causes
 pub mod WellFormed
 pub mod Evaluation
 pub mod Paper

@@ -3,45 +3,64 @@
 -- calls answer as the walk, and of the walk the claim is proved.
 use mathlib.Core.Path.{_≡_, refl, sym, ap, ap₂, _∙_, subst}
 use mathlib.Core.List.{List, [], _∷_, _++_, List·Memᴰ, List·Memᴰ·head}
+use mathlib.Core.Option.{Option, some}
+use Prim.Native.Nat.{ℕ}
 use Rattle.listing.specs.Listing.{Listing, Call}
 use Rattle.listing.specs.Load.{Loads}
 use Rattle.listing.proofs.Determine.{one-listing}
 use Rattle.walk.specs.Instant.{Done}
-use Rattle.walk.specs.Calls.{Layout, running, done, startOn}
-use Rattle.walk.specs.Runs.{Run, answers, acceptedInputs, reportedWrites, timeOf}
+use Rattle.walk.specs.Calls.{Layout, Machine, running, firstWords, Outcome, done, outcomeNumber, outcomeListed, startOn}
+use Rattle.walk.specs.Events.{eventsAt}
+use Rattle.walk.specs.Runs.{Run, answersFrom, answersFromFound, foundAfter, reported, answers, acceptedInputs, reportedWrites, timeOf}
+use Rattle.walk.specs.Promises.{resultOf}
+use Rattle.walk.specs.Promises as Promises
 use Rattle.walk.specs.Boards.{BoardRun, asInstantCalls}
 use Rattle.halves.specs.Halves.{RunFor, onlyOf, Agree}
 use Rattle.halves.proofs.Demand3 as Walk
 use Rattle.promises.specs.Exact.{Exact}
-use Rattle.promises.proofs.Board.{BoardSession, board-session}
+use Rattle.promises.specs.Sessions.{resultsOf, resultsOn, StopsAreNumbered, BoardSession}
+use Rattle.promises.proofs.Board.{board-session, start-went-through, answers-of-known}
 use Rattle.board_halves.specs.Boards.{boardAccepted, boardTime, boardWrites, BoardRunFor, BoardsAgree}
 use Rattle.board_halves.proofs.Told.{calls-told}
 
 -- ── a board's run as a run of the walk ────────────────────────────────────────────────────────────
-abbrev asRun : Listing → {layout : Layout} → BoardRun layout → Run
+abbrev pub asRun : Listing → {layout : Layout} → BoardRun layout → Run
 asRun listing run = record { listing = listing; allowance = run .allowance; calls = asInstantCalls (run .table) (run .machine) (run .calls) }
 
-record OnTheWalk (listing : Listing) {layout : Layout} (run : BoardRun layout) : Type 0 where
-  d : Done
-  starts : startOn listing (run .allowance) ≡ done d
-  accepts : acceptedInputs (asRun listing run) d ≡ boardAccepted (run .calls)
-  time : timeOf (asRun listing run) d ≡ boardTime 0 (run .calls)
-  writes : reportedWrites (asRun listing run) d ≡ boardWrites run
+number-told : (o : Outcome) → (resultOf o) .number ≡ outcomeNumber o
+unfolding resultOf
+number-told o = refl
 
-module _ {layout : Layout} (exact : Exact layout) (run : BoardRun layout) where
+pub record OnTheWalk (listing : Listing) {layout : Layout} (run : BoardRun layout) : Type 0 where
+  pub d : Done
+  pub starts : startOn listing (run .allowance) ≡ done d
+  pub results : resultsOn (run .calls) ≡ resultsOf (answers (asRun listing run) d)
+  pub accepts : acceptedInputs (asRun listing run) d ≡ boardAccepted (run .calls)
+  pub time : timeOf (asRun listing run) d ≡ boardTime 0 (run .calls)
+  pub writes : reportedWrites (asRun listing run) d ≡ boardWrites run
+
+module _ {layout : Layout} (exact : Exact layout) (run : BoardRun layout) (started : (run .result) .number ≡ 0) where
+  -- the start went through, so that the machine before the calls is the walk's after its start
   of-session : (b : BoardSession layout run) → OnTheWalk (b .listing) run
-  unfolding acceptedInputs timeOf reportedWrites answers boardWrites
+  unfolding acceptedInputs timeOf reportedWrites answers boardWrites outcomeListed foundAfter
   of-session b =
-      let told = calls-told (b .listing) (run .table) (run .machine) (running ((b .d) .state)) (run .calls) (b .calls .results) (b .calls .stops) in
+      let w = start-went-through (b .listing) (run .allowance) _ (b .outcome) (b .starts) (sym (number-told (b .outcome)) ∙ sym (ap (λ (r : Promises.Result). r .number) (b .startResult)) ∙ started) in
+      let found : layout .readMachine (b .listing) (firstWords (run .machine)) ≡ some (running ((w .d) .state)) = b .startMachine ∙ ap (foundAfter _) (w .is) in
+      let calls = asInstantCalls (run .table) (run .machine) (run .calls) in
+      let same : answersFromFound (b .listing) (layout .readMachine (b .listing) (firstWords (run .machine))) calls ≡ answersFrom (b .listing) (running ((w .d) .state)) calls =
+      ap (λ (m : Option Machine). answersFromFound (b .listing) m calls) found ∙ answers-of-known (b .listing) (running ((w .d) .state)) calls in
+      let told = calls-told (b .listing) (run .table) (run .machine) (running ((w .d) .state)) (run .calls)
+      (b .calls .results ∙ ap resultsOf same) (subst StopsAreNumbered same (b .calls .stops)) in
       record {
-        d = b .d;
-        starts = b .starts;
+        d = w .d;
+        starts = w .starts;
+        results = b .calls .results ∙ ap resultsOf same;
         accepts = told .accepts;
         time = told .times 0;
-        writes = ap₂ _++_ (sym (b .startWrites)) (sym (b .calls .writes));
+        writes = ap₂ _++_ (ap (λ (o : Outcome). eventsAt 0 (outcomeListed o)) (sym (w .is)) ∙ sym (b .startWrites)) (ap reported (sym same) ∙ sym (b .calls .writes));
       }
 
-  on-the-walk : (listing : Listing) → Loads (run .text) listing → OnTheWalk listing run
+  pub on-the-walk : (listing : Listing) → Loads (run .text) listing → OnTheWalk listing run
   on-the-walk listing loads =
       let b = board-session layout exact run in
       subst (λ l. OnTheWalk l run) (one-listing (run .text) (b .listing) listing (b .loads) loads) (of-session b)
@@ -52,8 +71,8 @@ pub demand-3 : (layout layout′ : Layout) → Exact layout → Exact layout′ 
     (growers : List Call) (c : Call) → List·Memᴰ c growers → BoardRunFor growers listing run → BoardRunFor growers listing′ run′ →
     BoardsAgree c listing listing′ run run′ → onlyOf c (boardWrites run) ≡ onlyOf c (boardWrites run′)
 demand-3 layout layout′ exact exact′ run run′ listing listing′ growers c m r r′ agree =
-    let w = on-the-walk exact run listing (r .loads) in
-    let w′ = on-the-walk exact′ run′ listing′ (r′ .loads) in
+    let w = on-the-walk exact run (r .started) listing (r .loads) in
+    let w′ = on-the-walk exact′ run′ (r′ .started) listing′ (r′ .loads) in
     let agrees : Agree c (asRun listing run) (asRun listing′ run′) (w .d) (w′ .d) = record {
       listings = agree .listings;
       accepted = ap (onlyOf c) (w .accepts) ∙ agree .accepted ∙ ap (onlyOf c) (sym (w′ .accepts));

@@ -17,7 +17,7 @@ use Rattle.walk.specs.Promises.{resultOf}
 use Rattle.walk.specs.Promises as Promises
 use Rattle.walk.specs.Boards.{BoardCall, asInstantCall, asInstantCalls}
 use Rattle.walk_laws.proofs.Booleans.{and-left}
-use Rattle.promises.proofs.Session.{resultsOf, resultsOn, StopsAre13To17, one-answer}
+use Rattle.promises.specs.Sessions.{resultsOf, resultsOn, StopsAreNumbered, one-answer}
 use Rattle.board_halves.specs.Boards.{ifZero, boardAccepted, boardTime}
 
 -- ── numbers other than 0 ──────────────────────────────────────────────────────────────────────────
@@ -74,15 +74,15 @@ head-result r r′ rs rs′ e = cc
 tail-results : (r r′ : Promises.Result) (rs rs′ : List Promises.Result) → r ∷ rs ≡ r′ ∷ rs′ → rs ≡ rs′
 tail-results r r′ rs rs′ e = cc
 
-first-stops : (a : Answered) (xs : List Answered) → StopsAre13To17 (a ∷ xs) → (j : ℕ) → a .outcome ≡ stopped j → isStop j ≡ true
+first-stops : (a : Answered) (xs : List Answered) → StopsAreNumbered (a ∷ xs) → (j : ℕ) → a .outcome ≡ stopped j → isStop j ≡ true
 first-stops a xs (one-answer h rest) = h
 
-later-stops : (a : Answered) (xs : List Answered) → StopsAre13To17 (a ∷ xs) → StopsAre13To17 xs
+later-stops : (a : Answered) (xs : List Answered) → StopsAreNumbered (a ∷ xs) → StopsAreNumbered xs
 later-stops a xs (one-answer h rest) = rest
 
 pub calls-told : (listing : Listing) (table machine : List ℕ) (m : Machine) (cs : List BoardCall) →
     resultsOn cs ≡ resultsOf (answersFrom listing m (asInstantCalls table machine cs)) →
-    StopsAre13To17 (answersFrom listing m (asInstantCalls table machine cs)) → Told cs (answersFrom listing m (asInstantCalls table machine cs))
+    StopsAreNumbered (answersFrom listing m (asInstantCalls table machine cs)) → Told cs (answersFrom listing m (asInstantCalls table machine cs))
 unfolding answersFrom asInstantCalls asInstantCall resultsOn resultsOf accepted timeFrom boardAccepted boardTime
 calls-told listing table machine m [] e s = record { accepts = refl; times = λ t. refl }
 calls-told listing table machine m (c ∷ cs) e s =

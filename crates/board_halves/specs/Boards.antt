@@ -28,10 +28,12 @@ boardTime t (c ∷ cs) = boardTime (ifZero ((c .result) .number) (c .time) t) cs
 unfoldable pub boardWrites : {layout : Layout} → BoardRun layout → List Event
 boardWrites run = listedBy 0 (run .result) (run .numbers) (run .values) ++ boardReported (run .calls)
 
--- A board's run on a listing let to these growers.
+-- A board's run on a listing let to these growers: "A run is a halved listing loaded with number 0, a start on its table with number 0,
+-- and then any list of instant calls, refused ones too."
 pub record BoardRunFor (growers : List Call) (listing : Listing) {layout : Layout} (run : BoardRun layout) : Type 0 where
   pub letTo : LetTo growers listing
   pub loads : Loads (run .text) listing
+  pub started : (run .result) .number ≡ 0
 
 -- "that agree in the first line, in main, in the first's routines with their numbers, in the list of accepted inputs (moment, input, value)
 -- that are the first's, and in the time. Nothing else need agree."

@@ -38,7 +38,8 @@ use Rattle.conclusion.specs.declared.answers.Answer.{Answer}
 use Rattle.conclusion.specs.Conclusions.{Leaves, leaves-stopped, leaves-state, Concludes, MayConclude}
 use Rattle.engine.specs.Works.{MayInstant}
 use Rattle.questions.proofs.TableSize.{first-words32}
-use Rattle.engine.proofs.Literals.{literals-are-words, inputs-are-words}
+use Rattle.walk_laws.proofs.Literals.{inputs-are-words}
+use Rattle.engine.proofs.Literals.{literals-are-words}
 
 -- ── words of before that the call's first parts keep ──────────────────────────────────────────────
 leaves-from : {listing : Listing} {w₀ w₂ w₃ : List ℕ} {o : walk.Result Done} → length w₂ ≡ length w₀ → drop 12288 w₂ ≡ drop 12288 w₀ →

@@ -11,7 +11,7 @@ use Rattle.listing.specs.Listing.{Listing, Routine, Call, literal, assign, fork
 use Rattle.walk.specs.Runs.{InstantCall, Run}
 use Rattle.halves.specs.Halves.{allApart}
 use Rattle.halves.proofs.Evaluation.{startOf, told}
-use Rattle.halves.proofs.Examples.{first, main, three, press, water, steady, oneListing, at, input, opened, closed, pressed}
+use Rattle.halves.specs.Examples.{first, main, three, press, water, steady, oneListing, at, input, opened, closed, pressed}
 
 abbrev run : Listing → List InstantCall → Run
 run listing calls = record { listing = listing; allowance = 100; calls = calls }

@@ -1,3 +1,5 @@
 pub mod Session
 pub mod Board
 pub mod Causes
+pub mod Words
+pub mod Exists

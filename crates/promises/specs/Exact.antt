@@ -25,6 +25,7 @@ pub record TableWords (layout : Layout) (listing : Listing) : Type 0 where
 pub record MachineWords (layout : Layout) (listing : Listing) (m : Machine) : Type 0 where
   pub words : List ℕ
   pub long : length words ≡ memoryWords
+  pub words32 : Words32 words
   pub reads : layout .readMachine listing words ≡ some m
 
 -- 6 "Is the table one that loading some listing leaves?", and one table a listing

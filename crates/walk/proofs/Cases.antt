@@ -11,7 +11,7 @@ use lib.Dec.{eqb}
 use Rattle.walk.specs.Instant.{Write, never, moment}
 use Rattle.walk.specs.Runs.{InstantCall}
 use Rattle.walk.specs.Evaluation.{Seen, callsQuoted}
-use Rattle.walk.proofs.Paper.{press, tick, did, turnedAway}
+use Rattle.walk.specs.Paper.{press, tick, did, turnedAway}
 
 -- ── the form of a case ────────────────────────────────────────────────────────────────────────────
 -- Texts are written as document 01 shows them: "fields parted by one tab (shown here as `|`)".

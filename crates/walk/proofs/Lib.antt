@@ -4,3 +4,4 @@ pub mod StopCases
 pub mod SessionCases
 pub mod CallCases
 pub mod Question7Cases
+pub mod Kept

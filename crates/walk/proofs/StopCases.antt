@@ -3,7 +3,7 @@ use mathlib.Core.Path.{_≡_, refl}
 use mathlib.Core.List.{List, [], _∷_}
 use Prim.Native.String.{String}
 use Rattle.walk.specs.Instant.{never, moment}
-use Rattle.walk.proofs.Paper.{press, tick, did, turnedAway}
+use Rattle.walk.specs.Paper.{press, tick, did, turnedAway}
 use Rattle.walk.proofs.Cases.{Case, given, expected, case, caseWith, _⇒_, _≔_, call, tooShort, pressed}
 
 -- ── "While running, before each instruction, the first no stops the machine" ──────────────────────

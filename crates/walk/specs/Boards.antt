@@ -1,8 +1,9 @@
 -- Boards: a whole list of calls as the calls' promises allow it, over any words of table and machine.
 use mathlib.Core.Path.{_≡_}
 use mathlib.Core.List.{List, [], _∷_, _++_}
-use Prim.Native.Nat.{ℕ}
+use Prim.Native.Nat.{ℕ, _<_}
 use lib.ListN.{take}
+use Rattle.words.specs.Moments.{momentRange}
 use Rattle.listing.specs.Load.{Loading, loadingNumber}
 use Rattle.walk.specs.Calls.{Words32, Layout, inputsOf, instantLongEnough}
 use Rattle.walk.specs.Events.{Event, eventsAt}
@@ -23,6 +24,24 @@ pub record BoardCall : Type 0 where
   pub valuesAfter : List ℕ
   pub result : Result
 
+-- What a call is handed, its table and machine apart.
+pub record CallArguments : Type 0 where
+  pub time : ℕ
+  pub inNumbers : List ℕ
+  pub inValues : List ℕ
+  pub numbers : List ℕ
+  pub values : List ℕ
+  pub allowance : ℕ
+
+unfoldable pub argumentsOf : BoardCall → CallArguments
+argumentsOf c =
+    record { time = c .time; inNumbers = c .inNumbers; inValues = c .inValues; numbers = c .numbers; values = c .values; allowance = c .allowance }
+
+-- "a moment has 64 bits", and a lent word 32.
+pub data AllFit : List CallArguments → Type 0 where
+  none-fits : AllFit []
+  one-fits : {a : CallArguments} {rest : List CallArguments} → a .time < momentRange → Words32 (a .inValues) → AllFit rest → AllFit (a ∷ rest)
+
 -- "Each gets that same table, and the machine as the call before left it, and nobody else writes table or machine meanwhile."
 -- (A lent word is a u32.)
 pub data BoardCalls (layout : Layout) (table : List ℕ) : List ℕ → List BoardCall → Type 0 where
@@ -32,7 +51,8 @@ pub data BoardCalls (layout : Layout) (table : List ℕ) : List ℕ → List Boa
       (c .machineAfter) (c .numbersAfter) (c .valuesAfter) (c .result) → Words32 (c .machineAfter) →
       BoardCalls layout table (c .machineAfter) cs → BoardCalls layout table machine (c ∷ cs)
 
--- "A run is a .. listing loaded with number 0, a start on its table with number 0, and then any list of instant calls, refused ones too."
+-- A session from the start: a listing loaded with number 0, a start on its table, whatever its number, and then any list of instant calls,
+-- refused ones too. (A run of document 01 has a start with number 0: board_halves `BoardRunFor`.)
 pub record BoardRun (layout : Layout) : Type 0 where
   pub text : List ℕ
   pub tableBefore : List ℕ
@@ -49,7 +69,6 @@ pub record BoardRun (layout : Layout) : Type 0 where
   pub values : List ℕ
   pub result : Result
   pub starts : StartPromise layout table machineBefore numbersBefore valuesBefore allowance machine numbers values result
-  pub started : result .number ≡ 0
   pub words32 : Words32 machine
   pub calls : List BoardCall
   pub answered : BoardCalls layout table machine calls

@@ -12,3 +12,4 @@ pub mod Runs
 pub mod Promises
 pub mod Boards
 pub mod Evaluation
+pub mod Paper

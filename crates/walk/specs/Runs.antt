@@ -2,6 +2,7 @@
 use mathlib.Core.Path.{_≡_}
 use mathlib.Core.Bool.{Bool, true, false}
 use mathlib.Core.List.{List, [], _∷_, _++_}
+use mathlib.Core.Option.{Option, none, some}
 use Prim.Native.Nat.{ℕ}
 use Rattle.listing.specs.Listing.{Listing}
 use Rattle.walk.specs.State.{State}
@@ -42,6 +43,22 @@ unfoldable pub answersFrom : Listing → Machine → List InstantCall → List A
 answersFrom listing m [] = []
 answersFrom listing m (c ∷ cs) =
     let o = callOn listing m c in record { call = c; outcome = o } ∷ answersFrom listing (machineAfter m o) cs
+
+-- ── from any memory ───────────────────────────────────────────────────────────────────────────────
+-- What a machine's words stand for, if they pass question 7; where they do not, every call is refused, under 1 or 7, and leaves them so.
+unfoldable pub callOnFound : Listing → Option Machine → InstantCall → Outcome
+callOnFound listing none c = ask 1 (c .longEnough) (refused 7)
+callOnFound listing (some m) c = callOn listing m c
+
+unfoldable pub foundAfter : Option Machine → Outcome → Option Machine
+foundAfter m (refused k) = m
+foundAfter m (stopped k) = some (halted k)
+foundAfter m (done d) = some (running (d .state))
+
+unfoldable pub answersFromFound : Listing → Option Machine → List InstantCall → List Answered
+answersFromFound listing m [] = []
+answersFromFound listing m (c ∷ cs) =
+    let o = callOnFound listing m c in record { call = c; outcome = o } ∷ answersFromFound listing (foundAfter m o) cs
 
 -- ── what is told of a run ─────────────────────────────────────────────────────────────────────────
 -- "An input is accepted if its call has number 0."

@@ -14,7 +14,7 @@ use Rattle.walk.specs.Calls.{Machine, halted, running, Outcome, refused, stoppe
 use Rattle.walk.specs.Events.{Event}
 use Rattle.walk.specs.Runs.{InstantCall, Run, Answered, answersFrom, machineAfter, acceptedInputs, reportedWrites, timeOf}
 use Rattle.walk.specs.Evaluation.{callsQuoted}
-use Rattle.walk.proofs.Paper.{tick}
+use Rattle.walk.specs.Paper.{tick}
 use Rattle.walk.proofs.Cases.{shown, pressed, tooShort, _≔_}
 
 -- What is told of a quoted listing; nothing where it is refused.

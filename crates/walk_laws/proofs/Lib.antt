@@ -8,9 +8,11 @@ pub mod Idle
 pub mod AtRest
 pub mod Shape
 pub mod LiveCount
+pub mod Wakings
 pub mod Due
 pub mod Kept
 pub mod Stays
+pub mod Literals
 pub mod Answers
 pub mod FullRun
 pub mod StopDecides

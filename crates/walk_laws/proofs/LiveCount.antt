@@ -16,12 +16,9 @@ use Rattle.walk.specs.State.{Variable, fresh, Node, node, Forest, empty, more, 
 use Rattle.walk.specs.Walk.{instructionAt, newRoutine, newRoutines, childCount, withMemory, enter, sleep, leave, Runner, inTurn, begin, join, forkWith, scheduleWith, branchWith, execute, step, run, passedWait, wake, resume, visit, visitForest}
 use Rattle.walk.specs.Instant.{Write, Done, dueWrites, dueInForest, applyInputs, unmarkedForest, finish, mainCall, environmentSize, environmentNames, start, instant}
 use Rattle.walk.specs.Question7.{Asleep, waits, joins, LiveChildren, no-more, ended, lives, IsState}
+use Rattle.walk_laws.specs.LiveCount.{Counted, turnAtStart, turnAtInstant, TrueCount}
 use Rattle.walk_laws.proofs.Results.{IfOk, stopped, answered, stop-is-not-ok, holds-of-answer, then-if-ok}
 use Rattle.walk_laws.proofs.Shape.{live-in-both, due-writes-keep-shape, unmarking-keeps-live}
-
--- The counter after a turn.
-pub record Counted (others : ℕ) (turn : Turn) : Type 0 where
-  pub counted : (turn .running) .live ≡ others + liveInForest (turn .tree)
 
 -- A runner that counts the one routine that it runs, with whatever children it makes.
 abbrev CountsRoutine : Runner → Type 0
@@ -152,25 +149,6 @@ module _ (listing : Listing) (now : ℕ) where
   count-true-after-visit k s others e turn went = (holds-of-answer turn (visit-forest-counts k s others e) went) .counted
 
 -- ── the end of an instant ─────────────────────────────────────────────────────────────────────────
--- What the turn of main leaves, before the marks go: at the start, and at an instant.
-abbrev pub turnAtStart : Listing → ℕ → Result Turn
-turnAtStart listing allowance =
-    let environment = replicate (environmentSize listing) (fresh 0) in
-    begin (run listing 0 allowance) 0 (newRoutine listing environment (environmentNames listing) (mainCall listing))
-    (record { memory = environment; left = allowance; live = 1; woken = 0 })
-
-abbrev pub turnAtInstant : Listing → State → ℕ → List Write → ℕ → Result Turn
-turnAtInstant listing s t inputs allowance =
-    let tree = dueInForest (s .tree) t in
-    visitForest listing t tree 0
-    (record { memory = applyInputs inputs (dueWrites t (s .environment)); left = allowance; live = liveInForest tree; woken = 0 })
-
--- The counter at the end of an instant is the number of live routines of the state that it leaves.
-pub record TrueCount (x : Result Turn) (d : Done) : Type 0 where
-  pub turn : Turn
-  pub went : x ≡ ok turn
-  pub counted : (turn .running) .live ≡ liveInForest ((d .state) .tree)
-
 finish-keeps-count : (listing : Listing) (t allowance : ℕ) (x : Result Turn) (d : Done) → IfOk (Counted 0) x → x >>= finish listing t allowance ≡ ok d → TrueCount x d
 unfolding _>>=_ finish
 finish-keeps-count listing t allowance _ d stopped e = stop-is-not-ok e

@@ -21,7 +21,8 @@ use Rattle.walk_laws.proofs.AtRest.{allSteady, write-steady, replicate-
 use Rattle.walk_laws.proofs.Shape.{length-dueWrites, due-writes-keep-live, due-writes-keep-children, unmarking-keeps-live, unmarking-keeps-children}
 use Rattle.walk.specs.Calls.{dueBefore}
 use Rattle.walk_laws.proofs.Due.{neither-due-before, due-writes-steady, next-due-after-now}
-use Rattle.walk_laws.proofs.LiveCount.{Counted, turnAtStart, turnAtInstant, turn-at-start-counts, turn-at-instant-counts}
+use Rattle.walk_laws.specs.LiveCount.{Counted, turnAtStart, turnAtInstant}
+use Rattle.walk_laws.proofs.LiveCount.{turn-at-start-counts, turn-at-instant-counts}
 use Rattle.walk_laws.proofs.Kept.{Leaves, AsleepOrGone, gone, asleep, begin-keeps, run-keeps, visit-forest-keeps}
 
 -- ── the call's inputs ─────────────────────────────────────────────────────────────────────────────

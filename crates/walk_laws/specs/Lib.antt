@@ -1,3 +1,5 @@
 pub mod Stops
 pub mod Causes
 pub mod TraceText
+pub mod LiveCount
+pub mod Wakings

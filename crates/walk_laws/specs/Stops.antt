@@ -16,7 +16,7 @@ use Rattle.walk.specs.Instant.{dueWrites, dueInForest, Write, applyInputs, envi
 
 -- ── "before each instruction, the first no stops the machine" ─────────────────────────────────────
 -- `FirstNo now k level names s i`: at instruction i, reached at moment `now` by a routine at this level with these names,
--- question k is the first whose answer is no. (`live` is the true number of live routines: proofs LiveCount.)
+-- question k is the first whose answer is no. (`live` is the true number of live routines: specs LiveCount.)
 pub data FirstNo (now : ℕ) : ℕ → ℕ → List ℕ → Running → Instruction → Type 0 where
   -- "13 Is a step left?"
   no-step : {level : ℕ} {names : List ℕ} {s : Running} {i : Instruction} → s .left ≡ 0 → FirstNo now 13 level names s i

@@ -11,3 +11,4 @@ pub mod StateRecords
 pub mod LaidOut32
 pub mod MachineWords
 pub mod NextDue
+pub mod Question7

@@ -168,6 +168,13 @@ module _ (listing : Listing) (L : WithinLimits listing) (s : State) (h : IsState
     held-words-are-read =
         rw (not-stopped w (held-first w slots (s .now) (s .environment) (recordsOf (h .tree) 0) S H (h .resting) narrow rests few-records), held-passes, held-state)
 
+  -- The layout of a state's records at any distinct slots is read as that state.
+  pub laid-out-is-read : (slots : List ℕ) → SlotsFor slots (recordsOf (h .tree) 0) →
+      readMachine listing (laidOut slots (s .now) (s .environment) (recordsOf (h .tree) 0)) ≡ some (running s)
+  laid-out-is-read slots S =
+      held-words-are-read (laidOut slots (s .now) (s .environment) (recordsOf (h .tree) 0)) slots S
+      (laid-out-holds slots (s .now) (s .environment) (recordsOf (h .tree) 0) S narrow (λ k l. rests .few k l) few-records)
+
 consecutive-at : (n b j : ℕ) → j < n → getD (consecutive n b) j 0 ≡ b + j
 unfolding consecutive
 consecutive-at zero b j h = absurd (let z : ⊥ = omega arith in z)
@@ -201,11 +208,10 @@ every-state-has-words listing L s h =
     let few = few-records listing L s h in
     let S = first-slots xs few in
     let R = rests listing L s h in
-    let H = laid-out-holds slots (s .now) (s .environment) xs S (narrow listing L s h) (λ k l. R .few k l) few in
     record {
       long = laid-out-length slots (s .now) (s .environment) xs S (narrow listing L s h) (λ k l. R .few k l) few;
       words32 = laid-out-32 slots (s .now) (s .environment) xs S (h .moment) (h .resting) (state-records-plain listing L s h) few;
-      read = held-words-are-read listing L s h (laidOut slots (s .now) (s .environment) xs) slots S H;
+      read = laid-out-is-read listing L s h slots S;
     }
 
 -- ── the stopped form ──────────────────────────────────────────────────────────────────────────────

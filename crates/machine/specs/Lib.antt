@@ -4,3 +4,4 @@ pub mod ReadMachine
 pub mod Layout
 pub mod Limits
 pub mod Due
+pub mod Question7

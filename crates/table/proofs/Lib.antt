@@ -11,3 +11,4 @@ pub mod Entry
 pub mod Bounds
 pub mod WalkBounds
 pub mod Append
+pub mod Unused

@@ -3,3 +3,4 @@ pub mod Decode
 pub mod Question6
 pub mod Entry
 pub mod Bounds
+pub mod Unused

@@ -76,7 +76,7 @@ extern "C" {
 /* The result of a load: 0, 1, 2, 3, 4 or 5, and the line. */
 typedef struct {
     uint32_t number;
-    uint32_t place;
+    uint64_t place;
 } fabrwent_loaded;
 
 /* The result of a start or an instant. */

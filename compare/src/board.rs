@@ -6,7 +6,7 @@ use crate::walk::Answer;
 #[derive(Clone, Copy, Debug, PartialEq)]
 pub struct Loaded {
     pub number: u32,
-    pub place: u32,
+    pub place: u64,
 }
 
 #[repr(C)]

@@ -78,11 +78,11 @@ pub struct Program {
 #[derive(Clone, Copy, Debug, PartialEq)]
 pub struct Refusal {
     pub number: u32,
-    pub place: u32,
+    pub place: u64,
 }
 
 fn no<T>(number: u32, place: usize) -> Result<T, Refusal> {
-    let place = place as u32;
+    let place = place as u64;
     Err(Refusal { number, place })
 }
 

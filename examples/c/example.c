@@ -45,7 +45,7 @@ int main(void)
 {
     fabrwent_loaded loaded = fabrwent_load((const uint8_t *)listing, strlen(listing), table, FABRWENT_TABLE_WORDS);
     if (loaded.number != 0) {
-        printf("load: number %" PRIu32 " at line %" PRIu32 "\n", loaded.number, loaded.place);
+        printf("load: number %" PRIu32 " at line %" PRIu64 "\n", loaded.number, loaded.place);
         return 1;
     }
     fabrwent_ran ran = fabrwent_start(table, FABRWENT_TABLE_WORDS, machine, FABRWENT_MACHINE_WORDS,

@@ -1,13 +1,15 @@
 -- The figures of an answer that keeps its call's promise.
-use mathlib.Core.Path.{_≡_, refl, sym, ap, subst, _∙_}
+use mathlib.Core.Path.{_≡_, refl, sym, ap, ap₂, subst, _∙_}
 use mathlib.Core.Bool.{Bool, true, false}
-use mathlib.Core.List.{List}
-use Prim.Native.Nat.{ℕ, min, _≤_}
+use mathlib.Core.List.{List, _++_}
+use Prim.Native.Nat.{ℕ, _≤_}
+use lib.ListN.{take-append-drop}
 use native.Mathlib.Omega.{arith}
 use mir.Val.{boolByte}
 use Rattle.listing.specs.Load.{Loading, loadingNumber, loadingPlace}
-use Rattle.walk.specs.Calls.{Outcome}
-use Rattle.walk.specs.Promises.{LoadPromise, Keeps}
+use Rattle.walk.specs.Calls.{firstWords, Outcome}
+use Rattle.walk.specs.Promises.{LoadPromise, TableAfter, Keeps}
+use Rattle.walk.specs.Promises as Promises
 use Rattle.walk.specs.Comparison.{Compared, notCompared, compared, comparedNumber, comparedPlace, comparedAlike, alikeCall}
 use Rattle.layout.specs.Layout.{layout}
 use Rattle.conclusion.specs.Answers.{resultOf, dueOf}
@@ -16,19 +18,29 @@ use Rattle.conclusion.specs.declared.answers.Due.{Due}
 use Rattle.conclusion.specs.declared.answers.Due.the-variants.{Never, At}
 use Rattle.conclusion.specs.declared.answers.Answer.{Answer}
 use Rattle.conclusion.specs.declared.answers.Answer.the-variants.{Refused, Stopped, Done}
-use Rattle.fabrwent.specs.Loading.{largestPlace, LoadFigures}
+use Rattle.table.proofs.Question6.{table-read-exactly-if}
+use Rattle.fabrwent.specs.Loading.{tableLeft, LoadFigures}
 use Rattle.fabrwent.specs.Figures.{dueIn, resultIn, DueTold, goneThrough, ofAnswer, bit, AlikeFigures}
 use Rattle.fabrwent.specs.declared.loading.FabrwentLoad.{FabrwentLoad}
 use Rattle.fabrwent.specs.declared.calls.FabrwentCall.{FabrwentCall}
 use Rattle.fabrwent.specs.declared.calls.FabrwentAlike.{FabrwentAlike}
 
+-- the words that loading leaves
+pub left-words : {before after : List ℕ} {o : Loading} → TableAfter layout before after o → after ≡ tableLeft before o
+unfolding tableLeft
+left-words (Promises.untouched e) = e
+left-words {after = after} (Promises.holds {listing = listing} r a b) =
+    sym (take-append-drop 12288 after) ∙ ap₂ _++_ (sym (table-read-exactly-if (firstWords after) listing .0 r .2)) b
+
 pub load-told : (text before after : List ℕ) (o : Loading) → LoadPromise layout text before after o → (r : FabrwentLoad) →
-    r .number ≡ loadingNumber o → r .place ≡ min (loadingPlace o) largestPlace → LoadFigures text before after r
+    r .number ≡ loadingNumber o → r .place ≡ loadingPlace o → LoadFigures text before after r
 load-told text before after o kept r number place =
+    let table = subst (TableAfter layout before after) (kept .0) (kept .1) in
     record {
       number = number ∙ ap loadingNumber (kept .0);
-      place = place ∙ ap (λ (x : Loading). min (loadingPlace x) largestPlace) (kept .0);
-      table = (rw (kept .0) at (kept .1));
+      place = place ∙ ap loadingPlace (kept .0);
+      words = left-words table;
+      table = table;
     }
 
 -- ── start and instant ─────────────────────────────────────────────────────────────────────────────

@@ -4,7 +4,7 @@ use mathlib.Core.Bool.{Bool, true, false}
 use mathlib.Core.List.{List}
 use Prim.Native.Nat.{ℕ, zero, suc, _≤_}
 use Rattle.walk.specs.Instant.{NextDue, never, moment}
-use Rattle.walk.specs.Promises.{Result}
+use Rattle.walk.specs.Promises.{Result, StartPromise, InstantPromise}
 use Rattle.walk.specs.Comparison.{comparedNumber, comparedPlace, comparedAlike, alikeCall}
 use Rattle.layout.specs.Layout.{layout}
 use Rattle.conclusion.specs.declared.answers.Due.{Due}
@@ -27,6 +27,15 @@ resultIn r = record { number = r .number; place = r .place; steps = r .steps; li
 pub record DueTold (r : FabrwentCall) : Type 0 where
   pub known : r .«due_known» ≤ 1
   pub none : r .«due_known» ≡ 0 → r .due ≡ 0
+
+-- What the exported start and the exported instant call promise, of any memories: the walk's outcome, and that its figures tell it.
+abbrev pub StartFigures : List ℕ → List ℕ → List ℕ → List ℕ → ℕ → List ℕ → List ℕ → List ℕ → FabrwentCall → Type 0
+StartFigures table machine numbers values allowance machine′ numbers′ values′ r =
+    StartPromise layout table machine numbers values allowance machine′ numbers′ values′ (resultIn r) × DueTold r
+
+abbrev pub InstantFigures : List ℕ → List ℕ → ℕ → List ℕ → List ℕ → List ℕ → List ℕ → ℕ → List ℕ → List ℕ → List ℕ → FabrwentCall → Type 0
+InstantFigures table machine t inNumbers inValues numbers values allowance machine′ numbers′ values′ r =
+    InstantPromise layout table machine t inNumbers inValues numbers values allowance machine′ numbers′ values′ (resultIn r) × DueTold r
 
 -- The figures of the engine's answer.
 abbrev pub turnedAway : ℕ → FabrwentCall

@@ -1,2 +1,3 @@
 pub mod Figures
 pub mod Loading
+pub mod Runs

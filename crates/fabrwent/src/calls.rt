@@ -1,7 +1,5 @@
 // Start, instant and comparison, with their answers as figures.
-ghost use Rattle.walk.specs.Promises.{StartPromise, InstantPromise};
-ghost use Rattle.layout.specs.Layout.{layout};
-ghost use Rattle.fabrwent.specs.Figures.{resultIn, DueTold, AlikeFigures, turnedAway, goneThrough, ofAnswer};
+ghost use Rattle.fabrwent.specs.Figures.{StartFigures, InstantFigures, AlikeFigures, turnedAway, goneThrough, ofAnswer};
 ghost use mathlib.Core.Path.{_≡_};
 use comparison::Comparison;
 use engine::Answer;
@@ -87,8 +85,8 @@ pub extern "C" fn fabrwent_start(
     out_values: &mut [u32],
     allowance: u32,
 ) -> FabrwentCall
-    ensures { λ r. ⌜ StartPromise layout (now (table .entry)) (now (machine .entry)) (now («out_numbers» .entry)) (now («out_values» .entry)) allowance
-        (now (machine .exit)) (now («out_numbers» .exit)) (now («out_values» .exit)) (resultIn r) × DueTold r ⌝ }
+    ensures { λ r. ⌜ StartFigures (now (table .entry)) (now (machine .entry)) (now («out_numbers» .entry)) (now («out_values» .entry)) allowance
+        (now (machine .exit)) (now («out_numbers» .exit)) (now («out_values» .exit)) r ⌝ }
 {
     figures_of(engine::start(table, machine, out_numbers, out_values, allowance))
 }
@@ -105,9 +103,9 @@ pub extern "C" fn fabrwent_instant(
     out_values: &mut [u32],
     allowance: u32,
 ) -> FabrwentCall
-    ensures { λ r. ⌜ InstantPromise layout (now (table .entry)) (now (machine .entry)) t (now («in_numbers» .entry)) (now («in_values» .entry))
+    ensures { λ r. ⌜ InstantFigures (now (table .entry)) (now (machine .entry)) t (now («in_numbers» .entry)) (now («in_values» .entry))
         (now («out_numbers» .entry)) (now («out_values» .entry)) allowance
-        (now (machine .exit)) (now («out_numbers» .exit)) (now («out_values» .exit)) (resultIn r) × DueTold r ⌝ }
+        (now (machine .exit)) (now («out_numbers» .exit)) (now («out_values» .exit)) r ⌝ }
 {
     figures_of(engine::instant(
         table,

@@ -1,7 +1,5 @@
 // Loading, with its answer as two figures.
-ghost use mathlib.Core.Path.{_≡_};
-ghost use Prim.Native.Nat.{min};
-ghost use Rattle.fabrwent.specs.Loading.{largestPlace, LoadFigures};
+ghost use Rattle.fabrwent.specs.Loading.{LoadFigures};
 use load::load;
 use loader::Loaded;
 
@@ -9,17 +7,7 @@ use loader::Loaded;
 #[repr(C)]
 pub struct FabrwentLoad {
     pub number: u32,
-    pub place: u32,
-}
-
-// A line's number in 32 bits; a line past the largest is given as the largest.
-fn narrow(place: usize) -> u32
-    ensures { λ r. ⌜ r ≡ min place largestPlace ⌝ }
-{
-    if place < 4294967295 {
-        return place as u32;
-    }
-    4294967295
+    pub place: u64,
 }
 
 #[no_mangle]
@@ -33,7 +21,7 @@ pub extern "C" fn fabrwent_load(listing: &[u8], table: &mut [u32]) -> FabrwentLo
         },
         Loaded::Refused(number, place) => FabrwentLoad {
             number: number,
-            place: narrow(place),
+            place: place as u64,
         },
     }
 }

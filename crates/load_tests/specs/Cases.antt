@@ -2,22 +2,21 @@
 use mathlib.Core.Bool.{Bool}
 use mathlib.Core.Path.{_≡_}
 use mathlib.Core.List.{List}
-use Prim.Native.Nat.{ℕ, zero, suc, _-_, _≤_, min}
+use Prim.Native.Nat.{ℕ, zero, suc, _-_, _≤_}
 use lib.ListN.{length, take, drop, replicate}
 use Rattle.listing.specs.Load.{Loading, loadingNumber, loadingPlace, loading, isLongEnough}
 use Rattle.walk.specs.Calls.{memoryWords, firstWords, laterWords}
 use Rattle.walk.specs.Promises.{TableAfter}
 use Rattle.layout.specs.Layout.{layout}
-use Rattle.fabrwent.specs.Loading.{largestPlace}
 use Rattle.cases.specs.Frame.{wordAt, onward}
 use Rattle.cases.specs.Words.{Tells, Begin}
 use Rattle.load_tests.specs.declared.Case.{Case}
 use Rattle.load_tests.specs.declared.figures.Figures.{Figures}
 
--- number and place of a loader's outcome; the exported place has 32 bits (fabrwent `LoadFigures`)
+-- number and place of a loader's outcome
 pub record FiguresOf (o : Loading) (r : Figures) : Type 0 where
   pub numberIs : r .number ≡ loadingNumber o
-  pub placeIs : r .place ≡ min (loadingPlace o) largestPlace
+  pub placeIs : r .place ≡ loadingPlace o
 
 -- ── a case of the file ────────────────────────────────────────────────────────────────────────────
 -- at a place: its name (a word), its listing (a part), number and place (words); the next case follows

@@ -8,7 +8,7 @@ ghost use Rattle.load_tests.specs.Cases.{FiguresOf};
 
 pub struct Figures {
     pub number: u32,
-    pub place: usize,
+    pub place: u64,
 }
 
 // The figures of loading a listing into a table.
@@ -19,7 +19,7 @@ pub fn load_figures(listing: &[u8], table: &mut [u32]) -> Figures
     let loaded = fabrwent::fabrwent_load(listing, table);
     Figures {
         number: loaded.number,
-        place: loaded.place as usize,
+        place: loaded.place,
     }
 }
 

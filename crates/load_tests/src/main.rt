@@ -36,7 +36,7 @@ pub struct Case {
     pub from: usize,
     pub to: usize,
     pub number: u32,
-    pub place: usize,
+    pub place: u64,
     pub next: usize,
 }
 
@@ -49,7 +49,7 @@ fn case_at(s: &[u8], at: usize) -> Case
     let to = part.to;
     let number = word_at(s, to);
     let after = past(s, to, 4);
-    let place = word_at(s, after) as usize;
+    let place = word_at(s, after) as u64;
     let next = past(s, after, 4);
     Case {
         name,
@@ -72,11 +72,11 @@ fn agree(name: u32, expected: Figures, found: Figures) -> bool
         say(b": expected ");
         say_number(expected.number as u64);
         say(b" at ");
-        say_number(expected.place as u64);
+        say_number(expected.place);
         say(b", found ");
         say_number(found.number as u64);
         say(b" at ");
-        say_number(found.place as u64);
+        say_number(found.place);
         say(b"\n");
     }
     same

@@ -14,9 +14,6 @@ enum-told c = search needs
 enum-known-number : tie.Need-enum-known-number
 enum-known-number c = search needs
 
-narrow-requires : tie.Need-narrow-requires
-narrow-requires c κs = search needs
-
 same-length : tie.Need-same-length
 same-length c = search needs
 
@@ -29,7 +26,7 @@ same-length-2 c = search needs
 
 returns-2 : tie.Need-returns-2
 unfolding loadingNumber loadingPlace
-returns-2 c = told.load-told _ _ _ _ (c .before .before .before .before .before .before .load .ensures) _ (rw (c .before .before .number .given .1)) (rw (c .before .before .number .given .1) (c .narrow .ensures))
+returns-2 c = told.load-told _ _ _ _ (c .before .before .before .before .before .load .ensures) _ (rw (c .before .number .given .1)) (rw (c .before .number .given .1))
 
 pub fabrwent-load-spec : {M : Type 1} → statement M
 fabrwent-load-spec =
@@ -38,7 +35,6 @@ fabrwent-load-spec =
     load-requires
     enum-told
     enum-known-number
-    narrow-requires
     same-length
     returns
     same-length-2

@@ -5,15 +5,12 @@ use Rattle.load_tests.proofs.figures.load_figures.Tie as tie
 fabrwent-load-requires : tie.Need-fabrwent-load-requires
 fabrwent-load-requires c κs = tt
 
-cast-t6 : tie.Need-cast-t6
-cast-t6 c = search needs
-
 same-length : tie.Need-same-length
 same-length c = search needs
 
 returns : tie.Need-returns
 returns c =
-    let l = c .before .before .before .fabrwent-load .ensures in (record { numberIs = l .number; placeIs = l .place }, l .table)
+    let l = c .before .before .fabrwent-load .ensures in (record { numberIs = l .number; placeIs = l .place }, l .table)
 
 pub load-figures-spec : {M : Type 1} → statement M
-load-figures-spec = tie.close (tie.spec fabrwent-load-requires cast-t6 same-length returns)
+load-figures-spec = tie.close (tie.spec fabrwent-load-requires same-length returns)

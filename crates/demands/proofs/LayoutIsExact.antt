@@ -38,7 +38,7 @@ table-is-exact =
     }
 
 -- ── question 7 ────────────────────────────────────────────────────────────────────────────────────
-loaded-within-limits : (listing : Listing) → LoadedFrom listing → WithinLimits listing
+pub loaded-within-limits : (listing : Listing) → LoadedFrom listing → WithinLimits listing
 loaded-within-limits listing from =
     subst (λ (l : Listing). WithinLimits l) (loaded-table-stands-for (from .text) listing (from .loads)) (limits (tableListing (tableWords listing)) meets)
   where
@@ -57,7 +57,7 @@ machine-is-exact listing from =
       running-first = running-first-word-is-0 listing;
       state-every = λ s h.
           let w = every-state-has-words listing (loaded-within-limits listing from) s h in
-          record { words = wordsOf (s .now) (s .environment) (recordsOf (h .tree) 0); long = w .long; reads = w .read };
+          record { words = wordsOf (s .now) (s .environment) (recordsOf (h .tree) 0); long = w .long; words32 = w .words32; reads = w .read };
     }
 
 pub layout-is-exact : Exact layout

@@ -1,2 +1,3 @@
 pub mod LayoutIsExact
+pub mod Exported
 pub mod Demands

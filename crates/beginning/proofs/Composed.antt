@@ -1,5 +1,5 @@
 -- The beginning of an instant, from one part to the next: filled in, sleepers listed, due writes made, inputs written.
--- Letters: t the table's words; m₀ the machine's at the entry, m with the event queue noted, m₁ to m₄ filled in, with the trigger lists, after due writes, after inputs; s the state that m₀
+-- Letters: t the table's words; m₀ the machine's at the entry, m with the blocks noted where a waiting write may stand, m₁ to m₄ filled in, with the trigger lists, after due writes, after inputs; s the state that m₀
 -- is read as; n the number of environment variables; σ rows.
 use mathlib.Core.Path.{_≡_, refl, sym, ap, _∙_}
 use mathlib.Core.Bool.{true, false}

@@ -1,5 +1,5 @@
--- The words with the event queue noted: they are tidy, and the rows are filled in from them as from the words found.
--- Letters: t the table's words, m₀ the machine's as found, m with the queue noted, m₁ filled in, s the state that m₀ is read as, q a slot.
+-- The words with the blocks noted where a waiting write may stand: they are tidy, and the rows are filled in from them as from the words found.
+-- Letters: t the table's words, m₀ the machine's as found, m so noted, m₁ filled in, s the state that m₀ is read as, q a slot.
 use mathlib.Core.Path.{_≡_, refl, sym, ap, subst, _∙_}
 use mathlib.Core.List.{List}
 use mathlib.Core.Option.{some}

@@ -1,4 +1,4 @@
--- The event queue noted at the beginning of an instant, block by block; and that the blocks are tidy then: one without a note has no waiting write.
+-- The blocks where a waiting write may stand noted at the beginning of an instant; and that the blocks are tidy then: one without a note has no waiting write.
 -- Letters: a the words before, m and m′ those on the way, s a block's number, d its soonest moment due (0: none), b a block, c how many variables.
 use mathlib.Core.Path.{_≡_, refl, sym, _∙_}
 use mathlib.Core.Bool.{Bool, true, false}

@@ -25,7 +25,7 @@ fn ports(t: &[u32]) -> usize
     inputs + outputs
 }
 
-// The event queue noted, rows filled in, sleepers listed, due writes and inputs made; the routines that are ready. Given the soonest moment due of each
+// The blocks where a waiting write may stand noted, rows filled in, sleepers listed, due writes and inputs made; the routines that are ready. Given the soonest moment due of each
 // block.
 pub fn begin_instant(
     t: &[u32],

@@ -1,5 +1,5 @@
-// The event queue at the beginning of an instant. A variable's place in it is its own record; word 7 of a block says whether a waiting
-// write may stand there, and the next moment due is looked for in just those blocks.
+// Where waiting writes may stand, noted at the beginning of an instant: a variable's waiting write stands in its own record; word 7 of a block says
+// whether one may stand among the block's variables, and the next moment due is looked for in just those blocks.
 ghost use mathlib.Core.Path.{_≡_};
 ghost use Prim.Native.Nat.{_≤_};
 ghost use lib.ListN.{length};

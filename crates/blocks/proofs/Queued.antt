@@ -1,4 +1,4 @@
--- Word 7 of a block, by which the event queue knows where a waiting write may stand: rows and environment do not speak of it.
+-- Word 7 of a block, the note that a waiting write may stand there: rows and environment do not speak of it.
 -- Letters: a the words before, m after, s the block's number, b a block, v a word.
 use mathlib.Core.List.{List}
 use mathlib.Core.Path.{_≡_, sym, ap, ap₂, _∙_, fun-ext}

@@ -59,7 +59,7 @@ assignedBlock i v b = putIn (putIn b (8 + i * 6) v) (128 + i) 1
 unfoldable pub scheduledBlock : ℕ → ℕ → ℕ → Block → Block
 scheduledBlock i t v b = putIn (putIn (putIn b (9 + i * 6) v) (10 + i * 6) (t % 4294967296)) (11 + i * 6) (t / 4294967296)
 
--- A waiting write may stand in the block: the event queue looks at it.
+-- A waiting write may stand in the block: the end of the instant looks at it.
 unfoldable pub queuedBlock : Block → Block
 queuedBlock b = putIn b 7 1
 

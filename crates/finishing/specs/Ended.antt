@@ -7,7 +7,7 @@ use Rattle.machine.specs.Layout.{headerWords}
 use Rattle.blocks.specs.Blocks.{Block, block}
 use Rattle.blocks.specs.Changes.{putIn, cleared}
 
--- A block without working words; word 7, by which the event queue knows where to look, is one of them.
+-- A block without working words; word 7, the note that a waiting write may stand there, is one of them.
 unfoldable pub idleBlock : Block → Block
 idleBlock b = putIn (cleared 104 184 b) 7 0
 

@@ -50,8 +50,8 @@ pub fn assign_step(
     }
 }
 
-// The waiting write put on the name's variable, and the next instruction. Word 7 of the variable's block is 1 from then on: the event queue
-// looks for the next moment due in just those blocks where it is.
+// The waiting write put on the name's variable, and the next instruction. Word 7 of the variable's block is 1 from then on: the next
+// moment due is looked for in just those blocks where it is.
 fn schedule_at(m: &mut [u32], running: Running, name: usize, moment: Moment, value: u32) -> Stepped
     requires { ⌜ (MayChange (now m) running name) × (0 < moment .0) ⌝ }
     ensures { λ r. ⌜ ChangesName (now (m .entry)) (now (m .exit)) running name (λ x. scheduled x (moment .0) value) r ⌝ }

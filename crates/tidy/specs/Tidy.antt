@@ -23,7 +23,7 @@ pub record TidyBlock (count : ℕ) (b : Block) : Type 0 where
   pub past : (i : ℕ) → count ≤ i → i < 16 → Blank b i
   -- no waiting write, no waiting value
   pub idle : (i : ℕ) → i < 16 → b (10 + i * 6) + b (11 + i * 6) * 4294967296 ≡ 0 → b (9 + i * 6) ≡ 0
-  -- the event queue passes over a block without a waiting write
+  -- a block without the note has no waiting write
   pub quiet : b 7 ≡ 0 → (i : ℕ) → i < 16 → b (10 + i * 6) + b (11 + i * 6) * 4294967296 ≡ 0
 
 -- A slot's block: a free one is 0 up to the trigger words.

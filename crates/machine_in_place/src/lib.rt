@@ -17,6 +17,7 @@ ghost use Rattle.machine.specs.ReadMachine.{stoppedWords};
 ghost use Rattle.machine.specs.Due.{dueAt, wordsDue};
 ghost use Rattle.walk.specs.Instant.{earlier};
 ghost use Rattle.machine_words.specs.Tests.{testOf, tested, slotDue, slotsDue, blocksDue, SlotDues, Dues};
+ghost use Rattle.machine_in_place.specs.Kept.{slotsKept, blocksKept, wordsKept};
 
 // Is slot s free and all 0, or does the order list of n routines lead back to it?
 fn slot_holds(m: &[u32], n: usize, s: usize, present: Moment) -> Test
@@ -49,7 +50,8 @@ fn slots_hold(m: &[u32], n: usize, present: Moment, soonest: u64, dues: &mut [u6
     requires { ⌜ (length (now m) ≡ 12288) × (n ≤ 64) × (length (now dues) ≡ 65) ⌝ }
     ensures { λ r. ⌜ (testOf r ≡ tested (slotsHold n (present .0) (now (m .entry)) 64) (earlier (dueAt soonest) (slotsDue (now (m .entry)) 64)))
         × (length (now (dues .exit)) ≡ 65)
-        × (slotsHold n (present .0) (now (m .entry)) 64 ≡ true → SlotDues 0 (now (m .entry)) (now (dues .entry)) (now (dues .exit))) ⌝ }
+        × (slotsHold n (present .0) (now (m .entry)) 64 ≡ true → SlotDues 0 (now (m .entry)) (now (dues .entry)) (now (dues .exit)))
+        × (now (dues .exit) ≡ slotsKept n (present .0) (now (m .entry)) 64 (now (dues .entry))) ⌝ }
 {
     let mut found = soonest;
     let mut s: usize = 64;
@@ -114,7 +116,8 @@ fn blocks_in_place(m: &[u32], n: usize, size: usize, dues: &mut [u64; 65]) -> Te
     requires { ⌜ (length (now m) ≡ 12288) × (n ≤ 64) × (n ≡ getD (now m) 3 0) × (length (now dues) ≡ 65) ⌝ }
     ensures { λ r. ⌜ (testOf r ≡ tested (blocksInPlace size (now (m .entry))) (blocksDue size (now (m .entry))))
         × (length (now (dues .exit)) ≡ 65)
-        × (blocksInPlace size (now (m .entry)) ≡ true → Dues size (now (m .entry)) (now (dues .exit))) ⌝ }
+        × (blocksInPlace size (now (m .entry)) ≡ true → Dues size (now (m .entry)) (now (dues .exit)))
+        × (now (dues .exit) ≡ blocksKept size (now (m .entry)) (now (dues .entry))) ⌝ }
 {
     let present = present_moment(m);
     if !zero_from(m, 12104, 8) {
@@ -132,7 +135,8 @@ pub fn words_in_place(m: &[u32], size: usize, dues: &mut [u64; 65]) -> Test
     requires { ⌜ (length (now m) ≡ 12288) × (length (now dues) ≡ 65) ⌝ }
     ensures { λ r. ⌜ (testOf r ≡ tested (wordsInPlace size (now (m .entry))) (wordsDue size (now (m .entry))))
         × (length (now (dues .exit)) ≡ 65)
-        × (wordsInPlace size (now (m .entry)) ≡ true → Dues size (now (m .entry)) (now (dues .exit))) ⌝ }
+        × (wordsInPlace size (now (m .entry)) ≡ true → Dues size (now (m .entry)) (now (dues .exit)))
+        × (now (dues .exit) ≡ wordsKept size (now (m .entry)) (now (dues .entry))) ⌝ }
 {
     if !header_in_place(m) {
         return Test::Fails;

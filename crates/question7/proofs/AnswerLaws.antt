@@ -14,9 +14,10 @@ use Rattle.machine.proofs.MachineWords.{words-due-is-next-due}
 use Rattle.machine.proofs.InPlace.{knows-place, in-place}
 use Rattle.machine.proofs.PassingWordsHold.{Words32, own-rests}
 use Rattle.machine_words.specs.Tests.{Dues}
+use Rattle.machine_in_place.specs.Kept.{wordsKept}
 use Rattle.child_fields.specs.Tables.{TableBounds}
 use Rattle.tree_scan.specs.Scan.{Ready, whole}
-use Rattle.question7.specs.Answer.{answerOf, checkOf}
+use Rattle.question7.specs.Answer.{answerOf, checkOf, duesLeft}
 use Rattle.question7.specs.declared.MachineCheck.the-variants.{NotAState, Stopped, Running}
 
 pub size-of : (w : List ℕ) (i o : ℕ) → i ≡ word w 0 → o ≡ word w 1 → i + o ≡ environmentSize (tableListing w)
@@ -46,6 +47,9 @@ module _ (w m : List ℕ) (size : ℕ) (e : size ≡ environmentSize (tableListi
   pub dues-of-listing : (dues : List ℕ) → Dues size m dues → Dues (environmentSize (tableListing w)) m dues
   dues-of-listing dues f = rw (← e) f
 
+  pub kept-of-listing : (before after : List ℕ) → after ≡ wordsKept size m before → after ≡ wordsKept (environmentSize (tableListing w)) m before
+  kept-of-listing before after f = rw (← e) f
+
 -- Only a state has the answer that it runs.
 pub stopped-not-running : {A : Type 0} {k d : ℕ} → Stopped k ≡ Running d → A
 stopped-not-running e = let z : _≡_ {A = ℕ} 0 1 = cc in absurd (omega arith)
@@ -65,3 +69,11 @@ answer-running w m t small e f g = rw (e, f, words-due-is-next-due (tableListing
 pub answer-none : (w m : List ℕ) → stoppedWords m ≡ false → runningWords (tableListing w) m ≡ false → checkOf NotAState ≡ answerOf (readMachine (tableListing w) m)
 unfolding readMachine machineBy answerOf checkOf
 answer-none w m e f = rw (e, f)
+
+pub stopped-leaves : (w m dues : List ℕ) → stoppedWords m ≡ true → dues ≡ duesLeft (tableListing w) m dues
+unfolding duesLeft
+stopped-leaves w m dues e = rw e
+
+pub tests-leave : (w m dues : List ℕ) → stoppedWords m ≡ false → wordsKept (environmentSize (tableListing w)) m dues ≡ duesLeft (tableListing w) m dues
+unfolding duesLeft
+tests-leave w m dues e = rw e

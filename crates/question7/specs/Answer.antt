@@ -1,4 +1,5 @@
 -- Question 7's answer for each case of what the machine's words stand for: no state, a stop's number, or a state with its next moment due.
+use mathlib.Core.Bool.{cond}
 use mathlib.Core.List.{List}
 use mathlib.Core.Option.{Option, none, some}
 use mathlib.Core.Path.{_≡_}
@@ -8,8 +9,9 @@ use Rattle.listing.specs.Listing.{Listing}
 use Rattle.walk.specs.Instant.{NextDue, nextDue, environmentSize}
 use Rattle.walk.specs.Calls.{Machine, halted, running}
 use Rattle.machine.specs.Due.{dueAt}
-use Rattle.machine.specs.ReadMachine.{readMachine}
+use Rattle.machine.specs.ReadMachine.{stoppedWords, readMachine}
 use Rattle.machine_words.specs.Tests.{Dues}
+use Rattle.machine_in_place.specs.Kept.{wordsKept}
 use Rattle.question7.specs.declared.MachineCheck.{MachineCheck}
 use Rattle.question7.specs.declared.MachineCheck.the-variants.{NotAState, Stopped, Running}
 
@@ -28,8 +30,13 @@ checkOf NotAState = notAState
 checkOf (Stopped k) = stopped k
 checkOf (Running t) = runs (dueAt t)
 
--- Question 7's answer for a machine's 12,288 words; of a state, `dues` has the soonest moment due of each block.
-pub record Answered (listing : Listing) (machine dues : List ℕ) (r : MachineCheck) : Type 0 where
+-- The array of moments as question 7 leaves it: a stopped machine has no blocks to test.
+unfoldable pub duesLeft : Listing → List ℕ → List ℕ → List ℕ
+duesLeft listing machine dues = cond (stoppedWords machine) dues (wordsKept (environmentSize listing) machine dues)
+
+-- Question 7's answer for a machine's 12,288 words, and what it leaves of the array `before`; of a state, `dues` has the soonest moment due of each block.
+pub record Answered (listing : Listing) (machine before dues : List ℕ) (r : MachineCheck) : Type 0 where
   pub answer : checkOf r ≡ answerOf (readMachine listing machine)
   pub each : (soonest : ℕ) → r ≡ Running soonest → Dues (environmentSize listing) machine dues
   pub places : length dues ≡ 65
+  pub kept : dues ≡ duesLeft listing machine before

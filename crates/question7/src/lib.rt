@@ -16,6 +16,7 @@ ghost use Rattle.walk.specs.Instant.{environmentSize};
 ghost use Rattle.machine.specs.Words.{runningWords};
 ghost use Rattle.machine.specs.Due.{wordsDue};
 ghost use Rattle.machine_words.specs.Tests.{testOf, tested, Dues};
+ghost use Rattle.machine_in_place.specs.Kept.{wordsKept};
 ghost use Rattle.walk.specs.Calls.{firstWords};
 ghost use Rattle.question7.specs.Answer.{Answered};
 
@@ -33,7 +34,8 @@ pub fn running_words(t: &[u32], m: &[u32], dues: &mut [u64; 65]) -> Test
         (wordsDue (environmentSize (tableListing (now (t .entry)))) (now (m .entry))))
         × (length (now (dues .exit)) ≡ 65)
         × (runningWords (tableListing (now (t .entry))) (now (m .entry)) ≡ true
-        → Dues (environmentSize (tableListing (now (t .entry)))) (now (m .entry)) (now (dues .exit))) ⌝ }
+        → Dues (environmentSize (tableListing (now (t .entry)))) (now (m .entry)) (now (dues .exit)))
+        × (now (dues .exit) ≡ wordsKept (environmentSize (tableListing (now (t .entry)))) (now (m .entry)) (now (dues .entry))) ⌝ }
 {
     let size = number(t[0]) + number(t[1]);
     let Test::Passes(soonest) = words_in_place(m, size, dues) else {
@@ -48,7 +50,7 @@ pub fn running_words(t: &[u32], m: &[u32], dues: &mut [u64; 65]) -> Test
 // Question 7 on the 12,288 words of each memory.
 pub fn machine_answer(t: &[u32], m: &[u32], dues: &mut [u64; 65]) -> MachineCheck
     requires { ⌜ (length (now t) ≡ 12288) × (length (now m) ≡ 12288) × (isTable (now t) ≡ true) × (length (now dues) ≡ 65) ⌝ }
-    ensures { λ r. ⌜ Answered (tableListing (now (t .entry))) (now (m .entry)) (now (dues .exit)) r ⌝ }
+    ensures { λ r. ⌜ Answered (tableListing (now (t .entry))) (now (m .entry)) (now (dues .entry)) (now (dues .exit)) r ⌝ }
 {
     if stopped_words(m) {
         let k = m[0];
@@ -63,7 +65,7 @@ pub fn machine_answer(t: &[u32], m: &[u32], dues: &mut [u64; 65]) -> MachineChec
 // Question 7 on memories of at least 12,288 words; the table has passed question 6. Of a state, the soonest moment due of each block is kept.
 pub fn check_machine(t: &[u32], m: &[u32], dues: &mut [u64; 65]) -> MachineCheck
     requires { ⌜ (12288 ≤ length (now t)) × (12288 ≤ length (now m)) × (isTable (firstWords (now t)) ≡ true) × (length (now dues) ≡ 65) ⌝ }
-    ensures { λ r. ⌜ Answered (tableListing (firstWords (now (t .entry)))) (firstWords (now (m .entry))) (now (dues .exit)) r ⌝ }
+    ensures { λ r. ⌜ Answered (tableListing (firstWords (now (t .entry)))) (firstWords (now (m .entry))) (now (dues .entry)) (now (dues .exit)) r ⌝ }
 {
     machine_answer(&t[0..12288], &m[0..12288], dues)
 }

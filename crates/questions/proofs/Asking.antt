@@ -157,8 +157,8 @@ module _ (listing : Listing) (w : List ℕ) (t : ℕ) (ns : List ℕ) (allowance
       }
 
 -- The same with the number of inputs read from a table that may be longer.
-pub machine-passed-with : (table w : List ℕ) (t : ℕ) (ns : List ℕ) (allowance : ℕ) (dues : List ℕ) (r soonest : ℕ) (check : MachineCheck) →
-    Answered (tableListing (take 12288 table)) w dues check → check ≡ Running soonest → (i : ℕ) → i ≡ getD table 0 0 →
+pub machine-passed-with : (table w : List ℕ) (t : ℕ) (ns : List ℕ) (allowance : ℕ) {before : List ℕ} (dues : List ℕ) (r soonest : ℕ) (check : MachineCheck) →
+    Answered (tableListing (take 12288 table)) w before dues check → check ≡ Running soonest → (i : ℕ) → i ≡ getD table 0 0 →
     ((next : Outcome) → asked r next ≡ Four (ltb (momentAt w 1) t) (dueBefore (dueAt soonest) t) (numbersRise i 0 ns) (allowed allowance) next) →
     MachineAsked (tableListing (take 12288 table)) w t ns allowance dues r
 machine-passed-with table w t ns allowance dues r soonest check A runs i f asks =

@@ -1,5 +1,5 @@
 -- `machine_in_place::slots_hold` meets its contract.
-use mathlib.Core.Path.{_≡_, sym, _∙_}
+use mathlib.Core.Path.{_≡_, refl, sym, _∙_}
 use mathlib.Core.Bool.{true, false}
 use lib.ListN.{length, length-set}
 use native.Mathlib.Omega.{arith}
@@ -7,6 +7,8 @@ use Rattle.machine_words.specs.Tests.{SlotDues}
 use Rattle.machine_in_place.proofs.Laws.{one-slot}
 use Rattle.machine_words.proofs.TestLaws.{fails, not-both, has-failed, has-passed}
 use Rattle.machine_in_place.proofs.SlotLaws.{SlotsLeft, slots-begin, slots-go-on, slots-end, no-slot-kept, one-more-kept}
+use Rattle.machine_in_place.proofs.KeptLaws.{kept-on, kept-so-far, kept-all}
+use Rattle.machine_in_place.specs.Kept.{slotsKept}
 use borrow.Author.Needs.{needs}
 use Rattle.machine_in_place.proofs.slots_hold.Statement.{statement}
 use Rattle.machine_in_place.proofs.slots_hold.Tie as tie
@@ -14,6 +16,7 @@ use Rattle.machine_in_place.proofs.slots_hold.Tie as tie
 abbrev Inv-loop : tie.InvT-loop
 Inv-loop m n present soonest dues₀ found₀ s₀ dues found s =
     SlotsLeft n (present .0) m soonest found s × (length dues ≡ 65) × SlotDues s m dues₀ dues
+    × (slotsKept n (present .0) m s dues ≡ slotsKept n (present .0) m 64 dues₀)
 
 abbrev μ-loop : tie.MeasureT-loop
 μ-loop m n present soonest dues₀ found₀ s₀ dues found s =
@@ -21,7 +24,7 @@ abbrev μ-loop : tie.MeasureT-loop
 
 loop-holds : tie.Need-loop-holds Inv-loop μ-loop
 loop-holds c =
-    (slots-begin _ _ _ _, search needs, no-slot-kept _ _)
+    (slots-begin _ _ _ _, search needs, no-slot-kept _ _, refl)
 
 sub-slot-holds : tie.Need-sub-slot-holds Inv-loop μ-loop
 sub-slot-holds c = search needs
@@ -38,8 +41,10 @@ enum-told c = search needs
 returns : tie.Need-returns Inv-loop μ-loop
 returns c =
     let v = c .before .before .before .before .loop in
-    let no = sym (sym (one-slot _ _ _ (v .s) false (c .before .before .before .loop-test .taken) (has-failed _ _ _ (c .before .before .slot-holds .ensures) (c .enum-told .given .1))) ∙ v .inv .0 .holds) in
-    (fails _ _ no, v .inv .1, not-both no)
+    let more = c .before .before .before .loop-test .taken in
+    let f = has-failed _ _ _ (c .before .before .slot-holds .ensures) (c .enum-told .given .1) in
+    let no = sym (sym (one-slot _ _ _ (v .s) false more f) ∙ v .inv .0 .holds) in
+    (fails _ _ no, v .inv .1, not-both no, kept-so-far _ _ _ _ (v .s) more f ∙ v .inv .3)
 
 sub-dues : tie.Need-sub-dues Inv-loop μ-loop
 sub-dues c = search needs
@@ -67,13 +72,14 @@ loop-again c =
       slots-go-on _ _ _ _ _ _ _ (v .s) more (v .inv .0) (one-slot _ _ _ (v .s) true more (p .0)) (p .1) (c .sooner .ensures),
       simp length-set (v .inv .1),
       one-more-kept _ _ _ (v .s) _ more (v .inv .0 .within) (v .inv .1) (v .inv .2) (p .1),
+      sym (kept-on _ _ _ _ (v .s) _ more (p .0) (p .1)) ∙ v .inv .3,
     )
 
 returns-2 : tie.Need-returns-2 Inv-loop μ-loop
 returns-2 c =
     let v = c .before .loop in
     let z : v .s ≡ 0 = omega (arith, c .loop-test .left) in
-    (slots-end _ _ _ _ _ _ (c .loop-test .left) (v .inv .0), v .inv .1, λ e. rw z at (v .inv .2))
+    (slots-end _ _ _ _ _ _ (c .loop-test .left) (v .inv .0), v .inv .1, λ e. rw z at (v .inv .2), kept-all _ _ _ _ (v .s) z ∙ v .inv .3)
 
 pub slots-hold-spec : {M : Type 1} → statement M
 slots-hold-spec =

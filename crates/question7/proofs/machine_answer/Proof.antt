@@ -2,7 +2,7 @@
 use mathlib.Core.Path.{refl, sym, _∙_}
 use native.Mathlib.Omega.{arith}
 use Rattle.machine_words.proofs.TestLaws.{has-failed, has-passed}
-use Rattle.question7.proofs.AnswerLaws.{answer-stopped, answer-running, answer-none, stopped-not-running, none-not-running}
+use Rattle.question7.proofs.AnswerLaws.{answer-stopped, answer-running, answer-none, stopped-not-running, none-not-running, stopped-leaves, tests-leave}
 use borrow.Author.Needs.{needs}
 use Rattle.question7.proofs.machine_answer.Statement.{statement}
 use Rattle.question7.proofs.machine_answer.Tie as tie
@@ -19,6 +19,7 @@ returns c =
       answer = answer-stopped _ _ _ refl (sym (c .before .before .stopped-words .ensures) ∙ c .before .if1 .taken);
       each = λ d e. stopped-not-running e;
       places = search needs;
+      kept = stopped-leaves _ _ _ (sym (c .before .before .stopped-words .ensures) ∙ c .before .if1 .taken);
     }
 
 running-words-requires : tie.Need-running-words-requires
@@ -36,6 +37,7 @@ returns-2 c =
       answer = answer-none _ _ (sym (c .before .before .before .before .before .stopped-words .ensures) ∙ c .before .before .before .before .if1 .left) (has-failed _ _ _ (c .before .before .running-words .ensures .0) (c .enum-told .given .1));
       each = λ d e. none-not-running e;
       places = c .before .before .running-words .ensures .1;
+      kept = c .before .before .running-words .ensures .3 ∙ tests-leave _ _ _ (sym (c .before .before .before .before .before .stopped-words .ensures) ∙ c .before .before .before .before .if1 .left);
     }
 
 returns-3 : tie.Need-returns-3
@@ -45,6 +47,7 @@ returns-3 c =
       answer = answer-running _ _ _ (λ i. omega (arith, c .before .before .before .before .before .before .before .shared-slice-known2 .given i)) (sym (c .before .before .before .before .before .before .stopped-words .ensures) ∙ c .before .before .before .before .before .if1 .left) (p .0) (p .1);
       each = λ d e. c .before .before .before .running-words .ensures .2 (p .0);
       places = c .before .before .before .running-words .ensures .1;
+      kept = c .before .before .before .running-words .ensures .3 ∙ tests-leave _ _ _ (sym (c .before .before .before .before .before .before .stopped-words .ensures) ∙ c .before .before .before .before .before .if1 .left);
     }
 
 pub machine-answer-spec : {M : Type 1} → statement M

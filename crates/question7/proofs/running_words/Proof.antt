@@ -9,7 +9,7 @@ use Rattle.table.specs.Decode.{tableListing}
 use Rattle.machine.specs.Words.{wordsInPlace}
 use Rattle.machine_words.proofs.TestLaws.{fails, passes, not-both, has-failed, has-passed}
 use Rattle.question7.proofs.FromQuestion6.{table-bounds}
-use Rattle.question7.proofs.AnswerLaws.{size-of, ready, not-in-place, running-by-tree, due-of-listing, dues-of-listing}
+use Rattle.question7.proofs.AnswerLaws.{size-of, ready, not-in-place, running-by-tree, due-of-listing, dues-of-listing, kept-of-listing}
 use borrow.Author.Needs.{needs}
 use Rattle.question7.proofs.running_words.Statement.{statement}
 use Rattle.question7.proofs.running_words.Tie as tie
@@ -41,8 +41,9 @@ enum-told c = search needs
 returns : tie.Need-returns
 returns c =
     let w = c .before .before in
-    let no = not-in-place _ _ _ (size-of _ _ _ (w .before .before .before .before .number .ensures .0) (w .before .before .number2 .ensures .0)) (has-failed _ _ _ (w .words-in-place .ensures .0) (c .enum-told .given .1)) in
-    (fails _ _ no, w .words-in-place .ensures .1, not-both no)
+    let e = size-of _ _ _ (w .before .before .before .before .number .ensures .0) (w .before .before .number2 .ensures .0) in
+    let no = not-in-place _ _ _ e (has-failed _ _ _ (w .words-in-place .ensures .0) (c .enum-told .given .1)) in
+    (fails _ _ no, w .words-in-place .ensures .1, not-both no, kept-of-listing _ _ _ e _ _ (w .words-in-place .ensures .3))
 
 tree-passes-requires : tie.Need-tree-passes-requires
 tree-passes-requires c κs =
@@ -57,8 +58,9 @@ returns-2 : tie.Need-returns-2
 returns-2 c =
     let w = c .before .before .before .before .before in
     let p = has-passed _ _ _ _ (w .words-in-place .ensures .0) (c .before .before .before .soonest .given .1) in
-    let no = running-by-tree _ _ _ (size-of _ _ _ (w .before .before .before .before .number .ensures .0) (w .before .before .number2 .ensures .0)) false (p .0) (sym (c .before .tree-passes .ensures) ∙ not-true _ (c .if1 .taken)) in
-    (fails _ _ no, w .words-in-place .ensures .1, not-both no)
+    let e = size-of _ _ _ (w .before .before .before .before .number .ensures .0) (w .before .before .number2 .ensures .0) in
+    let no = running-by-tree _ _ _ e false (p .0) (sym (c .before .tree-passes .ensures) ∙ not-true _ (c .if1 .taken)) in
+    (fails _ _ no, w .words-in-place .ensures .1, not-both no, kept-of-listing _ _ _ e _ _ (w .words-in-place .ensures .3))
 
 returns-3 : tie.Need-returns-3
 returns-3 c =
@@ -68,6 +70,7 @@ returns-3 c =
       passes _ _ _ (running-by-tree _ _ _ e true (p .0) (sym (c .before .tree-passes .ensures) ∙ not-false _ (c .if1 .left))) (due-of-listing _ _ _ e _ (p .1)),
       w .words-in-place .ensures .1,
       λ r. dues-of-listing _ _ _ e _ (w .words-in-place .ensures .2 (p .0)),
+      kept-of-listing _ _ _ e _ _ (w .words-in-place .ensures .3),
     )
 
 pub running-words-spec : {M : Type 1} → statement M

@@ -1,0 +1,19 @@
+use Rattle.stored_answers.proofs.Answering.{other-part, by-due}
+use Rattle.stored_calls.specs.declared.reports.Report.{Report}
+use Rattle.stored_answers.proofs.same_reports.Statement.{statement}
+use Rattle.stored_answers.proofs.same_reports.Tie as tie
+
+returns : tie.Need-returns
+returns c = other-part (λ (x : Report). x .number) _ _ (c .if1 .taken)
+
+returns-2 : tie.Need-returns-2
+returns-2 c = other-part (λ (x : Report). x .steps) _ _ (c .if2 .taken)
+
+returns-3 : tie.Need-returns-3
+returns-3 c = other-part (λ (x : Report). x .listed) _ _ (c .if3 .taken)
+
+returns-4 : tie.Need-returns-4
+returns-4 c = by-due _ _ (c .before .before .before .before .before .before .before .before .if1 .left) (c .before .before .before .before .before .if2 .left) (c .before .before .if3 .left)
+
+pub same-reports-spec : {M : Type 1} → statement M
+same-reports-spec = tie.close (tie.spec returns returns-2 returns-3 returns-4)

@@ -1,0 +1,3 @@
+pub mod Reporting
+pub mod Pairing
+pub mod Making

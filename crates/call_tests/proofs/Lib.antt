@@ -1,9 +1,3 @@
-pub mod Counting
-pub mod Reporting
-pub mod Pairing
-pub mod Making
-pub mod Judging
-pub mod Turning
 pub mod Loading
-pub mod Agreeing
+pub mod Turning
 pub mod Casing

@@ -1,51 +1,43 @@
 -- The cases of a file, each a list of items.
 use mathlib.Core.Path.{_≡_}
-use mathlib.Core.Bool.{Bool, cond}
+use mathlib.Core.Bool.{true, false}
 use mathlib.Core.List.{List}
-use Prim.Native.Nat.{ℕ, zero, suc, _*_, _-_, _≤_, _<_}
-use lib.Dec.{ltb, eqb}
-use lib.ListN.{length, take, drop, replicate}
+use Prim.Native.Nat.{ℕ, zero, suc, _+_, _-_, _≤_, _<_}
+use lib.ListN.{take, drop}
 use Rattle.listing.specs.Load.{loading, loaded, isLongEnough}
 use Rattle.listing.specs.Questions.{listingIn}
 use Rattle.walk.specs.Promises.{TableAfter}
 use Rattle.layout.specs.Layout.{layout}
 use Rattle.cases.specs.Frame.{wordAt, onward}
-use Rattle.cases.specs.Words.{Tells}
-use Rattle.call_tests.specs.Items.{ItemAgrees, Kept}
-use Rattle.call_tests.specs.Memories.{pattern}
+use Rattle.lending.specs.Memories.{unusedMemory}
+use Rattle.stored_items.specs.Items.{afterItem, RanItem}
 use Rattle.call_tests.specs.declared.Run.{Run}
 use Rattle.call_tests.specs.declared.Tally.{Tally}
 
--- r says whether the text is loaded, and the table is as loading leaves it
-pub record LoadsInto (text table table′ : List ℕ) (r : Bool) : Type 0 where
-  pub tells : Tells r (loading (isLongEnough table) text ≡ loaded (listingIn text))
-  pub tableIs : TableAfter layout table table′ (loading (isLongEnough table) text)
+-- 0 if the text is loaded, else 1; and the table is as loading leaves it
+pub data LoadsInto (text table table′ : List ℕ) : ℕ → Type 0 where
+  loads : loading (isLongEnough table) text ≡ loaded (listingIn text) → TableAfter layout table table′ (loading (isLongEnough table) text) → LoadsInto text table table′ 0
+  refuses : (loading (isLongEnough table) text ≡ loaded (listingIn text) → ⊥) → TableAfter layout table table′ (loading (isLongEnough table) text) → LoadsInto text table table′ 1
 
 -- ── the items of a case, one after the other ──────────────────────────────────────────────────────
--- the place after the call at a place, and after the item
-abbrev pub afterCall : List ℕ → ℕ → ℕ
-afterCall s at =
-    let answer = onward s (onward s at 24) (wordAt s (onward s at 20) * 8) in
-    onward s (onward s answer 24) (wordAt s (onward s answer 8) * 8)
-
-unfoldable pub afterItem : List ℕ → ℕ → ℕ
-afterItem s at = cond (ltb (wordAt s at) 2) (afterCall s at) (cond (eqb (wordAt s at) 2) (onward s at 4) (onward s at 12))
-
 unfoldable pub afterItems : List ℕ → ℕ → ℕ → ℕ
 afterItems s at zero = at
 afterItems s at (suc n) = afterItems s (afterItem s at) n
 
--- of so many items from a place on each agrees, on this table, with the machine and the copy that it finds
-pub data AllAgree (s table : List ℕ) : ℕ → ℕ → Type 0 where
-  none : {at : ℕ} → AllAgree s table at 0
-  one : {at n : ℕ} {machine kept : List ℕ} → ItemAgrees s at table machine kept → AllAgree s table (afterItem s at) n → AllAgree s table at (suc n)
+-- Of so many items from a place on so many fail and the others agree, on this table; the first finds this machine and this copy of one, and each
+-- next what the item before left.
+pub data ItemsFailing (s table : List ℕ) : List ℕ → List ℕ → ℕ → ℕ → ℕ → Type 0 where
+  none : {machine kept : List ℕ} {at : ℕ} → ItemsFailing s table machine kept at 0 0
+  agrees : {machine kept machine′ kept′ : List ℕ} {at n k : ℕ} → RanItem s at table machine kept machine′ kept′ true → ItemsFailing s table machine′ kept′ (afterItem s at) n k
+      → ItemsFailing s table machine kept at (suc n) k
+  fails : {machine kept machine′ kept′ : List ℕ} {at n k : ℕ} → RanItem s at table machine kept machine′ kept′ false → ItemsFailing s table machine′ kept′ (afterItem s at) n k
+      → ItemsFailing s table machine kept at (suc n) (suc k)
 
--- so many items were run: the place after them, and how many failed; if none did, all agree
-pub record RanItems (s : List ℕ) (from : ℕ) (table machine before kept table′ machine′ before′ kept′ : List ℕ) (count : ℕ) (r : Run) : Type 0 where
-  pub memories : Kept table machine before kept table′ machine′ before′ kept′
+-- so many items were run: the place after them, and how many failed
+pub record RanItems (s : List ℕ) (from : ℕ) (table machine kept : List ℕ) (count : ℕ) (r : Run) : Type 0 where
   pub next : r .next ≡ afterItems s from count
-  pub failed : r .failed ≤ count
-  pub agree : r .failed ≡ 0 → AllAgree s table from count
+  pub few : r .failed ≤ count
+  pub counts : ItemsFailing s table machine kept from count (r .failed)
 
 -- ── a case: its name, its listing (a part), the number of its items and the items ────────────────
 abbrev pub listingFrom : List ℕ → ℕ → ℕ
@@ -54,32 +46,37 @@ listingFrom s at = onward s (onward s at 4) 4
 abbrev pub listingTo : List ℕ → ℕ → ℕ
 listingTo s at = onward s (listingFrom s at) (wordAt s (onward s at 4))
 
+abbrev pub listingText : List ℕ → ℕ → List ℕ
+listingText s at = take (listingTo s at - listingFrom s at) (drop (listingFrom s at) s)
+
 abbrev pub itemsAt : List ℕ → ℕ → ℕ
 itemsAt s at = onward s (listingTo s at) 4
 
 abbrev pub itemCount : List ℕ → ℕ → ℕ
 itemCount s at = wordAt s (listingTo s at)
 
--- four memories are as long as before
-pub record AsLong (table machine before kept table′ machine′ before′ kept′ : List ℕ) : Type 0 where
-  pub table-as-long : length table′ ≡ length table
-  pub machine-as-long : length machine′ ≡ length machine
-  pub before-as-long : length before′ ≡ length before
-  pub kept-as-long : length kept′ ≡ length kept
+abbrev pub afterCase : List ℕ → ℕ → ℕ
+afterCase s at = afterItems s (itemsAt s at) (itemCount s at)
 
--- a case was run: if no item failed, all agree, on the table that loading its listing leaves
-pub record RanCase (s : List ℕ) (at : ℕ) (table machine before kept table′ machine′ before′ kept′ : List ℕ) (r : Run) : Type 0 where
-  pub memories : AsLong table machine before kept table′ machine′ before′ kept′
-  pub next : r .next ≡ afterItems s (itemsAt s at) (itemCount s at)
-  pub failed : r .failed ≤ itemCount s at
-  pub tableIs :
-      let text = take (listingTo s at - listingFrom s at) (drop (listingFrom s at) s) in
-      TableAfter layout (replicate (length table) pattern) table′ (loading (isLongEnough table) text)
-  pub agree : r .failed ≡ 0 → AllAgree s table′ (itemsAt s at) (itemCount s at)
+-- Of the case at a place so much fails: its listing, if it does not load, and so many of its items, on the table that loading leaves and unused
+-- memories.
+pub data CaseFailing (s : List ℕ) (at : ℕ) : ℕ → Type 0 where
+  case : {table : List ℕ} {j k n : ℕ} → LoadsInto (listingText s at) unusedMemory table j
+      → ItemsFailing s table unusedMemory unusedMemory (itemsAt s at) (itemCount s at) k → n ≡ j + k → CaseFailing s at n
 
--- all cases of a file: their number stands first
-pub record RanFile (s table machine before kept table′ machine′ before′ kept′ : List ℕ) (r : Tally) : Type 0 where
-  pub memories : AsLong table machine before kept table′ machine′ before′ kept′
+pub record RanCase (s : List ℕ) (at : ℕ) (r : Run) : Type 0 where
+  pub next : r .next ≡ afterCase s at
+  pub counts : CaseFailing s at (r .failed)
+
+-- of so many cases from a place on so many fail, and in the others nothing does
+pub data Failing (s : List ℕ) : ℕ → ℕ → ℕ → Type 0 where
+  none : {at : ℕ} → Failing s at 0 0
+  agrees : {at n k : ℕ} → CaseFailing s at 0 → Failing s (afterCase s at) n k → Failing s at (suc n) k
+  fails : {at n k j : ℕ} → CaseFailing s at (suc j) → Failing s (afterCase s at) n k → Failing s at (suc n) (suc k)
+
+-- All cases of a file were run: their number stands first, and so many of them fail.
+pub record RanFile (s : List ℕ) (r : Tally) : Type 0 where
   pub count : r .cases ≡ wordAt s 0
   pub few : r .cases < 4294967296
   pub failed : r .failed ≤ r .cases
+  pub counts : Failing s (onward s 0 4) (r .cases) (r .failed)

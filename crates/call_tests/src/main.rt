@@ -1,16 +1,8 @@
 // Lists of calls with the answer stored for each: a listing is loaded, and start, instant and comparison are called on its table.
-// Prints each call that fails, with what was expected and what was found, and then how many lists agree.
+// Prints each item that fails, with what was expected and what was found, and then how many lists agree.
 // "Spoil" in the file says what is wrong with the memories lent to one call.
-pub mod calls;
-pub mod inputs;
-pub mod items;
-pub mod memory;
-pub mod reports;
-
+ghost use mathlib.Core.Path.{_≡_};
 ghost use Rattle.call_tests.specs.Cases.{LoadsInto, RanItems, RanCase, RanFile};
-use crate::items::after_item;
-use crate::items::run_item;
-use crate::memory::PATTERN;
 use cases::frame::part_at;
 use cases::frame::past;
 use cases::frame::word_at;
@@ -18,21 +10,35 @@ use cases::report::read_file;
 use cases::report::say;
 use cases::report::say_number;
 use cases::report::sum_up;
-use cases::words::fill;
+use lending::machine::unused_memory;
 use load::load;
 use loader::Loaded;
+use stored_items::items::after_item;
+use stored_items::items::run_item;
 
-// Whether a listing loads.
-fn loads(listing: &[u8], table: &mut [u32]) -> bool
+// Loads a listing: 0, or 1 if it does not load, which is then said.
+fn refusals(listing: &[u8], table: &mut [u32]) -> u64
     ensures { λ r. ⌜ LoadsInto (now (listing .entry)) (now (table .entry)) (now (table .exit)) r ⌝ }
 {
     match load(listing, table) {
-        Loaded::Done => true,
-        Loaded::Refused(_, _) => false,
+        Loaded::Done => 0,
+        Loaded::Refused(_, _) => {
+            say(b"a listing does not load\n");
+            1
+        }
     }
 }
 
-// How far a list of items has been run: the place after it, and how many items failed.
+// Says which item of which case fails.
+fn say_failure(name: u32, item: u64) {
+    say(b"case ");
+    say_number(name as u64);
+    say(b", item ");
+    say_number(item);
+    say(b" fails\n");
+}
+
+// How far a list of items has been run: the place after it, and how many failed.
 pub struct Run {
     pub next: usize,
     pub failed: u64,
@@ -46,23 +52,17 @@ fn run_items(
     count: u32,
     table: &mut [u32],
     machine: &mut [u32],
-    before: &mut [u32],
     kept: &mut [u32],
 ) -> Run
-    ensures { λ r. ⌜ RanItems (now (s .entry)) from (now (table .entry)) (now (machine .entry)) (now (before .entry)) (now (kept .entry))
-        (now (table .exit)) (now (machine .exit)) (now (before .exit)) (now (kept .exit)) count r ⌝ }
+    ensures { λ r. ⌜ RanItems (now (s .entry)) from (now (table .entry)) (now (machine .entry)) (now (kept .entry)) count r ⌝ }
 {
     let items = count as u64;
     let mut at = from;
     let mut done: u64 = 0;
     let mut failed: u64 = 0;
     while done < items {
-        if !run_item(s, at, table, machine, before, kept) {
-            say(b"case ");
-            say_number(name as u64);
-            say(b", item ");
-            say_number(done);
-            say(b" fails\n");
+        if !run_item(s, at, table, machine, kept) {
+            say_failure(name, done);
             failed += 1;
         }
         at = after_item(s, at);
@@ -71,30 +71,25 @@ fn run_items(
     Run { next: at, failed }
 }
 
-// A case: its name, its listing, the number of its items and the items.
-fn run_case(
-    s: &[u8],
-    at: usize,
-    table: &mut [u32],
-    machine: &mut [u32],
-    before: &mut [u32],
-    kept: &mut [u32],
-) -> Run
-    ensures { λ r. ⌜ RanCase (now (s .entry)) at (now (table .entry)) (now (machine .entry)) (now (before .entry)) (now (kept .entry))
-        (now (table .exit)) (now (machine .exit)) (now (before .exit)) (now (kept .exit)) r ⌝ }
+// A case: its name, its listing, the number of its items and the items. A listing that does not load counts as a failure too.
+fn run_case(s: &[u8], at: usize) -> Run
+    ensures { λ r. ⌜ RanCase (now (s .entry)) at r ⌝ }
 {
     let name = word_at(s, at);
     let part = part_at(s, past(s, at, 4));
     let from = part.from;
     let to = part.to;
-    fill(table, PATTERN);
-    fill(machine, PATTERN);
-    if !loads(&s[from..to], table) {
-        say(b"a listing does not load\n");
-    }
+    let mut table = unused_memory();
+    let mut machine = unused_memory();
+    let mut kept = unused_memory();
+    let refused = refusals(&s[from..to], &mut table);
     let count = word_at(s, to);
     let first = past(s, to, 4);
-    run_items(s, first, name, count, table, machine, before, kept)
+    let run = run_items(s, first, name, count, &mut table, &mut machine, &mut kept);
+    Run {
+        next: run.next,
+        failed: refused + run.failed,
+    }
 }
 
 // How many cases there were, and how many of them failed.
@@ -104,22 +99,15 @@ pub struct Tally {
 }
 
 // All cases of a file: their number, then each of them.
-fn run_file(
-    s: &[u8],
-    table: &mut [u32],
-    machine: &mut [u32],
-    before: &mut [u32],
-    kept: &mut [u32],
-) -> Tally
-    ensures { λ r. ⌜ RanFile (now (s .entry)) (now (table .entry)) (now (machine .entry)) (now (before .entry)) (now (kept .entry))
-        (now (table .exit)) (now (machine .exit)) (now (before .exit)) (now (kept .exit)) r ⌝ }
+fn run_file(s: &[u8]) -> Tally
+    ensures { λ r. ⌜ RanFile (now (s .entry)) r ⌝ }
 {
     let count = word_at(s, 0) as u64;
     let mut at = past(s, 0, 4);
     let mut done: u64 = 0;
     let mut failed: u64 = 0;
     while done < count {
-        let run = run_case(s, at, table, machine, before, kept);
+        let run = run_case(s, at);
         if run.failed != 0 {
             failed += 1;
         }
@@ -135,16 +123,6 @@ fn run_file(
 fn main() {
     let mut file = io::large_buffer();
     let length = read_file(b"calls.dat", &mut file);
-    let mut table = [0u32; 12300];
-    let mut machine = [0u32; 12300];
-    let mut before = [0u32; 12300];
-    let mut kept = [0u32; 12300];
-    let tally = run_file(
-        &file[..length],
-        &mut table,
-        &mut machine,
-        &mut before,
-        &mut kept,
-    );
+    let tally = run_file(&file[..length]);
     sum_up(b"calls: ", tally.cases, tally.failed);
 }

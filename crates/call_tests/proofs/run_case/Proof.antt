@@ -1,6 +1,7 @@
-use mathlib.Core.Path.{ap, _∙_}
+use mathlib.Core.Path.{refl}
+use native.Mathlib.Omega.{arith}
 use denote.Ref.{now}
-use lib.ListN.{length}
+use Rattle.call_tests.proofs.Loading.{once}
 use Rattle.call_tests.proofs.Casing.{case-ran}
 use borrow.Author.Needs.{needs}
 use Rattle.call_tests.proofs.run_case.Statement.{statement}
@@ -15,29 +16,29 @@ past-requires c κs = tt
 part-at-requires : tie.Need-part-at-requires
 part-at-requires c κs = tt
 
-fill-requires : tie.Need-fill-requires
-fill-requires c κs = tt
+unused-memory-requires : tie.Need-unused-memory-requires
+unused-memory-requires c κs = tt
 
-fill-requires-2 : tie.Need-fill-requires-2
-fill-requires-2 c κs = tt
+unused-memory-requires-2 : tie.Need-unused-memory-requires-2
+unused-memory-requires-2 c κs = tt
 
-sub-loads : tie.Need-sub-loads
-sub-loads c = search needs
+unused-memory-requires-3 : tie.Need-unused-memory-requires-3
+unused-memory-requires-3 c κs = tt
 
-part-loads-start : tie.Need-part-loads-start
-part-loads-start c = search needs
+sub-refusals : tie.Need-sub-refusals
+sub-refusals c = search needs
 
-part-loads-end : tie.Need-part-loads-end
-part-loads-end c = search needs
+part-refusals-start : tie.Need-part-refusals-start
+part-refusals-start c = search needs
 
-loads-requires : tie.Need-loads-requires
-loads-requires c κs = tt
+part-refusals-end : tie.Need-part-refusals-end
+part-refusals-end c = search needs
 
-slice-aggregate-say : tie.Need-slice-aggregate-say
-slice-aggregate-say c = search needs
+slice-aggregate-refusals : tie.Need-slice-aggregate-refusals
+slice-aggregate-refusals c = search needs
 
-say-requires : tie.Need-say-requires
-say-requires c κs = tt
+refusals-requires : tie.Need-refusals-requires
+refusals-requires c κs = tt
 
 word-at-requires-2 : tie.Need-word-at-requires-2
 word-at-requires-2 c κs = tt
@@ -45,38 +46,34 @@ word-at-requires-2 c κs = tt
 past-requires-2 : tie.Need-past-requires-2
 past-requires-2 c κs = tt
 
+slice-aggregate-run-items : tie.Need-slice-aggregate-run-items
+slice-aggregate-run-items c = search needs
+
+slice-aggregate-run-items-2 : tie.Need-slice-aggregate-run-items-2
+slice-aggregate-run-items-2 c = search needs
+
+slice-aggregate-run-items-3 : tie.Need-slice-aggregate-run-items-3
+slice-aggregate-run-items-3 c = search needs
+
 run-items-requires : tie.Need-run-items-requires
 run-items-requires c κs = tt
 
-same-length : tie.Need-same-length
-same-length c =
-    ap length (c .before .before .before .before .before .before .before .before .run-items .ensures .memories .tableIs) ∙ (c .before .before .before .before .before .before .before .before .before .before .before .before .before .before .before .before .before .before .loads .kept .1 .0 ∙ c .before .before .before .before .before .before .before .before .before .before .before .before .before .before .before .before .before .before .before .before .before .before .before .before .before .before .before .fill .kept .0)
-
-same-length-2 : tie.Need-same-length-2
-same-length-2 c =
-    c .before .before .before .before .before .before .before .before .run-items .ensures .memories .as-long ∙ c .before .before .before .before .before .before .before .before .before .before .before .before .before .before .before .before .before .before .before .before .before .before .before .fill2 .kept .0
-
-same-length-3 : tie.Need-same-length-3
-same-length-3 c =
-    c .before .before .before .before .before .before .before .before .run-items .ensures .memories .before-as-long
-
-same-length-4 : tie.Need-same-length-4
-same-length-4 c =
-    c .before .before .before .before .before .before .before .before .run-items .ensures .memories .kept-as-long
+add-t27 : tie.Need-add-t27
+add-t27 c =
+    let h = once (c .before .before .before .before .before .before .before .before .before .before .before .refusals .ensures) in
+    let k = c .before .before .before .before .run-items .ensures .few in
+    omega arith
 
 returns : tie.Need-returns
 returns c =
-    let a = c .before .before .before .before .before .before .before .before .before .before .before .before .before .before .before .before .before .before .before .before .before .before .before .before .before .before .before .before .before .before .before .before .before .before .before .before .before .args in
-    let part = c .before .before .before .before .before .before .before .before .before .before .before .before .before .before .before .before .before .before .before .before .before .before .before .before .before .before .before .before .before .part-at in
-    let r = c .before .before .before .before .before .before .before .before .run-items in
-    let l = c .before .before .before .before .before .before .before .before .before .before .before .before .before .before .before .before .before .before .loads in
-    let f = c .before .before .before .before .before .before .before .before .before .before .before .before .before .before .before .before .before .before .before .before .before .before .before .before .before .before .before .fill in
-    let m = c .before .before .before .before .before .before .before .before .before .before .before .before .before .before .before .before .before .before .before .before .before .before .before .fill2 in
-    case-ran (now (a .s)) (a .at) (c .before .before .before .before .before .before .before .before .before .before .before .before .before .before .before .before .before .before .before .before .before .before .before .before .before .before .before .before .before .before .past .result) (part .result .from) (part .result .to) (c .before .before .before .before .before .before .before .before .before .before .before .before .before .past2 .result) (c .before .before .before .before .before .before .before .before .before .before .before .before .before .before .word-at2 .result)
-    (now (a .table)) (now (a .machine)) (now (a .before)) (now (a .kept)) (f .last .0) (m .last .0) (l .last .1 .0) (r .last .1 .1 .1 .1 .0) (r .last .1 .1 .1 .1 .1 .0)
-    (r .last .1 .1 .1 .1 .1 .1 .0) (r .last .1 .1 .1 .1 .1 .1 .1 .0) (r .result)
-    (c .before .before .before .before .before .before .before .before .before .before .before .before .before .before .before .before .before .before .before .before .before .before .before .before .before .before .before .before .before .before .past .ensures) (part .ensures .begins) (part .ensures .ends) (c .before .before .before .before .before .before .before .before .before .before .before .before .before .past2 .ensures) (c .before .before .before .before .before .before .before .before .before .before .before .before .before .before .word-at2 .ensures)
-    (f .ensures) (m .kept .0) (l .ensures) (l .kept .1 .0 ∙ f .kept .0) (r .ensures)
+    let a = c .before .before .before .before .before .before .before .before .before .before .before .before .before .before .before .before .before .before .before .before .before .args in
+    let part = c .before .before .before .before .before .before .before .before .before .before .before .before .before .before .before .before .before .part-at in
+    let l = c .before .before .before .before .before .before .before .before .before .before .before .refusals in
+    let r = c .before .before .before .before .run-items in
+    case-ran (now (a .s)) (a .at) (c .before .before .before .before .before .before .before .before .before .before .before .before .before .before .before .before .before .before .past .result) (part .result .from) (part .result .to) (c .before .before .before .before .before .before .before .before .past2 .result) (c .before .before .before .before .before .before .before .before .before .word-at2 .result) (l .result)
+    (c .before .before .before .before .before .before .before .before .before .before .before .before .before .before .before .before .unused-memory .result) (c .before .before .before .before .before .before .before .before .before .before .before .before .before .before .before .unused-memory2 .result) (c .before .before .before .before .before .before .before .before .before .before .before .before .before .before .unused-memory3 .result) (l .last .1 .0) (r .result) _
+    (c .before .before .before .before .before .before .before .before .before .before .before .before .before .before .before .before .before .before .past .ensures) (part .ensures .begins) (part .ensures .ends) (c .before .before .before .before .before .before .before .before .past2 .ensures) (c .before .before .before .before .before .before .before .before .before .word-at2 .ensures)
+    (c .before .before .before .before .before .before .before .before .before .before .before .before .before .before .before .before .unused-memory .ensures .1) (c .before .before .before .before .before .before .before .before .before .before .before .before .before .before .before .unused-memory2 .ensures .1) (c .before .before .before .before .before .before .before .before .before .before .before .before .before .before .unused-memory3 .ensures .1) (l .ensures) (r .ensures) refl refl
 
 pub run-case-spec : {M : Type 1} → statement M
 run-case-spec =
@@ -85,19 +82,19 @@ run-case-spec =
     word-at-requires
     past-requires
     part-at-requires
-    fill-requires
-    fill-requires-2
-    sub-loads
-    part-loads-start
-    part-loads-end
-    loads-requires
-    slice-aggregate-say
-    say-requires
+    unused-memory-requires
+    unused-memory-requires-2
+    unused-memory-requires-3
+    sub-refusals
+    part-refusals-start
+    part-refusals-end
+    slice-aggregate-refusals
+    refusals-requires
     word-at-requires-2
     past-requires-2
+    slice-aggregate-run-items
+    slice-aggregate-run-items-2
+    slice-aggregate-run-items-3
     run-items-requires
-    same-length
-    same-length-2
-    same-length-3
-    same-length-4
+    add-t27
     returns)

@@ -2,61 +2,39 @@ use mathlib.Core.Path.{_≡_, refl, ap, _∙_}
 use mathlib.Core.Logic.{⊎-elim}
 use native.Mathlib.Omega.{arith}
 use Prim.Native.Nat.{_-_, _≤_}
-use denote.Ref.{now}
 use lib.ListN.{length}
-use borrow.Author.Tests.{not-false}
-use Rattle.call_tests.proofs.Turning.{Rest, begun, one-agrees, one-fails, ended, ended-place}
-use borrow.Author.Needs.{needs}
+use borrow.Author.Tests.{not-true, not-false}
+use Rattle.call_tests.proofs.Turning.{Rest, begun, told-of, one-agrees, one-fails, ended, ended-place}
 use Rattle.call_tests.proofs.run_items.Statement.{statement}
 use Rattle.call_tests.proofs.run_items.Tie as tie
 
 abbrev Inv-loop : tie.InvT-loop
-Inv-loop s from name count table₀ machine₀ before₀ kept₀ items at₀ done₀ failed₀ t13 t14 t15 table machine before kept at done failed =
-    (items ≡ count) × (done ≤ items) × (failed ≤ done) × (table ≡ table₀) × (length machine ≡ length machine₀) × (length before ≡ length before₀) × (length kept ≡ length kept₀)
-    × Rest s table₀ from count at done failed
+Inv-loop s from name count table₀ machine₀ kept₀ items at₀ done₀ failed₀ table machine kept at done failed =
+    (items ≡ count) × (done ≤ items) × (failed ≤ done) × (table ≡ table₀) × (length machine ≡ length machine₀) × (length kept ≡ length kept₀) × Rest s table₀ machine₀ kept₀ from count machine kept at done failed
 
 abbrev μ-loop : tie.MeasureT-loop
-μ-loop s from name count table₀ machine₀ before₀ kept₀ items at₀ done₀ failed₀ t13 t14 t15 table machine before kept at done failed =
+μ-loop s from name count table₀ machine₀ kept₀ items at₀ done₀ failed₀ table machine kept at done failed =
     items - done
 
 loop-holds : tie.Need-loop-holds Inv-loop μ-loop
 loop-holds c =
-    let a = c .before .before .before .before .before .args in
-    (refl, omega arith, omega arith, refl, refl, refl, refl, begun (now (a .s)) (now (a .table)) (a .from) (a .count))
+    (refl, omega arith, omega arith, refl, refl, refl, begun)
 
 run-item-requires : tie.Need-run-item-requires Inv-loop μ-loop
-run-item-requires c κs = tt
+run-item-requires c κs =
+    tt
 
-slice-aggregate-say : tie.Need-slice-aggregate-say Inv-loop μ-loop
-slice-aggregate-say c = search needs
-
-say-requires : tie.Need-say-requires Inv-loop μ-loop
-say-requires c κs = tt
-
-say-number-requires : tie.Need-say-number-requires Inv-loop μ-loop
-say-number-requires c κs = tt
-
-slice-aggregate-say-2 : tie.Need-slice-aggregate-say-2 Inv-loop μ-loop
-slice-aggregate-say-2 c = search needs
-
-say-requires-2 : tie.Need-say-requires-2 Inv-loop μ-loop
-say-requires-2 c κs = tt
-
-say-number-requires-2 : tie.Need-say-number-requires-2 Inv-loop μ-loop
-say-number-requires-2 c κs = tt
-
-slice-aggregate-say-3 : tie.Need-slice-aggregate-say-3 Inv-loop μ-loop
-slice-aggregate-say-3 c = search needs
-
-say-requires-3 : tie.Need-say-requires-3 Inv-loop μ-loop
-say-requires-3 c κs = tt
+say-failure-requires : tie.Need-say-failure-requires Inv-loop μ-loop
+say-failure-requires c κs =
+    tt
 
 add-failed : tie.Need-add-failed Inv-loop μ-loop
 add-failed c =
     omega arith
 
 after-item-requires : tie.Need-after-item-requires Inv-loop μ-loop
-after-item-requires c κs = tt
+after-item-requires c κs =
+    tt
 
 add-done : tie.Need-add-done Inv-loop μ-loop
 add-done c =
@@ -68,25 +46,18 @@ loop-less c =
 
 loop-again : tie.Need-loop-again Inv-loop μ-loop
 loop-again c =
-    let a = c .before .before .before .before .before .before .before .before .before .before .before .before .before .before .before .before .before .before .before .before .before .before .args in
-    let v = c .before .before .before .before .before .before .before .before .before .before .before .before .before .before .before .before .loop in
-    let i = v .inv in
-    let r = c .before .before .before .before .before .before .before .before .before .before .run-item in
-    let m = r .ensures .memories in
-    let s = now (a .s) in
-    let t = now (a .table) in
-    let h = c .before .before .before .before .before .before .before .before .before .before .before .before .before .before .before .loop-test .taken in (
+    let i = c .before .before .before .before .before .before .before .before .before .before .before .before .before .loop .inv in
+    let r = c .before .before .before .before .before .before .before .before .run-item in
+    let h = c .before .before .before .before .before .before .before .before .before .before .before .before .loop-test .taken in (
       i .0,
       omega arith,
       ⊎-elim (λ w. omega arith) (λ w. omega arith) (c .before .if1 .came),
-      m .tableIs ∙ i .3,
-      m .as-long ∙ i .4,
-      m .before-as-long ∙ i .5,
-      m .kept-as-long ∙ i .6,
+      r .ensures .0 ∙ i .3,
+      r .kept .1 .1 .1 .0 ∙ i .4,
+      r .kept .1 .1 .1 .1 .0 ∙ i .5,
       ⊎-elim
-          (λ w. one-fails s t (a .from) (a .count) (v .at) (c .after-item .result) (v .done) (v .failed) (c .before .if1 .failed) (c .after-item .ensures) (omega arith) (omega arith) (i .7))
-          (λ w. one-agrees s t (a .from) (a .count) (v .table) (v .machine) (v .kept) (v .at) (c .after-item .result) (v .done) (v .failed) _ (i .3)
-          (r .ensures .agrees (not-false _ (w .0 .left))) (c .after-item .ensures) (omega arith) (w .1) (i .7))
+          (λ w. one-fails (c .after-item .ensures) (omega arith) (i .6) (told-of (i .3) (not-true _ (w .0 .taken)) (r .ensures .1)) (omega arith))
+          (λ w. one-agrees (c .after-item .ensures) (omega arith) (i .6) (told-of (i .3) (not-false _ (w .0 .left)) (r .ensures .1)) (w .1))
           (c .before .if1 .came),
     )
 
@@ -102,21 +73,10 @@ same-length-3 : tie.Need-same-length-3 Inv-loop μ-loop
 same-length-3 c =
     c .before .loop .inv .5
 
-same-length-4 : tie.Need-same-length-4 Inv-loop μ-loop
-same-length-4 c =
-    c .before .loop .inv .6
-
 returns : tie.Need-returns Inv-loop μ-loop
 returns c =
-    let a = c .before .before .before .before .before .before .before .args in
-    let v = c .before .loop in
-    let i = v .inv in
-    record {
-      memories = record { tableIs = i .3; as-long = i .4; before-as-long = i .5; kept-as-long = i .6 };
-      next = ended-place (now (a .s)) (now (a .table)) (a .from) (a .count) (v .at) (v .done) (v .failed) (omega arith) (i .7);
-      failed = omega arith;
-      agree = ended (now (a .s)) (now (a .table)) (a .from) (a .count) (v .at) (v .done) (v .failed) (omega arith) (i .7);
-    }
+    let i = c .before .loop .inv in
+    record { next = ended-place (omega arith) (i .6); few = omega arith; counts = ended (omega arith) (i .6) }
 
 pub run-items-spec : {M : Type 1} → statement M
 run-items-spec =
@@ -126,14 +86,7 @@ run-items-spec =
     μ-loop
     loop-holds
     run-item-requires
-    slice-aggregate-say
-    say-requires
-    say-number-requires
-    slice-aggregate-say-2
-    say-requires-2
-    say-number-requires-2
-    slice-aggregate-say-3
-    say-requires-3
+    say-failure-requires
     add-failed
     after-item-requires
     add-done
@@ -142,5 +95,4 @@ run-items-spec =
     same-length
     same-length-2
     same-length-3
-    same-length-4
     returns)

@@ -8,9 +8,9 @@ use Rattle.replay.specs.Ending.{Calls, StepsMade}
 use Rattle.replay.specs.declared.phase.Phase.{Phase}
 use Rattle.replay.specs.declared.phase.Phase.the-variants.{Over}
 use Rattle.replay.specs.declared.phase.Advanced.the-variants.{Went}
-use Rattle.session.specs.declared.Stepped.{Stepped}
-use Rattle.session.specs.declared.Ending.{Ending}
-use Rattle.session.specs.declared.Ending.the-variants.{Ended, NotWritten}
+use Rattle.session_files.specs.declared.Stepped.{Stepped}
+use Rattle.session_files.specs.declared.Ending.{Ending}
+use Rattle.session_files.specs.declared.Ending.the-variants.{Ended, NotWritten, NotRead}
 
 -- A turn makes one step of the session, and the next phase is the one after it, be its piece written out or not.
 pub record Turned (listing trace : Bytes) (m : Memories) (phase : Phase) (m′ : Memories) (r : Stepped) : Type 0 where
@@ -28,3 +28,8 @@ pub record Played (listing trace : Bytes) (r : Ending) : Type 0 where
   pub before : Memories
   pub after : Memories
   pub ran : Ran listing trace before after r
+
+-- The same of two files: one of them could not be read, or the session of what was read was played.
+pub data FilesPlayed : Ending → Type 0 where
+  not-read : FilesPlayed NotRead
+  played : {listing trace : Bytes} {r : Ending} → Played listing trace r → FilesPlayed r

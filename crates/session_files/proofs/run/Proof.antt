@@ -1,19 +1,19 @@
--- `session::run` meets its contract. The measure is the number of steps that can still be made; from turn to turn the lent memories keep their lengths.
+-- `session_files::run` meets its contract. The measure is the number of steps that can still be made; from turn to turn the lent memories keep their lengths.
 use mathlib.Core.Path.{sym, _∙_}
 use borrow.Author.Tests.{not-true, not-false}
 use Rattle.replay.specs.Phases.{memories}
 use Rattle.replay.specs.Ending.{stepsLeft, AsLong}
 use Rattle.replay.proofs.Ending.{made-as-long, still-long}
-use Rattle.session.proofs.Turning.{Going, begun, run-ended, goes-on, run-stops, fewer}
-use Rattle.session.proofs.run.Statement.{statement}
-use Rattle.session.proofs.run.Tie as tie
+use Rattle.session_files.proofs.Turning.{Going, begun, run-ended, goes-on, run-stops, fewer}
+use Rattle.session_files.proofs.run.Statement.{statement}
+use Rattle.session_files.proofs.run.Tie as tie
 
 abbrev Inv-loop : tie.InvT-loop
-Inv-loop listing trace table machine numbers values outNumbers outValues out phase₀ table′ machine′ numbers′ values′ outNumbers′ outValues′ out′ phase =
+Inv-loop fd listing trace table machine numbers values outNumbers outValues out phase₀ table′ machine′ numbers′ values′ outNumbers′ outValues′ out′ phase =
     Going listing trace (memories table machine numbers values outNumbers outValues out) (memories table′ machine′ numbers′ values′ outNumbers′ outValues′ out′) phase
 
 abbrev μ-loop : tie.MeasureT-loop
-μ-loop listing trace table machine numbers values outNumbers outValues out phase₀ table′ machine′ numbers′ values′ outNumbers′ outValues′ out′ phase = stepsLeft trace phase
+μ-loop fd listing trace table machine numbers values outNumbers outValues out phase₀ table′ machine′ numbers′ values′ outNumbers′ outValues′ out′ phase = stepsLeft trace phase
 
 loop-holds : tie.Need-loop-holds Inv-loop μ-loop
 loop-holds c = begun

@@ -1,8 +1,8 @@
--- `session::play` meets its contract. The memories that it lends are long enough.
-use Rattle.session.proofs.Turning.{lent-long}
+-- `session_files::play` meets its contract. The memories that it lends are long enough.
+use Rattle.session_files.proofs.Turning.{lent-long}
 use borrow.Author.Needs.{needs}
-use Rattle.session.proofs.play.Statement.{statement}
-use Rattle.session.proofs.play.Tie as tie
+use Rattle.session_files.proofs.play.Statement.{statement}
+use Rattle.session_files.proofs.play.Tie as tie
 
 memory-requires : tie.Need-memory-requires
 memory-requires c κs = search needs

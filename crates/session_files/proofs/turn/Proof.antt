@@ -1,11 +1,11 @@
--- `session::turn` meets its contract.
+-- `session_files::turn` meets its contract.
 use mathlib.Core.Path.{sym, subst}
 use lib.Seq.{length-take-le}
-use Rattle.session.proofs.Room.{went-room}
-use Rattle.session.proofs.Turning.{turned, not-short}
+use Rattle.session_files.proofs.Room.{went-room}
+use Rattle.session_files.proofs.Turning.{turned, not-short}
 use borrow.Author.Needs.{needs}
-use Rattle.session.proofs.turn.Statement.{statement}
-use Rattle.session.proofs.turn.Tie as tie
+use Rattle.session_files.proofs.turn.Statement.{statement}
+use Rattle.session_files.proofs.turn.Tie as tie
 
 advance-requires : tie.Need-advance-requires
 advance-requires c κs = search needs

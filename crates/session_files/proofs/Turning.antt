@@ -15,9 +15,9 @@ use Rattle.replay.specs.declared.phase.Phase.the-variants.{Opening, Over}
 use Rattle.replay.specs.declared.phase.Advanced.{Advanced}
 use Rattle.replay.specs.declared.phase.Advanced.the-variants.{Went, TooShort}
 use Rattle.replay.proofs.Ending.{is-over, step-falls, steps-print}
-use Rattle.session.specs.Turning.{Turned, Ran, ended, not-written}
-use Rattle.session.specs.declared.Stepped.{Stepped}
-use Rattle.session.specs.declared.Ending.the-variants.{Ended, NotWritten}
+use Rattle.session_files.specs.Turning.{Turned, Ran, ended, not-written}
+use Rattle.session_files.specs.declared.Stepped.{Stepped}
+use Rattle.session_files.specs.declared.Ending.the-variants.{Ended, NotWritten}
 
 module _ {listing trace table machine numbers values outNumbers outValues out table′ machine′ numbers′ values′ outNumbers′ outValues′ out′ : List ℕ} {phase : Phase} {r : Advanced}
     (a : Advances listing trace table machine numbers values outNumbers outValues out phase table′ machine′ numbers′ values′ outNumbers′ outValues′ out′ r) where

@@ -1,0 +1,264 @@
+// A session played from files. Document 01: "A session program reads a listing file and a trace file and prints the writes."
+// Every byte that it prints is printed by `replay::advance`, whose steps from the opening to the end print the session.
+ghost use mathlib.Core.Path.{_≡_};
+ghost use lib.ListN.{length};
+ghost use mathlib.Core.Bool.{true};
+ghost use Rattle.io.specs.Counts.{Counts};
+ghost use Rattle.replay.specs.Advancing.{longEnough};
+ghost use Rattle.replay.specs.Ending.{isOver};
+ghost use Rattle.replay.specs.Phases.{memories};
+ghost use Rattle.session_files.specs.Turning.{Turned, Ran, Played, FilesPlayed};
+use libc::STDERR_FILENO;
+use replay::Advanced;
+use replay::Phase;
+
+// A byte more than the 49,152 that a listing or a trace may have: a longer file is cut there, and its length alone decides.
+fn text() -> [u8; 49153]
+    ensures { λ r. ⌜ 49153 ≡ length r ⌝ }
+{
+    [0; 49153]
+}
+
+// A table or a machine.
+fn memory() -> [u32; 12288]
+    ensures { λ r. ⌜ 12288 ≡ length r ⌝ }
+{
+    [0; 12288]
+}
+
+// The inputs of a call.
+fn inputs() -> [u32; 17]
+    ensures { λ r. ⌜ 17 ≡ length r ⌝ }
+{
+    [0; 17]
+}
+
+// The outputs that a call lists.
+fn outputs() -> [u32; 16]
+    ensures { λ r. ⌜ 16 ≡ length r ⌝ }
+{
+    [0; 16]
+}
+
+// What one step prints.
+fn piece() -> [u8; 1100]
+    ensures { λ r. ⌜ 1100 ≡ length r ⌝ }
+{
+    [0; 1100]
+}
+
+// How to call the program.
+fn explain() {
+    io::write_all(
+        STDERR_FILENO,
+        b"usage: session LISTING TRACE\nLISTING and TRACE are files that can be read.\n",
+    );
+}
+
+// What was read of a file: whether it could be opened, and how many bytes were put into the lent ones.
+struct Taken {
+    is_read: bool,
+    count: usize,
+}
+
+// Reads the file that an argument names; having said why, if it cannot. Which bytes a file has, the kit's `io` does not promise.
+fn read_argument(i: usize, text: &mut [u8]) -> Taken
+    ensures { λ r. ⌜ Counts (r .count) (now (text .exit)) ⌝ }
+{
+    let mut path = io::buffer();
+    let length = os::arg(i, &mut path);
+    if os::errno() != 0 {
+        io::write_all(
+            STDERR_FILENO,
+            b"session: two file names are wanted, the listing's and the trace's\n",
+        );
+        explain();
+        return Taken {
+            is_read: false,
+            count: 0,
+        };
+    }
+    let fd = os::open_read(&path[..length]);
+    if fd < 0 {
+        os::fail(&path[..length]);
+        explain();
+        return Taken {
+            is_read: false,
+            count: 0,
+        };
+    }
+    let count = io::read_full(fd, text);
+    // A file that was read can be read on, be it past its end: a directory, for one, cannot.
+    let mut next = io::buffer();
+    let is_read = libc::read(fd, &mut next) >= 0;
+    if !is_read {
+        os::fail(&path[..length]);
+        explain();
+    }
+    libc::close(fd);
+    Taken { is_read, count }
+}
+
+// Is all printed?
+fn is_over(phase: Phase) -> bool
+    ensures { λ r. ⌜ r ≡ isOver phase ⌝ }
+{
+    match phase {
+        Phase::Opening => false,
+        Phase::Starting => false,
+        Phase::Reading(_, _) => false,
+        Phase::Toward(_, _, _, _) => false,
+        Phase::Until(_, _, _) => false,
+        Phase::Over => true,
+    }
+}
+
+// A turn: the next phase, and whether what it printed was written out, as the kit's `io` told it.
+struct Stepped {
+    next: Phase,
+    is_written: bool,
+}
+
+// One step, and what it prints is written out to a descriptor.
+fn turn(
+    fd: i32,
+    listing: &[u8],
+    trace: &[u8],
+    table: &mut [u32],
+    machine: &mut [u32],
+    numbers: &mut [u32],
+    values: &mut [u32],
+    out_numbers: &mut [u32],
+    out_values: &mut [u32],
+    out: &mut [u8],
+    phase: Phase,
+) -> Stepped
+    requires { ⌜ longEnough (now table) (now machine) (now numbers) (now values) (now «out_numbers») (now «out_values») (now out) ≡ true ⌝ }
+    ensures { λ r. ⌜ Turned (now (listing .entry)) (now (trace .entry))
+        (memories (now (table .entry)) (now (machine .entry)) (now (numbers .entry)) (now (values .entry)) (now («out_numbers» .entry)) (now («out_values» .entry)) (now (out .entry))) phase
+        (memories (now (table .exit)) (now (machine .exit)) (now (numbers .exit)) (now (values .exit)) (now («out_numbers» .exit)) (now («out_values» .exit)) (now (out .exit))) r ⌝ }
+{
+    let answer = replay::advance(
+        listing,
+        trace,
+        table,
+        machine,
+        numbers,
+        values,
+        out_numbers,
+        out_values,
+        out,
+        phase,
+    );
+    match answer {
+        Advanced::Went(next, printed) => {
+            let is_written = io::write_all(fd, &out[..printed]);
+            Stepped { next, is_written }
+        }
+        // never: the memories are long enough
+        Advanced::TooShort => Stepped {
+            next: Phase::Over,
+            is_written: false,
+        },
+    }
+}
+
+// How a session ended.
+pub enum Ending {
+    // all is printed
+    Ended,
+    // what the last turn printed could not be written out
+    NotWritten,
+    // a file could not be read: nothing is printed
+    NotRead,
+}
+
+// The steps to the end: each leaves fewer to be made, so that no turns are counted.
+fn run(
+    fd: i32,
+    listing: &[u8],
+    trace: &[u8],
+    table: &mut [u32],
+    machine: &mut [u32],
+    numbers: &mut [u32],
+    values: &mut [u32],
+    out_numbers: &mut [u32],
+    out_values: &mut [u32],
+    out: &mut [u8],
+) -> Ending
+    requires { ⌜ longEnough (now table) (now machine) (now numbers) (now values) (now «out_numbers») (now «out_values») (now out) ≡ true ⌝ }
+    ensures { λ r. ⌜ Ran (now (listing .entry)) (now (trace .entry))
+        (memories (now (table .entry)) (now (machine .entry)) (now (numbers .entry)) (now (values .entry)) (now («out_numbers» .entry)) (now («out_values» .entry)) (now (out .entry)))
+        (memories (now (table .exit)) (now (machine .exit)) (now (numbers .exit)) (now (values .exit)) (now («out_numbers» .exit)) (now («out_values» .exit)) (now (out .exit))) r ⌝ }
+{
+    let mut phase = Phase::Opening;
+    while !is_over(phase) {
+        let made = turn(
+            fd,
+            listing,
+            trace,
+            table,
+            machine,
+            numbers,
+            values,
+            out_numbers,
+            out_values,
+            out,
+            phase,
+        );
+        if !made.is_written {
+            return Ending::NotWritten;
+        }
+        let next = made.next;
+        phase = next;
+    }
+    Ending::Ended
+}
+
+// The session on memories of its own.
+fn play(fd: i32, listing: &[u8], trace: &[u8]) -> Ending
+    ensures { λ r. ⌜ Played (now (listing .entry)) (now (trace .entry)) r ⌝ }
+{
+    let mut table = memory();
+    let mut machine = memory();
+    let mut numbers = inputs();
+    let mut values = inputs();
+    let mut out_numbers = outputs();
+    let mut out_values = outputs();
+    let mut out = piece();
+    run(
+        fd,
+        listing,
+        trace,
+        &mut table,
+        &mut machine,
+        &mut numbers,
+        &mut values,
+        &mut out_numbers,
+        &mut out_values,
+        &mut out,
+    )
+}
+
+// The session of the files that two arguments name, printed to a descriptor; having said why, if it is not.
+pub fn play_files(first: usize, second: usize, fd: i32) -> Ending
+    ensures { λ r. ⌜ FilesPlayed r ⌝ }
+{
+    let mut listing = text();
+    let one = read_argument(first, &mut listing);
+    if !one.is_read {
+        return Ending::NotRead;
+    }
+    let mut trace = text();
+    let other = read_argument(second, &mut trace);
+    if !other.is_read {
+        return Ending::NotRead;
+    }
+    let m = one.count;
+    let n = other.count;
+    let ending = play(fd, &listing[..m], &trace[..n]);
+    if let Ending::NotWritten = ending {
+        os::fail(b"session: writing");
+    }
+    ending
+}

@@ -8,8 +8,8 @@ use Rattle.listing.specs.Questions.{listingIn}
 use Rattle.walk.specs.Promises.{LoadPromise, TableAfter}
 use Rattle.layout.specs.Layout.{layout}
 use Rattle.loader.specs.Outcome.{outcomeOf}
-use Rattle.loader.specs.declared.questions.Loaded.{Loaded}
-use Rattle.loader.specs.declared.questions.Loaded.the-variants as LV
+use Rattle.loader.specs.declared.answer.Loaded.{Loaded}
+use Rattle.loader.specs.declared.answer.Loaded.the-variants as LV
 use Rattle.call_tests.specs.Cases.{LoadsInto, loads, refuses}
 
 module _ (text table table′ : List ℕ) (a : Loaded) (l : LoadPromise layout text table table′ (outcomeOf text a)) where

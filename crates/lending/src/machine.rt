@@ -4,11 +4,11 @@ ghost use Prim.Native.Nat.{min};
 ghost use lib.ListN.{length, take};
 ghost use Rattle.cases.specs.Words.{Tells};
 ghost use Rattle.lending.specs.Memories.{StoppedForm, MachineRight, unusedMemory};
+use cases::memories::all_are;
+use cases::memories::all_from;
+use cases::memories::copy;
+use cases::memories::same;
 use cases::report::say;
-use cases::words::all_are;
-use cases::words::all_from;
-use cases::words::copy;
-use cases::words::same;
 
 // The word that lists and memories are filled with before they are lent, and the length of the memories asked for.
 pub const PATTERN: u32 = 2779096485;

@@ -12,14 +12,14 @@ use crate::figures::same_figures;
 use cases::frame::part_at;
 use cases::frame::past;
 use cases::frame::word_at;
+use cases::memories::all_are;
+use cases::memories::all_from;
+use cases::memories::fill;
+use cases::memories::same_to;
 use cases::report::read_file;
 use cases::report::say;
 use cases::report::say_number;
 use cases::report::sum_up;
-use cases::words::all_are;
-use cases::words::all_from;
-use cases::words::fill;
-use cases::words::same_to;
 
 // The word that a table is filled with before it is lent.
 const PATTERN: u32 = 2779096485;

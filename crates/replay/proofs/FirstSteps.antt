@@ -18,8 +18,8 @@ use Rattle.walk.specs.Promises.{LoadPromise, TableAfter, untouched, holds}
 use Rattle.walk.specs.Session.{printed, writeLines, endOf, endLine, play, session, sessionOf, beforeLoading, onLoading}
 use Rattle.layout.specs.Layout.{layout}
 use Rattle.loader.specs.Outcome.{outcomeOf}
-use Rattle.loader.specs.declared.questions.Loaded.{Loaded}
-use Rattle.loader.specs.declared.questions.Loaded.the-variants as Loaded
+use Rattle.loader.specs.declared.answer.Loaded.{Loaded}
+use Rattle.loader.specs.declared.answer.Loaded.the-variants as Loaded
 use Rattle.trace.specs.Groups.{CallIs, NextRead}
 use Rattle.trace.specs.declared.group.Next.{Next}
 use Rattle.trace.specs.declared.group.Next.the-variants as Next

@@ -6,9 +6,9 @@ ghost use Rattle.stored_answers.specs.Answers.{AnswerAt, unlisted, Answe
 use cases::frame::moment_at;
 use cases::frame::past;
 use cases::frame::word_at;
+use cases::memories::same;
 use cases::report::say;
 use cases::report::say_number;
-use cases::words::same;
 use lending::machine::PATTERN;
 use stored_calls::inputs::read_pairs;
 use stored_calls::reports::Report;

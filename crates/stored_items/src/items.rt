@@ -4,7 +4,7 @@ ghost use Rattle.stored_items.specs.Items.{afterCall, afterItem, RanItem
 use crate::calls::run_spoilt;
 use cases::frame::past;
 use cases::frame::word_at;
-use cases::words::copy;
+use cases::memories::copy;
 use stored_answers::ANSWER;
 use stored_calls::calls::answer_place;
 use stored_calls::calls::call_at;

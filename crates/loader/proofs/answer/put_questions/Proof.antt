@@ -4,8 +4,8 @@ use mathlib.Core.Path.{sym, _∙_}
 use borrow.Author.Tests.{not-true, not-false}
 use Rattle.loader.proofs.Asking as asking
 use borrow.Author.Needs.{needs}
-use Rattle.loader.proofs.questions.put_questions.Statement.{statement}
-use Rattle.loader.proofs.questions.put_questions.Tie as tie
+use Rattle.loader.proofs.answer.put_questions.Statement.{statement}
+use Rattle.loader.proofs.answer.put_questions.Tie as tie
 
 returns : tie.Need-returns
 returns c =

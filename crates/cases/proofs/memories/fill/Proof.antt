@@ -8,8 +8,8 @@ use lib.ListN.{length, set, replicate, drop, length-set}
 use denote.Ref.{now}
 use Rattle.cases.proofs.Storing.{filled-next}
 use borrow.Author.Needs.{needs}
-use Rattle.cases.proofs.words.fill.Statement.{statement}
-use Rattle.cases.proofs.words.fill.Tie as tie
+use Rattle.cases.proofs.memories.fill.Statement.{statement}
+use Rattle.cases.proofs.memories.fill.Tie as tie
 
 abbrev Inv-loop : tie.InvT-loop
 Inv-loop m₀ w k₀ m k = (k ≤ length m₀) × (length m ≡ length m₀) × (m ≡ replicate k w ++ drop k m₀)

@@ -4,8 +4,8 @@ use lib.ListN.{length, getD}
 use borrow.Author.Count.{below-more}
 use Rattle.cases.proofs.Telling.{other-length, other-word, same-words}
 use borrow.Author.Needs.{needs}
-use Rattle.cases.proofs.words.same.Statement.{statement}
-use Rattle.cases.proofs.words.same.Tie as tie
+use Rattle.cases.proofs.memories.same.Statement.{statement}
+use Rattle.cases.proofs.memories.same.Tie as tie
 
 abbrev Inv-loop : tie.InvT-loop
 Inv-loop a b k₀ k = (k ≤ length a) × (length a ≡ length b) × ((j : ℕ) → j < k → getD a j 0 ≡ getD b j 0)

@@ -7,8 +7,8 @@ use denote.Ref.{now}
 use Rattle.cases.specs.Words.{copied}
 use Rattle.cases.proofs.Storing.{copied-next}
 use borrow.Author.Needs.{needs}
-use Rattle.cases.proofs.words.copy.Statement.{statement}
-use Rattle.cases.proofs.words.copy.Tie as tie
+use Rattle.cases.proofs.memories.copy.Statement.{statement}
+use Rattle.cases.proofs.memories.copy.Tie as tie
 
 abbrev Inv-loop : tie.InvT-loop
 Inv-loop from to₀ count k₀ to k = (count ≡ min (length from) (length to₀)) × (k ≤ count) × (length to ≡ length to₀) × (to ≡ copied from to₀ k)

@@ -3,8 +3,8 @@ use native.Mathlib.Omega.{arith}
 use lib.Seq.{length-take-le}
 use borrow.Author.Needs.{needs}
 use Rattle.cases.proofs.Telling.{tells-no, tells-same}
-use Rattle.cases.proofs.words.same_to.Statement.{statement}
-use Rattle.cases.proofs.words.same_to.Tie as tie
+use Rattle.cases.proofs.memories.same_to.Statement.{statement}
+use Rattle.cases.proofs.memories.same_to.Tie as tie
 
 returns : tie.Need-returns
 returns c = tells-no (λ b. let h = b .long-enough in omega arith)

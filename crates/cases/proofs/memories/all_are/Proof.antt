@@ -4,8 +4,8 @@ use lib.ListN.{length, getD}
 use borrow.Author.Count.{below-more}
 use Rattle.cases.proofs.Telling.{one-other, all-one}
 use borrow.Author.Needs.{needs}
-use Rattle.cases.proofs.words.all_are.Statement.{statement}
-use Rattle.cases.proofs.words.all_are.Tie as tie
+use Rattle.cases.proofs.memories.all_are.Statement.{statement}
+use Rattle.cases.proofs.memories.all_are.Tie as tie
 
 abbrev Inv-loop : tie.InvT-loop
 Inv-loop m w k₀ k = (k ≤ length m) × ((j : ℕ) → j < k → getD m j 0 ≡ w)

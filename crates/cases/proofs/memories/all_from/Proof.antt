@@ -2,8 +2,8 @@ use native.Mathlib.Omega.{arith}
 use denote.Ref.{now}
 use borrow.Author.Needs.{needs}
 use Rattle.cases.proofs.Telling.{none-from, one-from}
-use Rattle.cases.proofs.words.all_from.Statement.{statement}
-use Rattle.cases.proofs.words.all_from.Tie as tie
+use Rattle.cases.proofs.memories.all_from.Statement.{statement}
+use Rattle.cases.proofs.memories.all_from.Tie as tie
 
 returns : tie.Need-returns
 returns c = let a = c .before .before .args in none-from (now (a .m)) (a .from) (a .w) (omega arith)

@@ -1,9 +1,10 @@
 // Where waiting writes may stand, noted at the beginning of an instant: a variable's waiting write stands in its own record; word 7 of a block says
 // whether one may stand among the block's variables, and the next moment due is looked for in just those blocks.
 ghost use mathlib.Core.Path.{_≡_};
-ghost use Prim.Native.Nat.{_≤_};
 ghost use lib.ListN.{length};
+ghost use Rattle.machine.specs.Words.{HasMachine};
 ghost use Rattle.beginning.specs.Queue.{flagOf, Queued};
+use machine::MAY_WAIT;
 
 // The note of a block by its soonest moment due (0: none).
 fn flag(due: u64) -> u32
@@ -17,12 +18,12 @@ fn flag(due: u64) -> u32
 
 // Each block by its soonest moment due, as question 7's pass has kept it.
 pub fn queue_waiting(m: &mut [u32], dues: &[u64; 65])
-    requires { ⌜ (12288 ≤ length (now m)) × (length (now dues) ≡ 65) ⌝ }
+    requires { ⌜ HasMachine (now m) × (length (now dues) ≡ 65) ⌝ }
     ensures { λ _. ⌜ Queued 65 (now (dues .entry)) (now (m .entry)) (now (m .exit)) ⌝ }
 {
     let mut s: usize = 0;
     while s < 65 {
-        blocks::put_word(m, s, 7, flag(dues[s]));
+        blocks::put_word(m, s, MAY_WAIT, flag(dues[s]));
         s += 1;
     }
 }

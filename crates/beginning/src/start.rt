@@ -1,8 +1,7 @@
 // The beginning of the start. Document 01: "The start is the instant 0, with main newly called and no inputs."
 ghost use mathlib.Core.Path.{_≡_};
 ghost use mathlib.Core.Bool.{true};
-ghost use Prim.Native.Nat.{_≤_};
-ghost use lib.ListN.{length};
+ghost use Rattle.machine.specs.Words.{HasMachine};
 ghost use Rattle.table.specs.Question6.{isTable};
 ghost use Rattle.beginning.specs.Begun.{BegunStart};
 use filling::main_row;
@@ -11,7 +10,7 @@ use steps::Running;
 
 // Blank memory, main newly called in the first slot: it runs, and nobody else is ready.
 pub fn begin_start(t: &[u32], m: &mut [u32]) -> Running
-    requires { ⌜ (isTable (now t) ≡ true) × (12288 ≤ length (now m)) ⌝ }
+    requires { ⌜ (isTable (now t) ≡ true) × HasMachine (now m) ⌝ }
     ensures { λ r. ⌜ BegunStart (now (t .entry)) (now (m .entry)) (now (m .exit)) r ⌝ }
 {
     blank(m);

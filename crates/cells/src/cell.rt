@@ -9,6 +9,13 @@ use reader::Piece;
 use reader::Place;
 use reader::piece_of;
 use reader::take_piece;
+use table::CELL_WORDS;
+use table::LESS;
+use table::LITERAL;
+use table::MINUS;
+use table::PLUS;
+use table::TIMES;
+use table::WRITTEN_MARK;
 
 // How many cells were written, the byte that closes the field, and the place past it.
 pub struct Cells {
@@ -30,13 +37,13 @@ fn cell_kind(p: Piece, plain: u32) -> u32
     ensures { λ r. ⌜ r ≡ cellKind p plain ⌝ }
 {
     match p {
-        Piece::Literal(_) => 0,
+        Piece::Literal(_) => LITERAL,
         Piece::Value(_) => plain,
-        Piece::Mark(_) => 2,
-        Piece::Plus => 3,
-        Piece::Minus => 4,
-        Piece::Times => 5,
-        Piece::Less => 6,
+        Piece::Mark(_) => WRITTEN_MARK,
+        Piece::Plus => PLUS,
+        Piece::Minus => MINUS,
+        Piece::Times => TIMES,
+        Piece::Less => LESS,
         Piece::Bad => 0,
     }
 }
@@ -84,11 +91,11 @@ pub fn write_cells(s: &[u8], t: &mut [u32], place: Place, a: usize, plain: u32) 
         let from = piece.from;
         let to = piece.to;
         let p = piece_of(s, from, to);
-        write_cell(t, a + 2 * count, p, plain);
+        write_cell(t, a + CELL_WORDS * count, p, plain);
         count += 1;
         let b = piece.stop;
         let next = piece.next;
-        if b != 32 {
+        if b != b' ' {
             return Cells {
                 count: count,
                 stop: b,

@@ -2,7 +2,7 @@
 use crate::routines::head_after;
 use machine_words::number;
 ghost use mathlib.Core.Path.{_≡_};
-ghost use lib.ListN.{length};
+ghost use Rattle.table.specs.Areas.{TableLong};
 ghost use Rattle.child_fields.specs.Tables.{HeadsFit};
 ghost use Rattle.child_fields.specs.Picking.{noMaker, makerOf};
 
@@ -27,7 +27,7 @@ pub fn nobody() -> Maker
 
 // The child field numbered `child` among the `left` ones from `next` on, the first head at `first`.
 pub fn pick(t: &[u32], first: usize, left: usize, next: usize, child: usize) -> Maker
-    requires { ⌜ (length (now t) ≡ 12288) × HeadsFit (now t) first left ⌝ }
+    requires { ⌜ TableLong (now t) × HeadsFit (now t) first left ⌝ }
     ensures { λ r. ⌜ r ≡ makerOf (now (t .entry)) first left next child ⌝ }
 {
     if child < next {

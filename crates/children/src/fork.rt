@@ -8,6 +8,7 @@ use crate::rows::put_kept;
 use crate::rows::put_working;
 use crate::slots::free_slot;
 use crate::values::pass_values;
+use table::CELL_WORDS;
 use table_read::head_at;
 use table_read::next_head;
 use table_read::opening_of;
@@ -24,11 +25,11 @@ pub fn new_child(t: &[u32], m: &mut [u32], me: usize, head: usize, i: u32, s: us
     let count = opening.arguments;
     let bits = opening.bits;
     let locals = opening.locals;
-    let own = pass_values(t, m, me, s, head + 2, count, bits);
+    let own = pass_values(t, m, me, s, head + CELL_WORDS, count, bits);
     let parent = parent_of(m, me, n);
     put_kept(m, s, parent.level, i, (own + locals) as u32);
     put_working(m, s, parent, i, 0, callee as u32);
-    bind_names(t, m, me, s, head + 2, count, bits, locals);
+    bind_names(t, m, me, s, head + CELL_WORDS, count, bits, locals);
 }
 
 // The slots of a fork's children, in order.

@@ -2,7 +2,7 @@
 // reference or `v` by value". A name's word is 16 times the block of its variable, plus the variable's number there.
 ghost use mathlib.Core.Path.{_≡_};
 ghost use Prim.Native.Nat.{_+_, _*_, _≤_, _<_};
-ghost use lib.ListN.{length};
+ghost use Rattle.machine.specs.Words.{HasMachine};
 ghost use Rattle.table.specs.Decode.{namesAt, kindsOfBits};
 ghost use Rattle.scheduler.specs.Engine.{childBindings};
 ghost use Rattle.blocks.specs.Blocks.{block};
@@ -10,6 +10,9 @@ ghost use Rattle.evaluate.specs.Bound.{bindingsOf};
 ghost use Rattle.children.specs.Naming.{MayBind, ArgumentsBound, OwnBound, EnvironmentBound, NamesBound};
 use blocks::put_word;
 use blocks::word_at;
+use machine::BINDINGS;
+use machine::NAMES;
+use table::CELL_WORDS;
 use table_read::name_at;
 
 // Blocks are numbered in steps of 16: a block has room for 16 variables.
@@ -17,11 +20,11 @@ const STEP: u32 = 16;
 
 // The word for an argument: by reference the caller's own word for that name, by value own variable number `own`.
 fn argument_word(m: &[u32], me: usize, s: usize, name: usize, bit: u32, own: usize) -> u32
-    requires { ⌜ (12288 ≤ length (now m)) × (me < 64) × (s < 64) × (name < 16) × (own < 16) ⌝ }
+    requires { ⌜ HasMachine (now m) × (me < 64) × (s < 64) × (name < 16) × (own < 16) ⌝ }
     ensures { λ r. ⌜ (bit ≡ 1 → r ≡ block (now (m .entry)) me (112 + name)) × ((bit ≡ 1 → ⊥) → r ≡ 16 * s + own) ⌝ }
 {
     if bit == 1 {
-        return word_at(m, me, 112 + name);
+        return word_at(m, me, BINDINGS + name);
     }
     STEP * s as u32 + own as u32
 }
@@ -44,8 +47,8 @@ fn bind_arguments(
     let mut j: usize = 0;
     while j < count {
         let bit = rest % 2;
-        let word = argument_word(m, me, s, name_at(t, at + 2 * j), bit, own);
-        put_word(m, s, 112 + j, word);
+        let word = argument_word(m, me, s, name_at(t, at + CELL_WORDS * j), bit, own);
+        put_word(m, s, BINDINGS + j, word);
         own += 1 - bit as usize;
         rest = rest / 2;
         j += 1;
@@ -55,12 +58,17 @@ fn bind_arguments(
 
 // `count` names after the first `from`, for own variables from number `own` on.
 pub fn bind_own(m: &mut [u32], s: usize, from: usize, count: usize, own: usize)
-    requires { ⌜ (12288 ≤ length (now m)) × (s < 64) × (from + count ≤ 16) × (own + count ≤ 16) ⌝ }
+    requires { ⌜ HasMachine (now m) × (s < 64) × (from + count ≤ 16) × (own + count ≤ 16) ⌝ }
     ensures { λ _. ⌜ OwnBound (now (m .entry)) s from count own (now (m .exit)) ⌝ }
 {
     let mut j: usize = 0;
     while j < count {
-        put_word(m, s, 112 + from + j, STEP * s as u32 + (own + j) as u32);
+        put_word(
+            m,
+            s,
+            BINDINGS + from + j,
+            STEP * s as u32 + (own + j) as u32,
+        );
         j += 1;
     }
 }
@@ -81,5 +89,5 @@ pub fn bind_names(
 {
     let own = bind_arguments(t, m, me, s, at, count, bits);
     bind_own(m, s, count, locals, own);
-    put_word(m, s, 110, (count + locals) as u32);
+    put_word(m, s, NAMES, (count + locals) as u32);
 }

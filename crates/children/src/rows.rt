@@ -2,11 +2,23 @@
 ghost use mathlib.Core.Path.{_≡_};
 ghost use Prim.Native.Nat.{_+_, _*_, _^_, _≤_, _<_};
 ghost use lib.ListN.{length};
+ghost use Rattle.machine.specs.Words.{HasMachine, AtSlot};
 ghost use Rattle.blocks.specs.Blocks.{block, rowsOf};
 ghost use Rattle.blocks.specs.Changes.{InBlock};
 ghost use Rattle.children.specs.NewRow.{MayDivide, ParentIs, Reaches, keptBlock, workingBlock};
 use blocks::put_word;
 use blocks::word_at;
+use machine::ASLEEP;
+use machine::BASE;
+use machine::BITS;
+use machine::CHILD;
+use machine::CHILDREN;
+use machine::IN_USE;
+use machine::LEVEL;
+use machine::LOW;
+use machine::OWN;
+use machine::PARENT;
+use machine::ROUTINE;
 use words::fork_bits;
 
 // What a new routine's row takes from its parent: the parent's slot (main's is 64), the new routine's level, the address of its
@@ -21,10 +33,10 @@ pub struct Parent {
 
 // The number of a routine's own variables.
 fn own_count(m: &[u32], s: usize) -> u32
-    requires { ⌜ (12288 ≤ length (now m)) × (s < 64) ⌝ }
+    requires { ⌜ AtSlot (now m) s ⌝ }
     ensures { λ r. ⌜ r ≡ length ((rowsOf (now (m .entry)) s) .own) ⌝ }
 {
-    let count = word_at(m, s, 4);
+    let count = word_at(m, s, OWN);
     if count < 16 {
         return count;
     }
@@ -34,7 +46,7 @@ fn own_count(m: &[u32], s: usize) -> u32
 // The routine in slot `me` as the parent of n children: "A fork of n children divides its priority range by the fewest bits that
 // number n children".
 pub fn parent_of(m: &[u32], me: usize, n: u32) -> Parent
-    requires { ⌜ (12288 ≤ length (now m)) × (me < 64) × MayDivide (rowsOf (now m)) me n ⌝ }
+    requires { ⌜ HasMachine (now m) × (me < 64) × MayDivide (rowsOf (now m)) me n ⌝ }
     ensures { λ r. ⌜ ParentIs (rowsOf (now (m .entry))) me n r ⌝ }
 {
     let bits = blocks::bits(m, me) - fork_bits(n);
@@ -62,25 +74,25 @@ fn low_of(p: Parent, i: u32) -> u32
 
 // In use, level, child field, number of own variables.
 pub fn put_kept(m: &mut [u32], s: usize, level: u32, i: u32, own: u32)
-    requires { ⌜ (12288 ≤ length (now m)) × (s < 64) ⌝ }
+    requires { ⌜ AtSlot (now m) s ⌝ }
     ensures { λ _. ⌜ InBlock s (now (m .entry)) (now (m .exit)) (keptBlock (block (now (m .entry)) s) level i own) ⌝ }
 {
-    put_word(m, s, 0, 1);
-    put_word(m, s, 1, level);
-    put_word(m, s, 2, i);
-    put_word(m, s, 4, own);
+    put_word(m, s, IN_USE, 1);
+    put_word(m, s, LEVEL, level);
+    put_word(m, s, CHILD, i);
+    put_word(m, s, OWN, own);
 }
 
 // The working words of child number i, which runs this routine.
 pub fn put_working(m: &mut [u32], s: usize, p: Parent, i: u32, asleep: u32, routine: u32)
-    requires { ⌜ (12288 ≤ length (now m)) × (s < 64) × (p .slot ≤ 64) × Reaches p i ⌝ }
+    requires { ⌜ HasMachine (now m) × (s < 64) × (p .slot ≤ 64) × Reaches p i ⌝ }
     ensures { λ _. ⌜ InBlock s (now (m .entry)) (now (m .exit)) (workingBlock (block (now (m .entry)) s) p i asleep routine) ⌝ }
 {
-    put_word(m, s, 104, asleep);
-    put_word(m, s, 105, p.slot as u32);
-    put_word(m, s, 106, 0);
-    put_word(m, s, 107, low_of(p, i));
-    put_word(m, s, 108, p.bits);
-    put_word(m, s, 109, routine);
-    put_word(m, s, 111, p.base);
+    put_word(m, s, ASLEEP, asleep);
+    put_word(m, s, PARENT, p.slot as u32);
+    put_word(m, s, CHILDREN, 0);
+    put_word(m, s, LOW, low_of(p, i));
+    put_word(m, s, BITS, p.bits);
+    put_word(m, s, ROUTINE, routine);
+    put_word(m, s, BASE, p.base);
 }

@@ -1,19 +1,19 @@
 // The slot that a new routine takes: "room freed by an end serves the next fork".
 ghost use mathlib.Core.Path.{_≡_};
-ghost use Prim.Native.Nat.{_≤_};
-ghost use lib.ListN.{length};
+ghost use Rattle.machine.specs.Words.{HasMachine};
 ghost use Rattle.scheduler.specs.Engine.{freeSlot};
 ghost use Rattle.blocks.specs.Blocks.{rowsOf};
 use blocks::used;
+use machine::SLOTS;
 
 // The lowest free slot, 0 if there is none. A fork's first child so comes lowest: along a trigger list, which falls by slot, priorities fall too,
 // which is the cheapest order in which to put slots into the ready list.
 pub fn free_slot(m: &[u32]) -> usize
-    requires { ⌜ 12288 ≤ length (now m) ⌝ }
+    requires { ⌜ HasMachine (now m) ⌝ }
     ensures { λ r. ⌜ r ≡ freeSlot (rowsOf (now (m .entry))) 64 ⌝ }
 {
     let mut n: usize = 0;
-    while n < 64 {
+    while n < SLOTS {
         if !used(m, n) {
             return n;
         }

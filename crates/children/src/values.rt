@@ -1,17 +1,21 @@
 // The values of a new routine's arguments by value. Document 01: "New variables hold 0, or the passed value for `v`, and are not
 // written"; "all `v` values are copied before the first child runs".
-ghost use Prim.Native.Nat.{_+_, _≤_, _<_};
+ghost use Prim.Native.Nat.{_+_, _<_};
 ghost use lib.ListN.{length};
+ghost use Rattle.machine.specs.Words.{HasMachine};
 ghost use Rattle.evaluate.specs.Bound.{bindingsOf, FromNames};
 ghost use Rattle.children.specs.Passing.{MayPass, ValuesPassed, ValuePassed};
 use blocks::put_word;
+use machine::VALUE;
+use machine::VARIABLE_WORDS;
+use table::CELL_WORDS;
 use table_read::name_at;
 use variables::owner;
 use variables::value;
 
 // What the caller's name holds.
 fn named_value(m: &[u32], me: usize, name: usize) -> u32
-    requires { ⌜ (12288 ≤ length (now m)) × (me < 64) × (name < length (bindingsOf (now m) me)) ⌝ }
+    requires { ⌜ HasMachine (now m) × (me < 64) × (name < length (bindingsOf (now m) me)) ⌝ }
     ensures { λ r. ⌜ FromNames (now (m .entry)) me (λ names. (names name) .value) r ⌝ }
 {
     let binding = owner(m, me, name);
@@ -22,14 +26,14 @@ fn named_value(m: &[u32], me: usize, name: usize) -> u32
 
 // One argument: by value it is own variable number `own`. The number of own variables after it.
 fn pass_value(m: &mut [u32], me: usize, s: usize, name: usize, bit: u32, own: usize) -> usize
-    requires { ⌜ (12288 ≤ length (now m)) × (me < 64) × (s < 64) × (name < length (bindingsOf (now m) me)) × (own < 16) ⌝ }
+    requires { ⌜ HasMachine (now m) × (me < 64) × (s < 64) × (name < length (bindingsOf (now m) me)) × (own < 16) ⌝ }
     ensures { λ r. ⌜ ValuePassed (now (m .entry)) me s name bit own (now (m .exit)) r ⌝ }
 {
     if bit == 1 {
         return own;
     }
     let v = named_value(m, me, name);
-    put_word(m, s, 8 + own * 6, v);
+    put_word(m, s, VALUE + own * VARIABLE_WORDS, v);
     own + 1
 }
 
@@ -50,7 +54,7 @@ pub fn pass_values(
     let mut rest = bits;
     let mut j: usize = 0;
     while j < count {
-        own = pass_value(m, me, s, name_at(t, at + 2 * j), rest % 2, own);
+        own = pass_value(m, me, s, name_at(t, at + CELL_WORDS * j), rest % 2, own);
         rest = rest / 2;
         j += 1;
     }

@@ -2,18 +2,21 @@
 ghost use mathlib.Core.Bool.{true};
 ghost use mathlib.Core.Path.{_≡_};
 ghost use Prim.Native.Nat.{_≤_};
-ghost use lib.ListN.{length};
+ghost use Rattle.table.specs.Areas.{HasTable};
 ghost use Rattle.walk.specs.Calls.{firstWords};
 ghost use Rattle.walk.specs.Comparison as walk;
 ghost use Rattle.table.specs.Question6.{isTable};
 ghost use Rattle.table.specs.Decode.{tableListing};
-ghost use Rattle.machine.specs.Words.{stateOf, variablesIn};
+ghost use Rattle.machine.specs.Words.{stateOf, variablesIn, HasMachine};
 ghost use Rattle.machine.specs.ReadMachine.{readMachine};
 ghost use Rattle.layout.specs.Layout.{layout};
 ghost use Rattle.comparison.specs.Compared.{pairRefusal, comparedOf};
-use questions::MEMORY;
+use machine::ENVIRONMENT_VARIABLES;
+use machine::MACHINE_WORDS;
+use machine::VARIABLE_WORDS;
 use questions::environment_size;
 use questions::machine_refusal;
+use table::TABLE_WORDS;
 
 pub enum Comparison {
     Refused(u32),
@@ -22,12 +25,12 @@ pub enum Comparison {
 
 // Have the first k environment variables the same values?
 fn same_values(a: &[u32], b: &[u32], k: usize) -> bool
-    requires { ⌜ (12288 ≤ length (now a)) × (12288 ≤ length (now b)) × (k ≤ 16) ⌝ }
+    requires { ⌜ HasMachine (now a) × HasMachine (now b) × (k ≤ 16) ⌝ }
     ensures { λ r. ⌜ r ≡ walk.sameValues (variablesIn (firstWords (now (a .entry))) 12112 k) (variablesIn (firstWords (now (b .entry))) 12112 k) ⌝ }
 {
     let mut i: usize = 0;
     while i < k {
-        let at = 12112 + i * 6;
+        let at = ENVIRONMENT_VARIABLES + i * VARIABLE_WORDS;
         if a[at] != b[at] {
             return false;
         }
@@ -38,7 +41,7 @@ fn same_values(a: &[u32], b: &[u32], k: usize) -> bool
 
 // "Two running machines are alike when their present moments and the values of all environment variables are equal."
 fn same_states(table: &[u32], a: &[u32], b: &[u32]) -> bool
-    requires { ⌜ (12288 ≤ length (now table)) × (12288 ≤ length (now a)) × (12288 ≤ length (now b)) × (isTable (firstWords (now table)) ≡ true) ⌝ }
+    requires { ⌜ HasTable (now table) × HasMachine (now a) × HasMachine (now b) × (isTable (firstWords (now table)) ≡ true) ⌝ }
     ensures { λ r. ⌜ r ≡ walk.alike (stateOf (tableListing (firstWords (now (table .entry)))) (firstWords (now (a .entry))))
         (stateOf (tableListing (firstWords (now (table .entry)))) (firstWords (now (b .entry)))) ⌝ }
 {
@@ -69,7 +72,7 @@ fn pair_refusal(first: u32, second: u32) -> u32
 
 // The comparison on a table that has passed question 6.
 fn compare(table: &[u32], a: &[u32], b: &[u32]) -> Comparison
-    requires { ⌜ (12288 ≤ length (now table)) × (12288 ≤ length (now a)) × (12288 ≤ length (now b)) × (isTable (firstWords (now table)) ≡ true) ⌝ }
+    requires { ⌜ HasTable (now table) × HasMachine (now a) × HasMachine (now b) × (isTable (firstWords (now table)) ≡ true) ⌝ }
     ensures { λ r. ⌜ comparedOf r ≡ walk.bothStates (readMachine (tableListing (firstWords (now (table .entry)))) (firstWords (now (a .entry))))
         (readMachine (tableListing (firstWords (now (table .entry)))) (firstWords (now (b .entry)))) ⌝ }
 {
@@ -87,13 +90,13 @@ fn compare(table: &[u32], a: &[u32], b: &[u32]) -> Comparison
 pub fn alike(table: &[u32], a: &[u32], b: &[u32]) -> Comparison
     ensures { λ r. ⌜ comparedOf r ≡ walk.alikeCall layout (now (table .entry)) (now (a .entry)) (now (b .entry)) ⌝ }
 {
-    if table.len() < MEMORY {
+    if table.len() < TABLE_WORDS {
         return Comparison::Refused(1);
     }
-    if a.len() < MEMORY {
+    if a.len() < MACHINE_WORDS {
         return Comparison::Refused(1);
     }
-    if b.len() < MEMORY {
+    if b.len() < MACHINE_WORDS {
         return Comparison::Refused(1);
     }
     if !table_check::is_table(table) {

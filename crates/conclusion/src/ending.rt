@@ -2,6 +2,7 @@
 ghost use mathlib.Core.Path.{_≡_};
 ghost use Prim.Native.Nat.{_≤_};
 ghost use lib.ListN.{length};
+ghost use Rattle.table.specs.Areas.{TableLong};
 ghost use Rattle.machine.specs.Due.{dueAt};
 ghost use Rattle.table.specs.Decode.{tableListing};
 ghost use Rattle.conclusion.specs.Answers.{dueOf};
@@ -32,7 +33,7 @@ fn finished(
     numbers: &mut [u32],
     values: &mut [u32],
 ) -> Answer
-    requires { ⌜ (length (now table) ≡ 12288) × (MayFinish (now table) (now machine) (present .0)) × (16 ≤ length (now numbers)) × (16 ≤ length (now values)) ⌝ }
+    requires { ⌜ TableLong (now table) × (MayFinish (now table) (now machine) (present .0)) × (16 ≤ length (now numbers)) × (16 ≤ length (now values)) ⌝ }
     ensures { λ r. ⌜ ((may : MayFinish (now (table .entry)) (now (machine .entry)) (present .0)) →
         FinishedAs (now (table .entry)) (now (machine .entry)) (now (numbers .entry)) (now (values .entry))
         (now (machine .exit)) (now (numbers .exit)) (now (values .exit)) steps (may .state) r) ⌝ }
@@ -59,7 +60,7 @@ pub fn conclude(
     numbers: &mut [u32],
     values: &mut [u32],
 ) -> Answer
-    requires { ⌜ (length (now table) ≡ 12288) × (MayConclude (now table) (now machine) (present .0) allowance ran) × (16 ≤ length (now numbers)) × (16 ≤ length (now values)) ⌝ }
+    requires { ⌜ TableLong (now table) × (MayConclude (now table) (now machine) (present .0) allowance ran) × (16 ≤ length (now numbers)) × (16 ≤ length (now values)) ⌝ }
     ensures { λ r. ⌜ ((may : MayConclude (now (table .entry)) (now (machine .entry)) (present .0) allowance ran) →
         Concludes (tableListing (now (table .entry))) (now (machine .entry)) (now (numbers .entry)) (now (values .entry))
         (now (machine .exit)) (now (numbers .exit)) (now (values .exit)) (may .answer) r) ⌝ }

@@ -1,7 +1,7 @@
 // The instant call, of any memories: its questions, then the work of the instant.
-ghost use mathlib.Core.Path.{_≡_};
 ghost use Prim.Native.Nat.{_≤_};
 ghost use lib.ListN.{length};
+ghost use Rattle.table.specs.Areas.{TableLong};
 ghost use Rattle.walk.specs.Instant as walk;
 ghost use Rattle.walk.specs.Calls.{inputsOf};
 ghost use Rattle.walk.specs.Promises.{InstantPromise};
@@ -13,6 +13,7 @@ ghost use Rattle.engine.specs.Works.{MayInstant};
 use conclusion::Answer;
 use conclusion::conclude;
 use questions::instant_question;
+use table::TABLE_WORDS;
 use words::Moment;
 
 // The instant at the present moment on a table's 12,288 words, its questions answered; the soonest moment due of each block is known.
@@ -27,7 +28,7 @@ fn instant_work(
     values: &mut [u32],
     allowance: u32,
 ) -> Answer
-    requires { ⌜ (length (now table) ≡ 12288) × (MayInstant (now table) (now machine) (present .0) (now dues) (now «in_numbers») (now «in_values») allowance)
+    requires { ⌜ TableLong (now table) × (MayInstant (now table) (now machine) (present .0) (now dues) (now «in_numbers») (now «in_values») allowance)
         × (16 ≤ length (now numbers)) × (16 ≤ length (now values)) ⌝ }
     ensures { λ r. ⌜ ((may : MayInstant (now (table .entry)) (now (machine .entry)) (present .0) (now (dues .entry)) (now («in_numbers» .entry)) (now («in_values» .entry)) allowance) →
         Concludes (tableListing (now (table .entry))) (now (machine .entry)) (now (numbers .entry)) (now (values .entry))
@@ -71,7 +72,7 @@ pub fn instant(
         return Answer::Refused(refusal);
     }
     instant_work(
-        &table[0..12288],
+        &table[0..TABLE_WORDS],
         machine,
         moment,
         &dues,

@@ -3,6 +3,8 @@ ghost use mathlib.Core.Bool.{true};
 ghost use mathlib.Core.Path.{_≡_};
 ghost use Prim.Native.Nat.{_≤_};
 ghost use lib.ListN.{length};
+ghost use Rattle.table.specs.Areas.{TableLong};
+ghost use Rattle.machine.specs.Words.{HasMachine};
 ghost use Rattle.walk.specs.Instant as walk;
 ghost use Rattle.walk.specs.Promises.{StartPromise};
 ghost use Rattle.table.specs.Decode.{tableListing};
@@ -13,6 +15,7 @@ ghost use Rattle.conclusion.specs.Conclusions.{Concludes};
 use conclusion::Answer;
 use conclusion::conclude;
 use questions::start_question;
+use table::TABLE_WORDS;
 use words::Moment;
 
 // The start on a table's 12,288 words, its questions answered: the instant 0.
@@ -23,7 +26,7 @@ fn start_work(
     values: &mut [u32],
     allowance: u32,
 ) -> Answer
-    requires { ⌜ (length (now table) ≡ 12288) × (isTable (now table) ≡ true) × (12288 ≤ length (now machine)) × (allowance ≤ 1000000)
+    requires { ⌜ TableLong (now table) × (isTable (now table) ≡ true) × HasMachine (now machine) × (allowance ≤ 1000000)
         × (16 ≤ length (now numbers)) × (16 ≤ length (now values)) ⌝ }
     ensures { λ r. ⌜ Concludes (tableListing (now (table .entry))) (now (machine .entry)) (now (numbers .entry)) (now (values .entry))
         (now (machine .exit)) (now (numbers .exit)) (now (values .exit)) (walk.start (tableListing (now (table .entry))) allowance) r ⌝ }
@@ -50,7 +53,7 @@ pub fn start(
         return Answer::Refused(refusal);
     }
     start_work(
-        &table[0..12288],
+        &table[0..TABLE_WORDS],
         machine,
         out_numbers,
         out_values,

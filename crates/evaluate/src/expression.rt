@@ -1,6 +1,7 @@
 // An expression's pieces, one after the other. `t` is the table, `m` the machine's memory, `me` the running routine's slot.
-ghost use Prim.Native.Nat.{_≤_, _<_};
+ghost use Prim.Native.Nat.{_<_};
 ghost use lib.ListN.{length};
+ghost use Rattle.machine.specs.Words.{HasMachine};
 ghost use Rattle.words.specs.Words.{bit};
 ghost use Rattle.table.specs.Decode.{piecesAt};
 ghost use Rattle.scheduler.specs.Expressions.{evaluateBy};
@@ -8,13 +9,17 @@ ghost use Rattle.evaluate.specs.Bound.{bindingsOf, FromNames};
 ghost use Rattle.evaluate.specs.Evaluable.{Evaluable, MayCome, Past};
 use crate::stack::operate;
 use crate::stack::push;
+use table::CELL_WORDS;
+use table::LITERAL;
+use table::VALUE_OF;
+use table::WRITTEN_MARK;
 use variables::owner;
 use variables::value;
 use variables::written;
 
 // "`n` (a name's value)"
 fn value_of(m: &[u32], me: usize, name: u32) -> u32
-    requires { ⌜ (12288 ≤ length (now m)) × (me < 64) × (name < length (bindingsOf (now m) me)) ⌝ }
+    requires { ⌜ HasMachine (now m) × (me < 64) × (name < length (bindingsOf (now m) me)) ⌝ }
     ensures { λ r. ⌜ FromNames (now (m .entry)) me (λ names. (names name) .value) r ⌝ }
 {
     let binding = owner(m, me, name as usize);
@@ -25,7 +30,7 @@ fn value_of(m: &[u32], me: usize, name: u32) -> u32
 
 // "`@n` (1 if it was written in this instant, else 0)"
 fn mark_of(m: &[u32], me: usize, name: u32) -> u32
-    requires { ⌜ (12288 ≤ length (now m)) × (me < 64) × (name < length (bindingsOf (now m) me)) ⌝ }
+    requires { ⌜ HasMachine (now m) × (me < 64) × (name < length (bindingsOf (now m) me)) ⌝ }
     ensures { λ r. ⌜ FromNames (now (m .entry)) me (λ names. bit ((names name) .written)) r ⌝ }
 {
     let binding = owner(m, me, name as usize);
@@ -41,9 +46,9 @@ fn piece(t: &[u32], m: &[u32], me: usize, at: usize, values: &mut [u32; 8], coun
 {
     let kind = t[at];
     match kind {
-        0 => push(values, count, t[at + 1]),
-        1 => push(values, count, value_of(m, me, t[at + 1])),
-        2 => push(values, count, mark_of(m, me, t[at + 1])),
+        LITERAL => push(values, count, t[at + 1]),
+        VALUE_OF => push(values, count, value_of(m, me, t[at + 1])),
+        WRITTEN_MARK => push(values, count, mark_of(m, me, t[at + 1])),
         _ => operate(values, count, kind),
     }
 }
@@ -59,7 +64,7 @@ pub fn evaluate(t: &[u32], m: &[u32], me: usize, cells: usize, pieces: usize) ->
     let mut left = pieces;
     while left > 0 {
         count = piece(t, m, me, at, &mut values, count);
-        at += 2;
+        at += CELL_WORDS;
         left -= 1;
     }
     values[0]

@@ -4,6 +4,9 @@ ghost use mathlib.Core.Path.{_≡_};
 ghost use Prim.Native.Nat.{_≤_, _<_};
 ghost use lib.ListN.{length};
 ghost use Rattle.evaluate.specs.Values.{Pushed, Operated, signOf};
+use table::MINUS;
+use table::PLUS;
+use table::TIMES;
 use words::signed_less;
 use words::wrapping_add;
 use words::wrapping_multiply;
@@ -23,9 +26,9 @@ fn sign(kind: u32, left: u32, right: u32) -> u32
     ensures { λ r. ⌜ r ≡ signOf kind left right ⌝ }
 {
     match kind {
-        3 => wrapping_add(left, right),
-        4 => wrapping_subtract(left, right),
-        5 => wrapping_multiply(left, right),
+        PLUS => wrapping_add(left, right),
+        MINUS => wrapping_subtract(left, right),
+        TIMES => wrapping_multiply(left, right),
         _ => signed_less(left, right),
     }
 }

@@ -2,7 +2,8 @@
 ghost use mathlib.Core.Path.{_≡_};
 ghost use mathlib.Core.Bool.{true};
 ghost use Prim.Native.Nat.{ℕ, _+_, _≤_, _<_};
-ghost use lib.ListN.{length};
+ghost use Rattle.table.specs.Areas.{TableLong};
+ghost use Rattle.machine.specs.Words.{HasMachine};
 ghost use Rattle.walk.specs.Walk.{instructionAt};
 ghost use Rattle.table.specs.Decode.{word, headAfter, sizeOf, tableListing};
 ghost use Rattle.table.specs.Question6.{isTable};
@@ -10,6 +11,7 @@ ghost use Rattle.scheduler.specs.Records.{isWait};
 ghost use Rattle.blocks.specs.Blocks.{nonzero, rowsOf};
 ghost use Rattle.filling.specs.Filling.{MayFillChild};
 ghost use Rattle.filling.specs.Field.{FieldIs};
+use table::WAIT;
 use table_read::fetch;
 use table_read::head_at;
 use table_read::next_head;
@@ -27,7 +29,7 @@ pub fn wait_mark(t: &[u32], r: usize, place: usize) -> u32
     ensures { λ mark. ⌜ nonzero mark ≡ isWait (instructionAt (tableListing (now (t .entry))) r place) ⌝ }
 {
     let e = fetch(t, r, place);
-    if e.kind == 5 {
+    if e.kind == WAIT {
         return 1;
     }
     0
@@ -35,7 +37,7 @@ pub fn wait_mark(t: &[u32], r: usize, place: usize) -> u32
 
 // The head of child field i, the first at `cells`.
 fn head_of(t: &[u32], cells: usize, i: usize) -> usize
-    requires { ⌜ (length (now t) ≡ 12288) × ((j : ℕ) → j < i → headAfter (now t) cells j + 2 ≤ 12288) ⌝ }
+    requires { ⌜ TableLong (now t) × ((j : ℕ) → j < i → headAfter (now t) cells j + 2 ≤ 12288) ⌝ }
     ensures { λ r. ⌜ r ≡ headAfter (now (t .entry)) cells i ⌝ }
 {
     let mut head = cells;
@@ -49,7 +51,7 @@ fn head_of(t: &[u32], cells: usize, i: usize) -> usize
 
 // The field of the parent's `F` that made the routine in slot s.
 pub fn field_of(t: &[u32], m: &[u32], p: usize, s: usize) -> Field
-    requires { ⌜ (isTable (now t) ≡ true) × (12288 ≤ length (now m)) × MayFillChild (now t) (rowsOf (now m)) p s ⌝ }
+    requires { ⌜ (isTable (now t) ≡ true) × HasMachine (now m) × MayFillChild (now t) (rowsOf (now m)) p s ⌝ }
     ensures { λ r. ⌜ FieldIs (now (t .entry)) (rowsOf (now (m .entry))) p s r ⌝ }
 {
     let r = blocks::routine(m, p) as usize;

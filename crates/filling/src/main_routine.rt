@@ -3,7 +3,7 @@
 ghost use mathlib.Core.Path.{_≡_};
 ghost use mathlib.Core.Bool.{true};
 ghost use Prim.Native.Nat.{_≤_, _<_};
-ghost use lib.ListN.{length};
+ghost use Rattle.machine.specs.Words.{HasMachine};
 ghost use Rattle.walk.specs.Instant.{mainCall};
 ghost use Rattle.table.specs.Decode.{tableListing};
 ghost use Rattle.table.specs.Question6.{isTable};
@@ -20,26 +20,30 @@ use children::Parent;
 use children::bind_own;
 use children::put_kept;
 use children::put_working;
+use machine::BINDINGS;
+use machine::ENVIRONMENT;
+use machine::FIRST_TRIGGERS;
+use machine::NAMES;
 use table_read::opening_of;
 
 // Block 64 has the environment's variables: a name's word is 16 times the block, plus the variable's number there.
-const ENVIRONMENT: u32 = 1024;
+const FIRST_OF_ENVIRONMENT: u32 = 1024;
 
 // `count` names for the environment's variables.
 fn bind_environment(m: &mut [u32], s: usize, count: usize)
-    requires { ⌜ (12288 ≤ length (now m)) × (s < 64) × (count ≤ 16) ⌝ }
+    requires { ⌜ HasMachine (now m) × (s < 64) × (count ≤ 16) ⌝ }
     ensures { λ _. ⌜ EnvironmentBound (now (m .entry)) s count (now (m .exit)) ⌝ }
 {
     let mut j: usize = 0;
     while j < count {
-        put_word(m, s, 112 + j, ENVIRONMENT + j as u32);
+        put_word(m, s, BINDINGS + j, FIRST_OF_ENVIRONMENT + j as u32);
         j += 1;
     }
 }
 
 // All names of main.
 fn bind_main(t: &[u32], m: &mut [u32], s: usize)
-    requires { ⌜ (isTable (now t) ≡ true) × (12288 ≤ length (now m)) × (s < 64) ⌝ }
+    requires { ⌜ (isTable (now t) ≡ true) × HasMachine (now m) × (s < 64) ⌝ }
     ensures { λ _. ⌜ NamesBound (now (m .entry)) s (mainBindings (now (t .entry)) s) (now (m .exit)) ⌝ }
 {
     let opening = opening_of(t, 0);
@@ -47,7 +51,7 @@ fn bind_main(t: &[u32], m: &mut [u32], s: usize)
     let locals = opening.locals;
     bind_environment(m, s, count);
     bind_own(m, s, count, locals, 0);
-    put_word(m, s, 110, (count + locals) as u32);
+    put_word(m, s, NAMES, (count + locals) as u32);
 }
 
 // The environment as main's caller: all priorities are main's, 2 to the 32 of them.
@@ -58,7 +62,7 @@ fn main_parent(t: &[u32]) -> Parent
     let opening = opening_of(t, 0);
     let count = opening.arguments as u32;
     Parent {
-        slot: 64,
+        slot: ENVIRONMENT,
         level: 0,
         base: count,
         low: 0,
@@ -68,10 +72,10 @@ fn main_parent(t: &[u32]) -> Parent
 
 // Main newly called, in slot s.
 pub fn main_row(t: &[u32], m: &mut [u32], s: usize)
-    requires { ⌜ (isTable (now t) ≡ true) × (12288 ≤ length (now m)) × (s < 64) ⌝ }
+    requires { ⌜ (isTable (now t) ≡ true) × HasMachine (now m) × (s < 64) ⌝ }
     ensures { λ _. ⌜ MainIs (now (t .entry)) (now (m .entry)) s (λ environment. mainRow (tableListing (now (t .entry))) environment s) (now (m .exit)) ⌝ }
 {
-    clear_words(m, s, 0, 144);
+    clear_words(m, s, 0, FIRST_TRIGGERS);
     let opening = opening_of(t, 0);
     let locals = opening.locals;
     let parent = main_parent(t);
@@ -82,7 +86,7 @@ pub fn main_row(t: &[u32], m: &mut [u32], s: usize)
 
 // Main's working words, in the slot that it has kept.
 pub fn fill_main(t: &[u32], m: &mut [u32], s: usize)
-    requires { ⌜ (isTable (now t) ≡ true) × (12288 ≤ length (now m)) × MayFillMain (now t) (rowsOf (now m)) s ⌝ }
+    requires { ⌜ (isTable (now t) ≡ true) × HasMachine (now m) × MayFillMain (now t) (rowsOf (now m)) s ⌝ }
     ensures { λ _. ⌜ MainIs (now (t .entry)) (now (m .entry)) s (λ environment. filledRow (tableListing (now (t .entry))) (environmentCaller (tableListing (now (t .entry))) environment) (mainCall (tableListing (now (t .entry)))) (rowsOf (now (m .entry)) s) s) (now (m .exit)) ⌝ }
 {
     let place = blocks::place(m, s) as usize;

@@ -2,8 +2,9 @@
 // level, the slot seen last one level up.
 ghost use mathlib.Core.Path.{_≡_};
 ghost use mathlib.Core.Bool.{true};
-ghost use Prim.Native.Nat.{_≤_, _<_};
+ghost use Prim.Native.Nat.{_<_};
 ghost use lib.ListN.{length, getD};
+ghost use Rattle.machine.specs.Words.{HasMachine};
 ghost use Rattle.table.specs.Decode.{tableListing};
 ghost use Rattle.table.specs.Question6.{isTable};
 ghost use Rattle.scheduler.specs.Records.{filledRows};
@@ -12,6 +13,8 @@ ghost use Rattle.filling.specs.Filling.{MayFillAll, FillsRows, portsOf, 
 ghost use Rattle.filling.specs.Pass.{MayFillSlot, SlotFilled};
 use crate::main_routine::fill_main;
 use crate::row::fill_child;
+use machine::LIVE;
+use machine::ORDER;
 
 // A word of the machine's header.
 fn header(m: &[u32], at: usize) -> usize
@@ -29,7 +32,7 @@ fn number(x: u8) -> usize
 
 // One routine, by its level.
 fn fill_slot(t: &[u32], m: &mut [u32], level: usize, p: usize, s: usize)
-    requires { ⌜ (isTable (now t) ≡ true) × (12288 ≤ length (now m)) × MayFillSlot (now t) (rowsOf (now m)) level p s ⌝ }
+    requires { ⌜ (isTable (now t) ≡ true) × HasMachine (now m) × MayFillSlot (now t) (rowsOf (now m)) level p s ⌝ }
     ensures { λ _. ⌜ SlotFilled (now (t .entry)) (now (m .entry)) level p s (now (m .exit)) ⌝ }
 {
     if level == 0 {
@@ -44,11 +47,11 @@ pub fn fill_rows(t: &[u32], m: &mut [u32])
     requires { ⌜ MayFillAll (now t) (now m) ⌝ }
     ensures { λ _. ⌜ FillsRows (now (m .entry)) (filledRows (tableListing (now (t .entry))) (rowsOf (now (m .entry))) (portsOf (now (t .entry)) (now (m .entry))) (λ level. 64) (orderOf (now (m .entry)))) (now (m .exit)) ⌝ }
 {
-    let n = header(m, 3);
+    let n = header(m, LIVE);
     let mut above: [u8; 12] = [64; 12];
     let mut k: usize = 0;
     while k < n {
-        let s = header(m, 64 + k);
+        let s = header(m, ORDER + k);
         let level = blocks::level(m, s) as usize;
         let p = number(above[level]);
         fill_slot(t, m, level, p, s);

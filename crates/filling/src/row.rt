@@ -1,8 +1,7 @@
 // One routine's working words.
 ghost use mathlib.Core.Path.{_≡_};
 ghost use mathlib.Core.Bool.{true};
-ghost use Prim.Native.Nat.{_≤_};
-ghost use lib.ListN.{length};
+ghost use Rattle.machine.specs.Words.{HasMachine};
 ghost use Rattle.table.specs.Question6.{isTable};
 ghost use Rattle.blocks.specs.Blocks.{rowsOf};
 ghost use Rattle.filling.specs.Filling.{MayFillChild};
@@ -13,6 +12,7 @@ use children::Parent;
 use children::bind_names;
 use children::parent_of;
 use children::put_working;
+use table::CELL_WORDS;
 use table_read::opening_of;
 
 // The working words of the routine in slot s, which child field number i of the routine in slot p made; its head stands at `head`.
@@ -36,12 +36,12 @@ fn fill_row(
     let asleep = wait_mark(t, callee, place);
     let i = blocks::child(m, s);
     put_working(m, s, parent, i, asleep, callee as u32);
-    bind_names(t, m, p, s, head + 2, count, bits, locals);
+    bind_names(t, m, p, s, head + CELL_WORDS, count, bits, locals);
 }
 
 // A child's row, and one live child more in its parent's.
 pub fn fill_child(t: &[u32], m: &mut [u32], p: usize, s: usize)
-    requires { ⌜ (isTable (now t) ≡ true) × (12288 ≤ length (now m)) × MayFillChild (now t) (rowsOf (now m)) p s ⌝ }
+    requires { ⌜ (isTable (now t) ≡ true) × HasMachine (now m) × MayFillChild (now t) (rowsOf (now m)) p s ⌝ }
     ensures { λ _. ⌜ ChildFilled (now (t .entry)) (now (m .entry)) p s (now (m .exit)) ⌝ }
 {
     let field = field_of(t, m, p, s);

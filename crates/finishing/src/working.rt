@@ -1,27 +1,31 @@
 // The working words of an instant, offsets 7 and 104 to 183 of each block, are 0 between calls.
-ghost use Prim.Native.Nat.{_≤_, _<_};
-ghost use lib.ListN.{length};
+ghost use Prim.Native.Nat.{_≤_};
+ghost use Rattle.machine.specs.Words.{HasMachine};
 ghost use Rattle.blocks.specs.Blocks.{block};
 ghost use Rattle.blocks.specs.Changes.{InBlock};
 ghost use Rattle.instants.specs.Passes.{Mapped};
 ghost use Rattle.finishing.specs.Ended.{idleBlock, WorkingCleared};
+use machine::BLOCK_WORDS;
+use machine::ENVIRONMENT;
+use machine::SLOTS;
+use machine::WORKING;
 
 // Those of block s.
 fn clear_block(m: &mut [u32], s: usize)
-    requires { ⌜ (12288 ≤ length (now m)) × (s ≤ 64) ⌝ }
+    requires { ⌜ HasMachine (now m) × (s ≤ 64) ⌝ }
     ensures { λ _. ⌜ InBlock s (now (m .entry)) (now (m .exit)) (idleBlock (block (now (m .entry)) s)) ⌝ }
 {
-    blocks::clear_words(m, s, 104, 184);
+    blocks::clear_words(m, s, WORKING, BLOCK_WORDS);
     blocks::put_word(m, s, 7, 0);
 }
 
 // Those of the slots.
 fn clear_slots(m: &mut [u32])
-    requires { ⌜ 12288 ≤ length (now m) ⌝ }
+    requires { ⌜ HasMachine (now m) ⌝ }
     ensures { λ _. ⌜ Mapped 64 idleBlock (now (m .entry)) (now (m .exit)) ⌝ }
 {
     let mut s: usize = 0;
-    while s < 64 {
+    while s < SLOTS {
         clear_block(m, s);
         s += 1;
     }
@@ -29,9 +33,9 @@ fn clear_slots(m: &mut [u32])
 
 // Those of all blocks, the slots' and the environment's.
 pub fn clear_working(m: &mut [u32])
-    requires { ⌜ 12288 ≤ length (now m) ⌝ }
+    requires { ⌜ HasMachine (now m) ⌝ }
     ensures { λ _. ⌜ WorkingCleared (now (m .entry)) (now (m .exit)) ⌝ }
 {
     clear_slots(m);
-    clear_block(m, 64);
+    clear_block(m, ENVIRONMENT);
 }

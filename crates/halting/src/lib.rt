@@ -3,17 +3,19 @@
 ghost use mathlib.Core.Path.{_≡_};
 ghost use mathlib.Core.List.{_++_};
 ghost use Prim.Native.Nat.{_≤_};
-ghost use lib.ListN.{length, drop};
+ghost use lib.ListN.{drop};
+ghost use Rattle.machine.specs.Words.{HasMachine};
 ghost use Rattle.walk.specs.Calls.{haltedWords};
 ghost use Rattle.halting.specs.Zeroed.{zeroed, blankWords};
+use machine::MACHINE_WORDS;
 
 // The words from one place up to 12,288 made 0.
 fn clear_from(m: &mut [u32], from: usize)
-    requires { ⌜ (12288 ≤ length (now m)) × (from ≤ 12288) ⌝ }
+    requires { ⌜ HasMachine (now m) × (from ≤ 12288) ⌝ }
     ensures { λ _. ⌜ now (m .exit) ≡ zeroed from 12288 (now (m .entry)) ⌝ }
 {
     let mut k = from;
-    while k < 12288 {
+    while k < MACHINE_WORDS {
         m[k] = 0;
         k += 1;
     }
@@ -21,7 +23,7 @@ fn clear_from(m: &mut [u32], from: usize)
 
 // The stop's number, and nothing else.
 pub fn halt(m: &mut [u32], number: u32)
-    requires { ⌜ 12288 ≤ length (now m) ⌝ }
+    requires { ⌜ HasMachine (now m) ⌝ }
     ensures { λ _. ⌜ now (m .exit) ≡ haltedWords number ++ drop 12288 (now (m .entry)) ⌝ }
 {
     m[0] = number;
@@ -30,7 +32,7 @@ pub fn halt(m: &mut [u32], number: u32)
 
 // All words 0.
 pub fn blank(m: &mut [u32])
-    requires { ⌜ 12288 ≤ length (now m) ⌝ }
+    requires { ⌜ HasMachine (now m) ⌝ }
     ensures { λ _. ⌜ now (m .exit) ≡ blankWords ++ drop 12288 (now (m .entry)) ⌝ }
 {
     clear_from(m, 0);

@@ -4,6 +4,7 @@
 ghost use mathlib.Core.Path.{_≡_};
 ghost use Prim.Native.Nat.{ℕ, _≤_, _<_, min};
 ghost use lib.ListN.{length, getD};
+ghost use Rattle.machine.specs.Words.{HasMachine};
 ghost use Rattle.blocks.specs.Blocks.{block, ownerAt, rowsOf};
 ghost use Rattle.variables.specs.Bindings.{variablesBeside};
 ghost use Rattle.blocks.specs.Changes.{InBlock};
@@ -13,12 +14,16 @@ ghost use Rattle.ready.specs.Ordered.{Ordered};
 ghost use Rattle.instants.specs.Passes.{dueFirst, dueSlot, Mapped};
 ghost use Rattle.instants.specs.Beginnings.{DueMade, DuesTell};
 ghost use Rattle.instants.specs.Reaching.{Unwritten, NothingWritten, ReachesOne, Reaches};
+use machine::ENVIRONMENT;
+use machine::IN_USE;
+use machine::OWN;
+use machine::SLOTS;
 use ready::ReadyList;
 use words::Moment;
 
 // Those who await variable `index` of block s are ready, if it is written. Nothing is written before the due writes, so that a mark is theirs.
 fn wake_if_written(m: &[u32], ready: ReadyList, s: usize, index: usize) -> ReadyList
-    requires { ⌜ (12288 ≤ length (now m)) × (s ≤ 64) × (index < 16) × (Ordered (rowsOf (now m)) (slotsOf ready)) ⌝ }
+    requires { ⌜ HasMachine (now m) × (s ≤ 64) × (index < 16) × (Ordered (rowsOf (now m)) (slotsOf ready)) ⌝ }
     ensures { λ r. ⌜ ReachesOne (now (m .entry)) s index (slotsOf ready) (slotsOf r) ⌝ }
 {
     if variables::written(m, s, index) {
@@ -35,7 +40,7 @@ fn make_due_in(
     count: usize,
     present: Moment,
 ) -> ReadyList
-    requires { ⌜ (12288 ≤ length (now m)) × (s ≤ 64) × (count ≤ 16) × (0 < present .0) × (Ordered (rowsOf (now m)) (slotsOf ready)) ⌝ }
+    requires { ⌜ HasMachine (now m) × (s ≤ 64) × (count ≤ 16) × (0 < present .0) × (Ordered (rowsOf (now m)) (slotsOf ready)) ⌝ }
     ensures { λ r. ⌜ (InBlock s (now (m .entry)) (now (m .exit)) (dueFirst count (present .0) (block (now (m .entry)) s)))
         × (Ordered (rowsOf (now (m .exit))) (slotsOf r))
         × ((n : ℕ) → count ≤ length (variablesBeside (storeOf n (now (m .entry))) (ownerAt s 0)) → Unwritten count (block (now (m .entry)) s)
@@ -59,7 +64,7 @@ fn make_due_slot(
     present: Moment,
     soonest: u64,
 ) -> ReadyList
-    requires { ⌜ (12288 ≤ length (now m)) × (s < 64) × (0 < present .0)
+    requires { ⌜ HasMachine (now m) × (s < 64) × (0 < present .0)
         × ((soonest ≡ present .0 → ⊥) → dueSlot (present .0) (block (now m) s) ≡ block (now m) s)
         × (Ordered (rowsOf (now m)) (slotsOf ready)) ⌝ }
     ensures { λ r. ⌜ (InBlock s (now (m .entry)) (now (m .exit)) (dueSlot (present .0) (block (now (m .entry)) s)))
@@ -70,11 +75,11 @@ fn make_due_slot(
     if soonest != present.0 {
         return ready;
     }
-    let taken = blocks::word_at(m, s, 0);
+    let taken = blocks::word_at(m, s, IN_USE);
     if taken == 0 {
         return ready;
     }
-    let own = blocks::word_at(m, s, 4);
+    let own = blocks::word_at(m, s, OWN);
     let count = at_most_16(own);
     make_due_in(m, ready, s, count, present)
 }
@@ -91,7 +96,7 @@ pub fn at_most_16(n: u32) -> usize
 
 // All slots.
 fn make_due_slots(m: &mut [u32], ready: ReadyList, present: Moment, dues: &[u64; 65]) -> ReadyList
-    requires { ⌜ (12288 ≤ length (now m)) × (0 < present .0) × (length (now dues) ≡ 65)
+    requires { ⌜ HasMachine (now m) × (0 < present .0) × (length (now dues) ≡ 65)
         × ((s : ℕ) → s < 64 → (getD (now dues) s 0 ≡ present .0 → ⊥) → dueSlot (present .0) (block (now m) s) ≡ block (now m) s)
         × (Ordered (rowsOf (now m)) (slotsOf ready)) ⌝ }
     ensures { λ r. ⌜ (Mapped 64 (dueSlot (present .0)) (now (m .entry)) (now (m .exit)))
@@ -100,7 +105,7 @@ fn make_due_slots(m: &mut [u32], ready: ReadyList, present: Moment, dues: &[u64;
 {
     let mut s: usize = 0;
     let mut woken = ready;
-    while s < 64 {
+    while s < SLOTS {
         woken = make_due_slot(m, woken, s, present, dues[s]);
         s += 1;
     }
@@ -115,15 +120,15 @@ pub fn make_due_at(
     present: Moment,
     dues: &[u64; 65],
 ) -> ReadyList
-    requires { ⌜ (12288 ≤ length (now m)) × (n ≤ 16) × (0 < present .0) × (length (now dues) ≡ 65) × (DuesTell n (present .0) (now dues) (now m))
+    requires { ⌜ HasMachine (now m) × (n ≤ 16) × (0 < present .0) × (length (now dues) ≡ 65) × (DuesTell n (present .0) (now dues) (now m))
         × (Ordered (rowsOf (now m)) (slotsOf ready)) ⌝ }
     ensures { λ r. ⌜ (DueMade n (present .0) (now (m .entry)) (now (m .exit)))
         × (Ordered (rowsOf (now (m .exit))) (slotsOf r))
         × (NothingWritten n (now (m .entry)) → Reaches n (now (m .entry)) (now (m .exit)) (slotsOf ready) (slotsOf r)) ⌝ }
 {
     let woken = make_due_slots(m, ready, present, dues);
-    if dues[64] != present.0 {
+    if dues[ENVIRONMENT] != present.0 {
         return woken;
     }
-    make_due_in(m, woken, 64, n, present)
+    make_due_in(m, woken, ENVIRONMENT, n, present)
 }

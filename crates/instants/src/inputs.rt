@@ -1,18 +1,20 @@
 // Rule 1 of document 01: "Then the call's inputs are written."
 ghost use mathlib.Core.Path.{_≡_};
-ghost use Prim.Native.Nat.{ℕ, _≤_};
+ghost use Prim.Native.Nat.{ℕ};
 ghost use lib.ListN.{length};
+ghost use Rattle.machine.specs.Words.{HasMachine};
 ghost use Rattle.walk.specs.Calls.{inputsOf};
 ghost use Rattle.blocks.specs.Blocks.{rowsOf};
 ghost use Rattle.ready.specs.Slots.{slotsOf};
 ghost use Rattle.ready.specs.Ordered.{Ordered};
 ghost use Rattle.instants.specs.Beginnings.{NumbersBelow, InputsWritten};
 ghost use Rattle.instants.specs.Reaching.{Reaches};
+use machine::ENVIRONMENT;
 use ready::ReadyList;
 
 // Each input by its number and value; an input leaves a waiting write there, and passes along the trigger list of its variable.
 pub fn write_inputs(m: &mut [u32], ready: ReadyList, numbers: &[u32], values: &[u32]) -> ReadyList
-    requires { ⌜ (12288 ≤ length (now m)) × (length (now numbers) ≡ length (now values)) × NumbersBelow 16 (now numbers) × (Ordered (rowsOf (now m)) (slotsOf ready)) ⌝ }
+    requires { ⌜ HasMachine (now m) × (length (now numbers) ≡ length (now values)) × NumbersBelow 16 (now numbers) × (Ordered (rowsOf (now m)) (slotsOf ready)) ⌝ }
     ensures { λ r. ⌜ (Ordered (rowsOf (now (m .exit))) (slotsOf r))
         × ((n : ℕ) → NumbersBelow n (now (numbers .entry))
         → InputsWritten n (inputsOf (now (numbers .entry)) (now (values .entry))) (now (m .entry)) (now (m .exit))
@@ -23,8 +25,8 @@ pub fn write_inputs(m: &mut [u32], ready: ReadyList, numbers: &[u32], values: &[
     while k < numbers.len() {
         let number = numbers[k] as usize;
         let value = values[k];
-        variables::assign(m, 64, number, value);
-        woken = triggers::wake_all(m, woken, 64, number);
+        variables::assign(m, ENVIRONMENT, number, value);
+        woken = triggers::wake_all(m, woken, ENVIRONMENT, number);
         k += 1;
     }
     woken

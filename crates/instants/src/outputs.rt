@@ -1,19 +1,20 @@
 // "Outputs written in the instant are put in the two lent lists (number, final value), rising by number; places after them stay."
-ghost use mathlib.Core.Path.{_≡_};
 ghost use Prim.Native.Nat.{_+_, _≤_, _<_};
 ghost use lib.ListN.{length, drop};
+ghost use Rattle.machine.specs.Words.{HasMachine};
 ghost use Rattle.walk.specs.Instant.{writtenFrom};
 ghost use Rattle.blocks.specs.Blocks.{environmentOf};
 ghost use Rattle.instants.specs.Outputs.{ListedOne, Listed};
+use machine::ENVIRONMENT;
 
 // Environment variable i, if it was written, at place `count` of the lists; how many are listed then.
 fn list_output(m: &[u32], i: usize, numbers: &mut [u32], values: &mut [u32], count: usize) -> usize
-    requires { ⌜ (12288 ≤ length (now m)) × (i < 16) × (count < 16) × (16 ≤ length (now numbers)) × (16 ≤ length (now values)) ⌝ }
+    requires { ⌜ HasMachine (now m) × (i < 16) × (count < 16) × (16 ≤ length (now numbers)) × (16 ≤ length (now values)) ⌝ }
     ensures { λ r. ⌜ ListedOne (now (m .entry)) i count (now (numbers .entry)) (now (values .entry)) (now (numbers .exit)) (now (values .exit)) r ⌝ }
 {
-    if variables::written(m, 64, i) {
+    if variables::written(m, ENVIRONMENT, i) {
         numbers[count] = i as u32;
-        values[count] = variables::value(m, 64, i);
+        values[count] = variables::value(m, ENVIRONMENT, i);
         return count + 1;
     }
     count
@@ -27,7 +28,7 @@ pub fn list_outputs(
     numbers: &mut [u32],
     values: &mut [u32],
 ) -> usize
-    requires { ⌜ (12288 ≤ length (now m)) × (inputs + outputs ≤ 16) × (16 ≤ length (now numbers)) × (16 ≤ length (now values)) ⌝ }
+    requires { ⌜ HasMachine (now m) × (inputs + outputs ≤ 16) × (16 ≤ length (now numbers)) × (16 ≤ length (now values)) ⌝ }
     ensures { λ r. ⌜ Listed (writtenFrom inputs (drop inputs (environmentOf (inputs + outputs) (now (m .entry)))))
         (now (numbers .entry)) (now (values .entry)) (now (numbers .exit)) (now (values .exit)) r ⌝ }
 {

@@ -5,18 +5,19 @@ ghost use Rattle.layout.specs.Layout.{layout};
 use crate::writing::write_table;
 use loader::Loaded;
 use loader::put_questions;
+use table::TABLE_WORDS;
 
 // Document 01: "The loader puts each question to the whole listing before the next"; "a refusal leaves all lent memory untouched";
 // "Words past 12,288 are never touched."
 pub fn load(listing: &[u8], table: &mut [u32]) -> Loaded
     ensures { λ r. ⌜ LoadPromise layout (now (listing .entry)) (now (table .entry)) (now (table .exit)) (outcomeOf (now (listing .entry)) r) ⌝ }
 {
-    let long_enough = 12288 <= table.len();
+    let long_enough = TABLE_WORDS <= table.len();
     let answer = put_questions(long_enough, listing);
     match answer {
         Loaded::Refused(number, place) => Loaded::Refused(number, place),
         Loaded::Done => {
-            write_table(listing, &mut table[..12288]);
+            write_table(listing, &mut table[..TABLE_WORDS]);
             Loaded::Done
         }
     }

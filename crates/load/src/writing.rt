@@ -4,7 +4,7 @@ ghost use Prim.Native.Nat.{_<_};
 ghost use lib.ListN.{length};
 ghost use Rattle.listing.specs.Load.{Loads};
 ghost use Rattle.listing.specs.Questions.{listingIn};
-ghost use Rattle.table.specs.Areas.{tableWords};
+ghost use Rattle.table.specs.Areas.{tableWords, TableLong};
 ghost use Rattle.load.specs.Writing.{progressAfter, wordsNext, Writing};
 use crate::progress::Progress;
 use crate::progress::advance;
@@ -40,7 +40,7 @@ fn write_next(s: &[u8], t: &mut [u32], p: Progress) -> Progress
 
 // The whole table, over words of any contents. Document 01: "The loader clears the table's unused words among the 12,288."
 pub fn write_table(s: &[u8], t: &mut [u32])
-    requires { ⌜ Loads (now s) (listingIn (now s)) × (length (now t) ≡ 12288) ⌝ }
+    requires { ⌜ Loads (now s) (listingIn (now s)) × TableLong (now t) ⌝ }
     ensures { λ _. ⌜ now (t .exit) ≡ tableWords (listingIn (now (s .entry))) ⌝ }
 {
     blank(t);

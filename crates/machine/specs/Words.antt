@@ -2,13 +2,28 @@
 -- The layout is that of docs/LAYOUT.md; `w` stands for the 12,288 words.
 use mathlib.Core.Bool.{Bool, true, false, cond, _&&_}
 use mathlib.Core.List.{List, [], _∷_}
-use Prim.Native.Nat.{ℕ, zero, suc, _+_, _*_, _-_}
+use mathlib.Core.Path.{_≡_}
+use Prim.Native.Nat.{ℕ, zero, suc, _+_, _*_, _-_, _≤_, _<_}
 use lib.Dec.{ltb, leb, eqb}
-use lib.ListN.{getD}
+use lib.ListN.{length, getD}
 use Rattle.listing.specs.Listing.{Listing}
 use Rattle.walk.specs.State.{Waiting, idle, due, Variable, State}
 use Rattle.walk.specs.Instant.{environmentSize}
 use Rattle.machine.specs.Records.{Record, recordsPass, stateFrom}
+
+-- "machine 12,288": a memory with room for a machine, and one of just its words
+abbrev pub machineSize : ℕ
+machineSize = 12288
+
+abbrev pub HasMachine : List ℕ → Type 0
+HasMachine m = machineSize ≤ length m
+
+abbrev pub MachineLong : List ℕ → Type 0
+MachineLong m = length m ≡ machineSize
+
+-- a slot of a machine
+abbrev pub AtSlot : List ℕ → ℕ → Type 0
+AtSlot m s = HasMachine m × (s < 64)
 
 -- The address of a slot's block; the environment is block 64.
 abbrev pub blockAt : ℕ → ℕ

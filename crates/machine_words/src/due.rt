@@ -1,6 +1,7 @@
 // The soonest moment due. A moment due is at least 1, so 0 stands for none: a number that can mean none is bare, and no `Moment`.
 
 use crate::moment_at;
+use machine::VARIABLE_WORDS;
 ghost use mathlib.Core.Path.{_≡_};
 ghost use Prim.Native.Nat.{_+_, _*_, _≤_};
 ghost use lib.ListN.{length};
@@ -32,7 +33,7 @@ pub fn sooner_of_variables(m: &[u32], at: usize, k: usize, soonest: u64) -> u64
     let mut found = soonest;
     let mut i: usize = 0;
     while i < k {
-        let due = moment_at(m, at + i * 6 + 2);
+        let due = moment_at(m, at + i * VARIABLE_WORDS + 2);
         found = sooner(found, due);
         i += 1;
     }

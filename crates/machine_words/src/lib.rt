@@ -4,6 +4,10 @@
 pub mod due;
 
 use due::sooner;
+use machine::MOST_VARIABLES;
+use machine::PRESENT;
+use machine::VARIABLE_WORDS;
+use machine::VARIABLES;
 use words::Moment;
 ghost use mathlib.Core.Path.{_≡_};
 ghost use Prim.Native.Nat.{_+_, _*_, _<_, _≤_};
@@ -50,7 +54,7 @@ pub fn present_moment(m: &[u32]) -> Moment
     requires { ⌜ 2 < length (now m) ⌝ }
     ensures { λ r. ⌜ r .0 ≡ momentAt (now (m .entry)) 1 ⌝ }
 {
-    Moment(moment_at(m, 1))
+    Moment(moment_at(m, PRESENT))
 }
 
 // Are the k words from `at` on 0? It goes on to the last one, since the compiler then takes several at a time.
@@ -99,7 +103,7 @@ fn variables_rest(m: &[u32], at: usize, k: usize, present: Moment) -> Test
     let mut found: u64 = 0;
     let mut i: usize = 0;
     while i < k {
-        let here = at + i * 6;
+        let here = at + i * VARIABLE_WORDS;
         if !variable_rests(m, here, present) {
             return Test::Fails;
         }
@@ -115,11 +119,15 @@ pub fn block_rests(m: &[u32], at: usize, k: usize, present: Moment) -> Test
     requires { ⌜ at + 184 ≤ length (now m) ⌝ }
     ensures { λ r. ⌜ testOf r ≡ tested (blockRests (present .0) (now (m .entry)) at k) (dueOfVariables (variablesIn (now (m .entry)) (at + 8) k)) ⌝ }
 {
-    if 16 < k {
+    if MOST_VARIABLES < k {
         return Test::Fails;
     }
-    if !zero_from(m, at + 8 + k * 6, 176 - k * 6) {
+    if !zero_from(
+        m,
+        at + VARIABLES + k * VARIABLE_WORDS,
+        176 - k * VARIABLE_WORDS,
+    ) {
         return Test::Fails;
     }
-    variables_rest(m, at + 8, k, present)
+    variables_rest(m, at + VARIABLES, k, present)
 }

@@ -23,7 +23,7 @@ pub struct Kinds {
 fn kind_bit(b: u8) -> u32
     ensures { λ r. ⌜ (r ≡ kindBit b) × (r ≤ 1) ⌝ }
 {
-    if b == 114 {
+    if b == b'r' {
         return 1;
     }
     0
@@ -48,7 +48,7 @@ fn kinds_of(s: &[u8], from: usize, to: usize) -> Kinds
     requires { ⌜ (from ≤ to) × (to ≤ length (now s)) × FewKinds (slice from to (now s)) ⌝ }
     ensures { λ r. ⌜ r ≡ kindsAnswer (slice from to (now (s .entry))) ⌝ }
 {
-    if s[from] == 45 {
+    if s[from] == b'-' {
         return Kinds { count: 0, bits: 0 };
     }
     Kinds {

@@ -36,7 +36,7 @@ fn digit(d: u64) -> u8
     requires { ⌜ d ≤ 9 ⌝ }
     ensures { λ r. ⌜ r ≡ 48 + d ⌝ }
 {
-    48 + d as u8
+    b'0' + d as u8
 }
 
 // The figure of n; the place past it.

@@ -1,19 +1,23 @@
 // Question 7: is the machine memory the stopped form or one state of the walk on this table?
 // The tree is scanned once, record by record in walking order, against the child fields of the table.
 
+use machine::MACHINE_WORDS;
 use machine_in_place::stopped_words;
 use machine_in_place::words_in_place;
 use machine_words::Test;
 use machine_words::number;
+use table::INPUTS;
+use table::OUTPUTS;
+use table::TABLE_WORDS;
 use tree_scan::scan::tree_passes;
 ghost use mathlib.Core.Path.{_≡_};
-ghost use Prim.Native.Nat.{_≤_};
 ghost use lib.ListN.{length};
 ghost use mathlib.Core.Bool.{true};
+ghost use Rattle.table.specs.Areas.{HasTable, TableLong};
 ghost use Rattle.table.specs.Decode.{tableListing};
 ghost use Rattle.table.specs.Question6.{isTable};
 ghost use Rattle.walk.specs.Instant.{environmentSize};
-ghost use Rattle.machine.specs.Words.{runningWords};
+ghost use Rattle.machine.specs.Words.{runningWords, HasMachine, MachineLong};
 ghost use Rattle.machine.specs.Due.{wordsDue};
 ghost use Rattle.machine_words.specs.Tests.{testOf, tested, Dues};
 ghost use Rattle.machine_in_place.specs.Kept.{wordsKept};
@@ -29,7 +33,7 @@ pub enum MachineCheck {
 
 // Do the words stand for a state of the walk on the table's listing? With the next moment due, and the soonest of each block.
 pub fn running_words(t: &[u32], m: &[u32], dues: &mut [u64; 65]) -> Test
-    requires { ⌜ (length (now t) ≡ 12288) × (length (now m) ≡ 12288) × (isTable (now t) ≡ true) × (length (now dues) ≡ 65) ⌝ }
+    requires { ⌜ TableLong (now t) × MachineLong (now m) × (isTable (now t) ≡ true) × (length (now dues) ≡ 65) ⌝ }
     ensures { λ r. ⌜ (testOf r ≡ tested (runningWords (tableListing (now (t .entry))) (now (m .entry)))
         (wordsDue (environmentSize (tableListing (now (t .entry)))) (now (m .entry))))
         × (length (now (dues .exit)) ≡ 65)
@@ -37,7 +41,7 @@ pub fn running_words(t: &[u32], m: &[u32], dues: &mut [u64; 65]) -> Test
         → Dues (environmentSize (tableListing (now (t .entry)))) (now (m .entry)) (now (dues .exit)))
         × (now (dues .exit) ≡ wordsKept (environmentSize (tableListing (now (t .entry)))) (now (m .entry)) (now (dues .entry))) ⌝ }
 {
-    let size = number(t[0]) + number(t[1]);
+    let size = number(t[INPUTS]) + number(t[OUTPUTS]);
     let Test::Passes(soonest) = words_in_place(m, size, dues) else {
         return Test::Fails;
     };
@@ -49,7 +53,7 @@ pub fn running_words(t: &[u32], m: &[u32], dues: &mut [u64; 65]) -> Test
 
 // Question 7 on the 12,288 words of each memory.
 pub fn machine_answer(t: &[u32], m: &[u32], dues: &mut [u64; 65]) -> MachineCheck
-    requires { ⌜ (length (now t) ≡ 12288) × (length (now m) ≡ 12288) × (isTable (now t) ≡ true) × (length (now dues) ≡ 65) ⌝ }
+    requires { ⌜ TableLong (now t) × MachineLong (now m) × (isTable (now t) ≡ true) × (length (now dues) ≡ 65) ⌝ }
     ensures { λ r. ⌜ Answered (tableListing (now (t .entry))) (now (m .entry)) (now (dues .entry)) (now (dues .exit)) r ⌝ }
 {
     if stopped_words(m) {
@@ -64,8 +68,8 @@ pub fn machine_answer(t: &[u32], m: &[u32], dues: &mut [u64; 65]) -> MachineChec
 
 // Question 7 on memories of at least 12,288 words; the table has passed question 6. Of a state, the soonest moment due of each block is kept.
 pub fn check_machine(t: &[u32], m: &[u32], dues: &mut [u64; 65]) -> MachineCheck
-    requires { ⌜ (12288 ≤ length (now t)) × (12288 ≤ length (now m)) × (isTable (firstWords (now t)) ≡ true) × (length (now dues) ≡ 65) ⌝ }
+    requires { ⌜ HasTable (now t) × HasMachine (now m) × (isTable (firstWords (now t)) ≡ true) × (length (now dues) ≡ 65) ⌝ }
     ensures { λ r. ⌜ Answered (tableListing (firstWords (now (t .entry)))) (firstWords (now (m .entry))) (now (dues .entry)) (now (dues .exit)) r ⌝ }
 {
-    machine_answer(&t[0..12288], &m[0..12288], dues)
+    machine_answer(&t[0..TABLE_WORDS], &m[0..MACHINE_WORDS], dues)
 }

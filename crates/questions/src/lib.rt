@@ -4,36 +4,38 @@ ghost use mathlib.Core.Path.{_≡_};
 ghost use Prim.Native.Nat.{_≤_};
 ghost use lib.Dec.{ltb};
 ghost use lib.ListN.{length};
+ghost use Rattle.table.specs.Areas.{HasTable};
 ghost use Rattle.walk.specs.Calls.{Outcome, ask, dueBefore, allowed, firstWords};
 ghost use Rattle.walk.specs.Instant.{environmentSize};
 ghost use Rattle.table.specs.Question6.{isTable};
 ghost use Rattle.table.specs.Decode.{tableListing};
-ghost use Rattle.machine.specs.Words.{momentAt};
+ghost use Rattle.machine.specs.Words.{momentAt, HasMachine, MachineLong};
 ghost use Rattle.machine.specs.Due.{dueAt};
 ghost use Rattle.machine.specs.ReadMachine.{readMachine};
 ghost use Rattle.questions.specs.Asked.{machineRefusal, longEnough, numbersRise, asked, MachineAsked, InstantAsked, StartAsked};
+use machine::MACHINE_WORDS;
 use machine_words::number;
 use question7::MachineCheck;
+use table::INPUTS;
+use table::OUTPUTS;
+use table::TABLE_WORDS;
 use words::Moment;
 
-// "Table 12,288 words of 32 bits, machine 12,288, output lists 16 each"
-pub const MEMORY: usize = 12288;
-
-const OUTPUTS: usize = 16;
+const OUTPUT_PLACES: usize = 16;
 
 // The number of environment variables of a table that has passed question 6.
 pub fn environment_size(table: &[u32]) -> usize
-    requires { ⌜ (12288 ≤ length (now table)) × (isTable (firstWords (now table)) ≡ true) ⌝ }
+    requires { ⌜ HasTable (now table) × (isTable (firstWords (now table)) ≡ true) ⌝ }
     ensures { λ r. ⌜ (r ≡ environmentSize (tableListing (firstWords (now (table .entry))))) × (r ≤ 16) ⌝ }
 {
-    let inputs = number(table[0]);
-    let outputs = number(table[1]);
+    let inputs = number(table[INPUTS]);
+    let outputs = number(table[OUTPUTS]);
     inputs + outputs
 }
 
 // 7 and 8 of a machine.
 pub fn machine_refusal(table: &[u32], machine: &[u32]) -> u32
-    requires { ⌜ (12288 ≤ length (now table)) × (12288 ≤ length (now machine)) × (isTable (firstWords (now table)) ≡ true) ⌝ }
+    requires { ⌜ HasTable (now table) × HasMachine (now machine) × (isTable (firstWords (now table)) ≡ true) ⌝ }
     ensures { λ r. ⌜ r ≡ machineRefusal (readMachine (tableListing (firstWords (now (table .entry)))) (firstWords (now (machine .entry)))) ⌝ }
 {
     let mut dues: [u64; 65] = [0; 65];
@@ -49,16 +51,16 @@ pub fn machine_refusal(table: &[u32], machine: &[u32]) -> u32
 fn long_enough(table: usize, machine: usize, numbers: usize, values: usize) -> bool
     ensures { λ r. ⌜ r ≡ longEnough table machine numbers values ⌝ }
 {
-    if table < MEMORY {
+    if table < TABLE_WORDS {
         return false;
     }
-    if machine < MEMORY {
+    if machine < MACHINE_WORDS {
         return false;
     }
-    if numbers < OUTPUTS {
+    if numbers < OUTPUT_PLACES {
         return false;
     }
-    values >= OUTPUTS
+    values >= OUTPUT_PLACES
 }
 
 // 10 "Is nothing due before t?", t being the call's moment: whether something is, by the next moment due (0: none).
@@ -110,7 +112,7 @@ fn state_question(
     numbers: &[u32],
     allowance: u32,
 ) -> u32
-    requires { ⌜ length (now machine) ≡ 12288 ⌝ }
+    requires { ⌜ MachineLong (now machine) ⌝ }
     ensures { λ r. ⌜ ((next : Outcome) → asked r next ≡ ask 9 (ltb (momentAt (now (machine .entry)) 1) (moment .0))
         (ask 10 (not (dueBefore (dueAt soonest) (moment .0)))
         (ask 11 (numbersRise inputs 0 (now (numbers .entry))) (ask 12 (allowed allowance) next)))) ⌝ }
@@ -140,7 +142,7 @@ fn machine_question(
     allowance: u32,
     dues: &mut [u64; 65],
 ) -> u32
-    requires { ⌜ (12288 ≤ length (now table)) × (12288 ≤ length (now machine)) × (isTable (firstWords (now table)) ≡ true) × (length (now dues) ≡ 65) ⌝ }
+    requires { ⌜ HasTable (now table) × HasMachine (now machine) × (isTable (firstWords (now table)) ≡ true) × (length (now dues) ≡ 65) ⌝ }
     ensures { λ r. ⌜ MachineAsked (tableListing (firstWords (now (table .entry)))) (firstWords (now (machine .entry))) (moment .0) (now (numbers .entry)) allowance
         (now (dues .exit)) r ⌝ }
 {
@@ -153,9 +155,9 @@ fn machine_question(
             return 8;
         }
         MachineCheck::Running(soonest) => {
-            let inputs = number(table[0]);
+            let inputs = number(table[INPUTS]);
             state_question(
-                &machine[0..12288],
+                &machine[0..MACHINE_WORDS],
                 soonest,
                 inputs,
                 moment,

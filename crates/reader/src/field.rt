@@ -41,10 +41,10 @@ pub fn number_field(s: &[u8], place: Place, stop: u8) -> Number
     requires { ⌜ Within (now s) (place .offset) (place .line) ⌝ }
     ensures { λ r. ⌜ r ≡ numberAnswer (now (s .entry)) place stop ⌝ }
 {
-    if stop == 9 {
+    if stop == b'\t' {
         let t = take_piece(s, place);
         let b = t.stop;
-        if b == 32 {
+        if b == b' ' {
             return Number::Bad;
         }
         let from = t.from;
@@ -63,7 +63,7 @@ pub fn pieces_field(s: &[u8], place: Place, stop: u8, names: u8) -> Pieces
     requires { ⌜ Within (now s) (place .offset) (place .line) ⌝ }
     ensures { λ r. ⌜ r ≡ piecesAnswer names (now (s .entry)) place stop ⌝ }
 {
-    if stop != 9 {
+    if stop != b'\t' {
         return Pieces::Bad;
     }
     let mut at = place.offset;
@@ -90,7 +90,7 @@ pub fn pieces_field(s: &[u8], place: Place, stop: u8, names: u8) -> Pieces
         g = gathered(g, p, names);
         let b = t.stop;
         let next = t.next;
-        if b != 32 {
+        if b != b' ' {
             return Pieces::Read(g, b, next);
         }
         at = next.offset;

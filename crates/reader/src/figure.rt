@@ -33,10 +33,10 @@ pub fn wide(b: u8) -> u64
 pub fn is_digit(b: u8) -> bool
     ensures { λ r. ⌜ r ≡ isDigit b ⌝ }
 {
-    if b < 48 {
+    if b < b'0' {
         return false;
     }
-    b <= 57
+    b <= b'9'
 }
 
 // The figure from one offset up to another.
@@ -47,7 +47,7 @@ pub fn figure_of(s: &[u8], from: usize, to: usize) -> Figure
     if from == to {
         return Figure::Bad;
     }
-    if s[from] == 48 {
+    if s[from] == b'0' {
         if from + 1 == to {
             return Figure::Value(0);
         }
@@ -58,7 +58,7 @@ pub fn figure_of(s: &[u8], from: usize, to: usize) -> Figure
     while i < to {
         let b = s[i];
         if is_digit(b) {
-            n = append_digit(n, wide(b - 48));
+            n = append_digit(n, wide(b - b'0'));
             i += 1;
         } else {
             return Figure::Bad;

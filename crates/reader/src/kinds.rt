@@ -24,10 +24,10 @@ pub enum KindsField {
 fn is_kind(b: u8) -> bool
     ensures { λ r. ⌜ r ≡ isKind b ⌝ }
 {
-    if b == 114 {
+    if b == b'r' {
         return true;
     }
-    b == 118
+    b == b'v'
 }
 
 fn kinds_of(s: &[u8], from: usize, to: usize) -> Kinds
@@ -37,7 +37,7 @@ fn kinds_of(s: &[u8], from: usize, to: usize) -> Kinds
     if from == to {
         return Kinds::Bad;
     }
-    if s[from] == 45 {
+    if s[from] == b'-' {
         if from + 1 == to {
             return Kinds::Read(0, true);
         }
@@ -51,7 +51,7 @@ fn kinds_of(s: &[u8], from: usize, to: usize) -> Kinds
         if is_kind(b) {
             i += 1;
             n += 1;
-            by_reference = both(by_reference, b == 114);
+            by_reference = both(by_reference, b == b'r');
         } else {
             return Kinds::Bad;
         }
@@ -63,10 +63,10 @@ pub fn kinds_field(s: &[u8], place: Place, stop: u8) -> KindsField
     requires { ⌜ Within (now s) (place .offset) (place .line) ⌝ }
     ensures { λ r. ⌜ r ≡ kindsFieldAnswer (now (s .entry)) place stop ⌝ }
 {
-    if stop == 9 {
+    if stop == b'\t' {
         let t = take_piece(s, place);
         let b = t.stop;
-        if b == 32 {
+        if b == b' ' {
             return KindsField::Bad;
         }
         let from = t.from;

@@ -31,7 +31,7 @@ pub fn form_place(s: &[u8]) -> usize
         ) else {
             return line;
         };
-        if stop != 10 {
+        if stop != b'\n' {
             return line;
         }
         if may_stand_on(line, r) {

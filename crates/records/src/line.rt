@@ -26,7 +26,7 @@ pub fn read_line(s: &[u8], place: Place, scope: Scope, arguments: &[u8; 64]) -> 
     let to = t.to;
     let b = t.stop;
     let next = t.next;
-    if b == 32 {
+    if b == b' ' {
         return Line::Bad;
     }
     if from == to {

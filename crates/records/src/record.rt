@@ -46,7 +46,7 @@ fn read_ports(s: &[u8], place: Place, stop: u8, scope: Scope) -> Rest
     let Number::Read(o, b2, p2) = number_field(s, p1, b1) else {
         return Rest::Bad;
     };
-    if b2 == 9 {
+    if b2 == b'\t' {
         return Rest::Bad;
     }
     Rest::Is(Record::Ports(i, o), b2, p2)
@@ -62,7 +62,7 @@ fn read_opens(s: &[u8], place: Place, stop: u8, scope: Scope) -> Rest
     let Number::Read(locals, b2, p2) = number_field(s, p1, b1) else {
         return Rest::Bad;
     };
-    if b2 == 9 {
+    if b2 == b'\t' {
         return Rest::Bad;
     }
     Rest::Is(Record::Opens(n, locals, by_reference), b2, p2)
@@ -78,7 +78,7 @@ fn read_assign(s: &[u8], place: Place, stop: u8, scope: Scope) -> Rest
     let Expression::Read(k, there, b2, p2) = expression_field(s, p1, b1, scope.names) else {
         return Rest::Bad;
     };
-    if b2 == 9 {
+    if b2 == b'\t' {
         return Rest::Bad;
     }
     let known = both(n < scope.names as u64, there);
@@ -98,7 +98,7 @@ fn read_schedule(s: &[u8], place: Place, stop: u8, scope: Scope) -> Rest
     let Expression::Read(m, e_there, b3, p3) = expression_field(s, p2, b2, scope.names) else {
         return Rest::Bad;
     };
-    if b3 == 9 {
+    if b3 == b'\t' {
         return Rest::Bad;
     }
     let known = both(both(n < scope.names as u64, d_there), e_there);
@@ -115,7 +115,7 @@ fn read_branch(s: &[u8], place: Place, stop: u8, scope: Scope) -> Rest
     let Number::Read(j, b2, p2) = number_field(s, p1, b1) else {
         return Rest::Bad;
     };
-    if b2 == 9 {
+    if b2 == b'\t' {
         return Rest::Bad;
     }
     let known = both(there, j < scope.size as u64);
@@ -129,7 +129,7 @@ fn read_jump(s: &[u8], place: Place, stop: u8, scope: Scope) -> Rest
     let Number::Read(j, b1, p1) = number_field(s, place, stop) else {
         return Rest::Bad;
     };
-    if b1 == 9 {
+    if b1 == b'\t' {
         return Rest::Bad;
     }
     Rest::Is(Record::Instruction(1, j < scope.size as u64, true), b1, p1)
@@ -145,7 +145,7 @@ fn read_wait(s: &[u8], place: Place, stop: u8, scope: Scope) -> Rest
     if 4 < g.count {
         return Rest::Bad;
     }
-    if b1 == 9 {
+    if b1 == b'\t' {
         return Rest::Bad;
     }
     Rest::Is(Record::Instruction(g.count, g.there, false), b1, p1)
@@ -154,7 +154,7 @@ fn read_wait(s: &[u8], place: Place, stop: u8, scope: Scope) -> Rest
 fn read_end(stop: u8, place: Place, scope: Scope) -> Rest
     ensures { λ r. ⌜ ((s : List ℕ) (routines : List Routine) → r ≡ restAnswer routines scope s place stop readEnd) ⌝ }
 {
-    if stop == 9 {
+    if stop == b'\t' {
         return Rest::Bad;
     }
     Rest::Is(Record::Instruction(0, true, true), stop, place)
@@ -170,7 +170,7 @@ fn read_fork(s: &[u8], place: Place, stop: u8, scope: Scope, arguments: &[u8; 64
     let mut count: u64 = 0;
     let mut sum: u64 = 0;
     let mut there = true;
-    while b == 9 {
+    while b == b'\t' {
         if 8 <= count {
             return Rest::Bad;
         }
@@ -217,15 +217,15 @@ pub fn read_rest(
     ensures { λ r. ⌜ r ≡ restAnswer (standIns (take (scope .routines) (now (arguments .entry)))) scope (now (s .entry)) place stop (readByLetter letter) ⌝ }
 {
     match letter {
-        80 => read_ports(s, place, stop, scope),
-        82 => read_opens(s, place, stop, scope),
-        83 => read_assign(s, place, stop, scope),
-        65 => read_schedule(s, place, stop, scope),
-        85 => read_branch(s, place, stop, scope),
-        71 => read_jump(s, place, stop, scope),
-        87 => read_wait(s, place, stop, scope),
-        70 => read_fork(s, place, stop, scope, arguments),
-        69 => read_end(stop, place, scope),
+        b'P' => read_ports(s, place, stop, scope),
+        b'R' => read_opens(s, place, stop, scope),
+        b'S' => read_assign(s, place, stop, scope),
+        b'A' => read_schedule(s, place, stop, scope),
+        b'U' => read_branch(s, place, stop, scope),
+        b'G' => read_jump(s, place, stop, scope),
+        b'W' => read_wait(s, place, stop, scope),
+        b'F' => read_fork(s, place, stop, scope, arguments),
+        b'E' => read_end(stop, place, scope),
         _ => Rest::Bad,
     }
 }

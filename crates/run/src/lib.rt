@@ -10,6 +10,12 @@ ghost use Rattle.steps.specs.Outcome.{Executes};
 ghost use Rattle.run.specs.Asked.{MayStep};
 use steps::Running;
 use steps::Stepped;
+use table::ASSIGN;
+use table::BRANCH;
+use table::FORK;
+use table::JUMP;
+use table::SCHEDULE;
+use table::WAIT;
 use table_read::Entry;
 pub use whole::Left;
 pub use whole::Ran;
@@ -31,22 +37,22 @@ fn execute(t: &[u32], m: &mut [u32], present: Moment, running: Running, entry: E
     let first = entry.first;
     let second = entry.second;
     match kind {
-        1 => {
+        ASSIGN => {
             return steps::assign_step(t, m, running, operand, cells, first);
         }
-        2 => {
+        SCHEDULE => {
             return steps::schedule_step(t, m, present, running, operand, cells, first, second);
         }
-        3 => {
+        BRANCH => {
             return steps::branch_step(t, m, running, cells, first, operand as u32);
         }
-        4 => {
+        JUMP => {
             return steps::jump_step(m, running, operand as u32);
         }
-        5 => {
+        WAIT => {
             return steps::wait_step(m, running);
         }
-        6 => {
+        FORK => {
             return forks::fork_step(t, m, running, cells, first);
         }
         _ => {

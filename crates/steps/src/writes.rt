@@ -9,6 +9,7 @@ ghost use Rattle.steps.specs.Outcome.{Executes, ChangesName};
 use crate::running::Answer;
 use crate::running::Running;
 use crate::running::Stepped;
+use machine::MAY_WAIT;
 use words::Delay;
 use words::Later;
 use words::Moment;
@@ -62,7 +63,7 @@ fn schedule_at(m: &mut [u32], running: Running, name: usize, moment: Moment, val
     let index = binding.index;
     let next = blocks::place(m, me) + 1;
     variables::schedule(m, block, index, moment, value);
-    blocks::put_word(m, block, 7, 1);
+    blocks::put_word(m, block, MAY_WAIT, 1);
     blocks::set_place(m, me, next);
     Stepped {
         answer: Answer::Goes,

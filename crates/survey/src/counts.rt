@@ -2,6 +2,11 @@
 // 16 names a routine; 4,096 pieces after the letters of instruction lines."
 ghost use mathlib.Core.Path.{_≡_};
 ghost use Rattle.survey.specs.Counting.{WithinLimits, countOpens, countInstruction, countLine};
+use listing::MOST_BYTES;
+use listing::MOST_INSTRUCTIONS;
+use listing::MOST_NAMES;
+use listing::MOST_PIECES;
+use listing::MOST_ROUTINES;
 use records::Record;
 
 pub struct Counts {
@@ -20,13 +25,13 @@ fn count_opens(held: Counts, arguments: u64, locals: u64) -> Counting
     requires { ⌜ WithinLimits held ⌝ }
     ensures { λ r. ⌜ r ≡ countOpens held arguments locals ⌝ }
 {
-    if 64 <= held.routines {
+    if MOST_ROUTINES <= held.routines {
         return Counting::Past;
     }
-    if 16 < arguments {
+    if MOST_NAMES < arguments {
         return Counting::Past;
     }
-    if 16 - arguments < locals {
+    if MOST_NAMES - arguments < locals {
         return Counting::Past;
     }
     Counting::Within(Counts {
@@ -40,10 +45,10 @@ fn count_instruction(held: Counts, pieces: u64) -> Counting
     requires { ⌜ WithinLimits held ⌝ }
     ensures { λ r. ⌜ r ≡ countInstruction held pieces ⌝ }
 {
-    if 512 <= held.instructions {
+    if MOST_INSTRUCTIONS <= held.instructions {
         return Counting::Past;
     }
-    if 4096 - held.pieces < pieces {
+    if MOST_PIECES - held.pieces < pieces {
         return Counting::Past;
     }
     Counting::Within(Counts {
@@ -57,7 +62,7 @@ pub fn count_line(held: Counts, r: Record, bytes: usize) -> Counting
     requires { ⌜ WithinLimits held ⌝ }
     ensures { λ a. ⌜ a ≡ countLine held r bytes ⌝ }
 {
-    if 49152 < bytes {
+    if MOST_BYTES < bytes {
         return Counting::Past;
     }
     match r {

@@ -1,7 +1,8 @@
 -- The words of a listing's table: where each part of the listing stands.
 -- A header of 8 words, 64 routine entries of 5 words, 512 instruction entries of 5 words, then cells of 2 words; the unused words are 0.
 use mathlib.Core.List.{List, [], _∷_, _++_}
-use Prim.Native.Nat.{ℕ, _+_, _*_, _-_}
+use mathlib.Core.Path.{_≡_}
+use Prim.Native.Nat.{ℕ, _+_, _*_, _-_, _≤_}
 use lib.ListN.{length, replicate}
 use Rattle.listing.specs.Listing.{Piece, literal, valueOf, writtenMark, plus, minus, times, less, Call, Instruction, assign, schedule, branch, jump, wait, fork, end, Kind, byReference, byValue, Routine, Listing}
 
@@ -21,6 +22,13 @@ cellEnd = 11080
 -- "Table 12,288 words of 32 bits"
 abbrev pub tableSize : ℕ
 tableSize = 12288
+
+-- a memory with room for a table, and one of just its words
+abbrev pub HasTable : List ℕ → Type 0
+HasTable t = tableSize ≤ length t
+
+abbrev pub TableLong : List ℕ → Type 0
+TableLong t = length t ≡ tableSize
 
 -- the words of each, in a row
 unfoldable pub wordsOfEach : {A : Type 0} → (A → List ℕ) → List A → List ℕ

@@ -9,14 +9,26 @@ ghost use lib.ListN.{length, take};
 ghost use lib.Dec.{eqb, leb};
 ghost use Rattle.listing.specs.Lists.{all};
 ghost use Rattle.listing.specs.Questions.{isByReference, opensAsStated, mayBeLast};
-ghost use Rattle.table.specs.Areas.{operands, kindBits};
+ghost use Rattle.table.specs.Areas.{operands, kindBits, TableLong};
 ghost use Rattle.table.specs.Decode.{word, instructionAtEntry, kindsOfBits, routineAtEntry, tableListing};
 ghost use Rattle.table.specs.Question6.{isTable};
 ghost use Rattle.table_check.specs.Check.{zerosAt, entryTest, openingTest, routinePast, operandCount, tailTest, passFrom};
+use table::ARGUMENTS;
+use table::ENTRIES;
+use table::ENTRY_WORDS;
+use table::FIRST_ENTRY;
+use table::FORK;
+use table::INPUTS;
+use table::JUMP;
+use table::KIND;
+use table::KIND_BITS;
+use table::LOCALS;
+use table::OUTPUTS;
+use table::ROUTINE_WORDS;
+use table::ROUTINES;
+use table::SIZE;
+use table::TABLE_WORDS;
 use table_code::code_past;
-
-// The words of a table.
-const TABLE_SIZE: usize = 12288;
 
 // ---- a routine's entry ----
 
@@ -55,10 +67,10 @@ fn entry_passes(t: &[u32], a: usize, first: usize) -> bool
     ensures { λ r. ⌜ r ≡ entryTest (now (t .entry)) a first ⌝ }
 {
     let arguments = t[a + 0];
-    let bits = t[a + 1];
-    let locals = t[a + 2] as usize;
-    let start = t[a + 3] as usize;
-    let size = t[a + 4] as usize;
+    let bits = t[a + KIND_BITS];
+    let locals = t[a + LOCALS] as usize;
+    let start = t[a + FIRST_ENTRY] as usize;
+    let size = t[a + SIZE] as usize;
     if (arguments as usize) + locals > 16 {
         return false;
     }
@@ -81,8 +93,8 @@ fn main_passes(t: &[u32]) -> bool
 {
     let arguments = t[8];
     let bits = t[9];
-    let inputs = t[0] as usize;
-    let outputs = t[1] as usize;
+    let inputs = t[INPUTS] as usize;
+    let outputs = t[OUTPUTS] as usize;
     if (arguments as usize) != inputs + outputs {
         return false;
     }
@@ -90,10 +102,10 @@ fn main_passes(t: &[u32]) -> bool
 }
 
 fn opening_passes(t: &[u32], number: usize, first: usize) -> bool
-    requires { ⌜ (length (now t) ≡ 12288) × (number < 64) × (first ≤ 512) ⌝ }
+    requires { ⌜ TableLong (now t) × (number < 64) × (first ≤ 512) ⌝ }
     ensures { λ r. ⌜ r ≡ openingTest (now (t .entry)) number first ⌝ }
 {
-    if !entry_passes(t, 8 + 5 * number, first) {
+    if !entry_passes(t, ROUTINES + ROUTINE_WORDS * number, first) {
         return false;
     }
     if number > 0 {
@@ -109,34 +121,34 @@ fn may_end(t: &[u32], e: usize) -> bool
     requires { ⌜ e + 5 ≤ length (now t) ⌝ }
     ensures { λ r. ⌜ r ≡ mayBeLast (instructionAtEntry (now (t .entry)) e) ⌝ }
 {
-    let kind = t[e + 0];
+    let kind = t[e + KIND];
     if kind == 0 {
         return true;
     }
-    if kind == 4 {
+    if kind == JUMP {
         return true;
     }
-    kind > 6
+    kind > FORK
 }
 
 // The address behind the cells of routine `number`, 0 if the answer is no.
 fn routine_past(t: &[u32], number: usize, first: usize, cells: usize) -> usize
-    requires { ⌜ (length (now t) ≡ 12288) × (number < 64) × (first ≤ 512) × (1 ≤ cells) × (cells ≤ 11080) × (word (now t) 2 ≤ 64) ⌝ }
+    requires { ⌜ TableLong (now t) × (number < 64) × (first ≤ 512) × (1 ≤ cells) × (cells ≤ 11080) × (word (now t) 2 ≤ 64) ⌝ }
     ensures { λ r. ⌜ r ≡ routinePast (now (t .entry)) number first cells ⌝ }
 {
     if !opening_passes(t, number, first) {
         return 0;
     }
-    let a = 8 + 5 * number;
-    let names = t[a + 0] + t[a + 2];
-    let size = t[a + 4];
+    let a = ROUTINES + ROUTINE_WORDS * number;
+    let names = t[a + ARGUMENTS] + t[a + LOCALS];
+    let size = t[a + SIZE];
     let n = size as usize;
-    let e = 328 + 5 * first;
+    let e = ENTRIES + ENTRY_WORDS * first;
     let next = code_past(t, names, size, e, cells, n);
     if next == 0 {
         return 0;
     }
-    if may_end(t, e + 5 * (n - 1)) {
+    if may_end(t, e + ENTRY_WORDS * (n - 1)) {
         return next;
     }
     0
@@ -165,11 +177,11 @@ fn operands_at(t: &[u32], e: usize) -> usize
     requires { ⌜ e + 5 ≤ length (now t) ⌝ }
     ensures { λ r. ⌜ r ≡ operands (instructionAtEntry (now (t .entry)) e) ⌝ }
 {
-    let kind = t[e + 0];
+    let kind = t[e + KIND];
     if kind == 0 {
         return 0;
     }
-    if kind <= 4 {
+    if kind <= JUMP {
         return 1;
     }
     0
@@ -193,7 +205,7 @@ fn operand_count(t: &[u32], n: usize) -> usize
 
 // Behind `n` routines, `first` instructions and their cells: words of 0, and at most 4,096 pieces.
 fn tail_passes(t: &[u32], n: usize, first: usize, cells: usize) -> bool
-    requires { ⌜ (length (now t) ≡ 12288) × (n ≤ 64) × (first ≤ 512) × (cells ≤ 11080) ⌝ }
+    requires { ⌜ TableLong (now t) × (n ≤ 64) × (first ≤ 512) × (cells ≤ 11080) ⌝ }
     ensures { λ r. ⌜ r ≡ tailTest (now (t .entry)) n first cells ⌝ }
 {
     if !zeros_pass(t, 3, 8) {
@@ -205,7 +217,7 @@ fn tail_passes(t: &[u32], n: usize, first: usize, cells: usize) -> bool
     if !zeros_pass(t, 328 + 5 * first, 2888) {
         return false;
     }
-    if !zeros_pass(t, cells, TABLE_SIZE) {
+    if !zeros_pass(t, cells, TABLE_WORDS) {
         return false;
     }
     cells + 2 * operand_count(t, first) <= 11080
@@ -214,7 +226,7 @@ fn tail_passes(t: &[u32], n: usize, first: usize, cells: usize) -> bool
 // ---- the whole ----
 
 fn routines_pass(t: &[u32], n: usize) -> bool
-    requires { ⌜ (length (now t) ≡ 12288) × (n ≤ 64) × (word (now t) 2 ≤ 64) ⌝ }
+    requires { ⌜ TableLong (now t) × (n ≤ 64) × (word (now t) 2 ≤ 64) ⌝ }
     ensures { λ r. ⌜ r ≡ passFrom (now (t .entry)) 0 0 2888 n ⌝ }
 {
     let mut number: usize = 0;
@@ -225,7 +237,7 @@ fn routines_pass(t: &[u32], n: usize) -> bool
         if next == 0 {
             return false;
         }
-        let a = 8 + 5 * number;
+        let a = ROUTINES + ROUTINE_WORDS * number;
         first += t[a + 4] as usize;
         cells = next;
         number += 1;
@@ -235,7 +247,7 @@ fn routines_pass(t: &[u32], n: usize) -> bool
 
 // Question 6 of 12,288 words.
 fn words_pass(t: &[u32]) -> bool
-    requires { ⌜ length (now t) ≡ 12288 ⌝ }
+    requires { ⌜ TableLong (now t) ⌝ }
     ensures { λ r. ⌜ r ≡ isTable (now (t .entry)) ⌝ }
 {
     let n = t[2] as usize;
@@ -252,9 +264,9 @@ fn words_pass(t: &[u32]) -> bool
 pub fn is_table(t: &[u32]) -> bool
     ensures { λ r. ⌜ r ≡ isTable (take 12288 (now (t .entry))) ⌝ }
 {
-    if t.len() < TABLE_SIZE {
+    if t.len() < TABLE_WORDS {
         return false;
     }
-    let size = TABLE_SIZE;
+    let size = TABLE_WORDS;
     words_pass(&t[0..size])
 }

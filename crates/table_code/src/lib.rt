@@ -4,14 +4,33 @@
 
 ghost use mathlib.Core.Path.{_≡_};
 ghost use mathlib.Core.Bool.{true, cond, _&&_};
-ghost use Prim.Native.Nat.{_+_, _*_, _<_, _≤_};
+ghost use Prim.Native.Nat.{_+_, _*_, _≤_};
 ghost use lib.ListN.{length};
 ghost use lib.Dec.{eqb, ltb, leb};
+ghost use Rattle.table.specs.Areas.{TableLong};
 ghost use Rattle.table.specs.Decode.{word};
 ghost use Rattle.table_code.specs.Pass.{pushed, joined, heldAfter, expressionTest, namesTest, headTest, cellsPast, callsPast, entryPast, codePast};
-
-// The end of the cells of 4,096 pieces.
-const CELL_END: usize = 11080;
+use table::ARGUMENTS;
+use table::ASSIGN;
+use table::BRANCH;
+use table::CELL_END;
+use table::CELL_WORDS;
+use table::CELLS_AT;
+use table::END;
+use table::FIRST_COUNT;
+use table::FORK;
+use table::JUMP;
+use table::KIND;
+use table::LESS;
+use table::LITERAL;
+use table::OPERAND;
+use table::ROUTINE_COUNT;
+use table::ROUTINE_WORDS;
+use table::ROUTINES;
+use table::SCHEDULE;
+use table::SECOND_COUNT;
+use table::WAIT;
+use table::WRITTEN_MARK;
 
 // ---- expressions: "It leaves one value and never holds more than 8" ----
 
@@ -42,16 +61,16 @@ fn held_after(t: &[u32], names: u32, held: u32, a: usize) -> u32
 {
     let kind = t[a];
     let value = t[a + 1];
-    if kind == 0 {
+    if kind == LITERAL {
         return push(held);
     }
-    if kind <= 2 {
+    if kind <= WRITTEN_MARK {
         if value < names {
             return push(held);
         }
         return 0;
     }
-    if kind <= 6 {
+    if kind <= LESS {
         if value == 0 {
             return join(held);
         }
@@ -72,7 +91,7 @@ fn expression_passes(t: &[u32], names: u32, a: usize, n: usize) -> bool
         if held == 0 {
             return false;
         }
-        at += 2;
+        at += CELL_WORDS;
         left -= 1;
     }
     held == 1
@@ -94,7 +113,7 @@ fn names_pass(t: &[u32], names: u32, a: usize, n: usize) -> bool
         if t[at + 1] >= names {
             return false;
         }
-        at += 2;
+        at += CELL_WORDS;
         left -= 1;
     }
     true
@@ -102,20 +121,20 @@ fn names_pass(t: &[u32], names: u32, a: usize, n: usize) -> bool
 
 // Does the child field's head at `a` name a routine that is there, with as many arguments as it takes?
 fn head_passes(t: &[u32], a: usize) -> bool
-    requires { ⌜ (length (now t) ≡ 12288) × (a + 2 ≤ 12288) × (word (now t) 2 ≤ 64) ⌝ }
+    requires { ⌜ TableLong (now t) × (a + 2 ≤ 12288) × (word (now t) 2 ≤ 64) ⌝ }
     ensures { λ r. ⌜ r ≡ headTest (now (t .entry)) a ⌝ }
 {
     let callee = t[a + 1];
-    if callee >= t[2] {
+    if callee >= t[ROUTINE_COUNT] {
         return false;
     }
-    let entry = 8 + 5 * (callee as usize);
-    t[a + 0] == t[entry + 0]
+    let entry = ROUTINES + ROUTINE_WORDS * (callee as usize);
+    t[a + 0] == t[entry + ARGUMENTS]
 }
 
 // Behind `n` child fields.
 fn calls_past(t: &[u32], names: u32, cells: usize, n: u32) -> usize
-    requires { ⌜ (length (now t) ≡ 12288) × (cells ≤ 11080) × (word (now t) 2 ≤ 64) ⌝ }
+    requires { ⌜ TableLong (now t) × (cells ≤ 11080) × (word (now t) 2 ≤ 64) ⌝ }
     ensures { λ r. ⌜ r ≡ callsPast (now (t .entry)) names cells n ⌝ }
 {
     let mut a = cells;
@@ -129,7 +148,7 @@ fn calls_past(t: &[u32], names: u32, cells: usize, n: u32) -> usize
         if stop > CELL_END {
             return 0;
         }
-        if !names_pass(t, names, a + 2, count) {
+        if !names_pass(t, names, a + CELL_WORDS, count) {
             return 0;
         }
         a = stop;
@@ -150,7 +169,7 @@ fn expression_past(
     first: u32,
     second: u32,
 ) -> usize
-    requires { ⌜ (length (now t) ≡ 12288) × (cells ≤ 11080) ⌝ }
+    requires { ⌜ TableLong (now t) × (cells ≤ 11080) ⌝ }
     ensures { λ r. ⌜ r ≡ cellsPast cells (ltb operand limit && eqb second 0) (2 * first) (expressionTest (now (t .entry)) names 0 cells first) ⌝ }
 {
     let n = first as usize;
@@ -179,7 +198,7 @@ fn schedule_past(
     first: u32,
     second: u32,
 ) -> usize
-    requires { ⌜ (length (now t) ≡ 12288) × (cells ≤ 11080) ⌝ }
+    requires { ⌜ TableLong (now t) × (cells ≤ 11080) ⌝ }
     ensures { λ r. ⌜ r ≡ cellsPast cells (ltb operand names) (2 * first + 2 * second) (expressionTest (now (t .entry)) names 0 cells first && expressionTest (now (t .entry)) names 0 (cells + 2 * first) second) ⌝ }
 {
     let n = first as usize;
@@ -236,7 +255,7 @@ fn counts_pass(operand: u32, first: u32, second: u32, most: u32) -> bool
 
 // `W`: 1 to 4 names.
 fn wait_past(t: &[u32], names: u32, operand: u32, cells: usize, first: u32, second: u32) -> usize
-    requires { ⌜ (length (now t) ≡ 12288) × (cells ≤ 11080) ⌝ }
+    requires { ⌜ TableLong (now t) × (cells ≤ 11080) ⌝ }
     ensures { λ r. ⌜ r ≡ cellsPast cells ((eqb operand 0 && eqb second 0) && (leb 1 first && leb first 4)) (2 * first) (namesTest (now (t .entry)) names cells first) ⌝ }
 {
     let n = first as usize;
@@ -255,7 +274,7 @@ fn wait_past(t: &[u32], names: u32, operand: u32, cells: usize, first: u32, seco
 
 // `F`: 1 to 8 children.
 fn fork_past(t: &[u32], names: u32, operand: u32, cells: usize, first: u32, second: u32) -> usize
-    requires { ⌜ (length (now t) ≡ 12288) × (cells ≤ 11080) × (word (now t) 2 ≤ 64) ⌝ }
+    requires { ⌜ TableLong (now t) × (cells ≤ 11080) × (word (now t) 2 ≤ 64) ⌝ }
     ensures { λ r. ⌜ r ≡ cond ((eqb operand 0 && eqb second 0) && (leb 1 first && leb first 8)) (callsPast (now (t .entry)) names cells first) 0 ⌝ }
 {
     if counts_pass(operand, first, second, 8) {
@@ -266,32 +285,32 @@ fn fork_past(t: &[u32], names: u32, operand: u32, cells: usize, first: u32, seco
 
 // The instruction whose entry stands at `e`.
 fn entry_past(t: &[u32], names: u32, size: u32, e: usize, cells: usize) -> usize
-    requires { ⌜ (length (now t) ≡ 12288) × (e + 5 ≤ 2888) × (cells ≤ 11080) × (word (now t) 2 ≤ 64) ⌝ }
+    requires { ⌜ TableLong (now t) × (e + 5 ≤ 2888) × (cells ≤ 11080) × (word (now t) 2 ≤ 64) ⌝ }
     ensures { λ r. ⌜ r ≡ entryPast (now (t .entry)) names size e cells ⌝ }
 {
-    let kind = t[e + 0];
-    let operand = t[e + 1];
-    let at = t[e + 2] as usize;
-    let first = t[e + 3];
-    let second = t[e + 4];
+    let kind = t[e + KIND];
+    let operand = t[e + OPERAND];
+    let at = t[e + CELLS_AT] as usize;
+    let first = t[e + FIRST_COUNT];
+    let second = t[e + SECOND_COUNT];
     if at != cells {
         return 0;
     }
     match kind {
-        1 => expression_past(t, names, names, operand, cells, first, second),
-        2 => schedule_past(t, names, operand, cells, first, second),
-        3 => expression_past(t, names, size, operand, cells, first, second),
-        4 => plain_past(size, operand, cells, first, second),
-        5 => wait_past(t, names, operand, cells, first, second),
-        6 => fork_past(t, names, operand, cells, first, second),
-        7 => plain_past(1, operand, cells, first, second),
+        ASSIGN => expression_past(t, names, names, operand, cells, first, second),
+        SCHEDULE => schedule_past(t, names, operand, cells, first, second),
+        BRANCH => expression_past(t, names, size, operand, cells, first, second),
+        JUMP => plain_past(size, operand, cells, first, second),
+        WAIT => wait_past(t, names, operand, cells, first, second),
+        FORK => fork_past(t, names, operand, cells, first, second),
+        END => plain_past(1, operand, cells, first, second),
         _ => 0,
     }
 }
 
 // The `n` instructions whose entries stand from `e` on, their cells from `cells` on.
 pub fn code_past(t: &[u32], names: u32, size: u32, e: usize, cells: usize, n: usize) -> usize
-    requires { ⌜ (length (now t) ≡ 12288) × (e + 5 * n ≤ 2888) × (1 ≤ cells) × (cells ≤ 11080) × (word (now t) 2 ≤ 64) ⌝ }
+    requires { ⌜ TableLong (now t) × (e + 5 * n ≤ 2888) × (1 ≤ cells) × (cells ≤ 11080) × (word (now t) 2 ≤ 64) ⌝ }
     ensures { λ r. ⌜ r ≡ codePast (now (t .entry)) names size e cells n ⌝ }
 {
     let mut i = e;

@@ -4,12 +4,25 @@
 ghost use mathlib.Core.Path.{_≡_};
 ghost use mathlib.Core.Bool.{true};
 ghost use Prim.Native.Nat.{_+_, _<_, _≤_};
-ghost use lib.ListN.{length};
-ghost use Rattle.table.specs.Areas.{cellEnd};
+ghost use Rattle.table.specs.Areas.{cellEnd, TableLong};
 ghost use Rattle.table.specs.Decode.{word, nameAt, afterCall, sizeOf};
 ghost use Rattle.table.specs.Question6.{isTable};
 ghost use Rattle.table.specs.Entry.{Fetched};
 ghost use Rattle.table_read.specs.Opened.{Opened, entryAt, openingAt};
+use table::ARGUMENTS;
+use table::CELLS_AT;
+use table::ENTRIES;
+use table::ENTRY_WORDS;
+use table::FIRST_COUNT;
+use table::FIRST_ENTRY;
+use table::KIND;
+use table::KIND_BITS;
+use table::LOCALS;
+use table::OPERAND;
+use table::ROUTINE_WORDS;
+use table::ROUTINES;
+use table::SECOND_COUNT;
+use table::SIZE;
 
 // An instruction's entry: its kind (1 `S`, 2 `A`, 3 `U`, 4 `G`, 5 `W`, 6 `F`, 7 `E`), the name or the jump, the word address of its cells, two counts.
 pub struct Entry {
@@ -26,14 +39,14 @@ pub fn fetch(t: &[u32], r: usize, place: usize) -> Entry
     ensures { λ e. ⌜ (e ≡ entryAt (now (t .entry)) r place)
         × Fetched (now (t .entry)) r place (e .kind) (e .operand) (e .cells) (e .first) (e .second) ⌝ }
 {
-    let a = 8 + 5 * r;
-    let start = t[a + 3] as usize;
-    let e = 328 + 5 * start + 5 * place;
-    let kind = t[e + 0];
-    let operand = t[e + 1] as usize;
-    let cells = t[e + 2] as usize;
-    let first = t[e + 3] as usize;
-    let second = t[e + 4] as usize;
+    let a = ROUTINES + ROUTINE_WORDS * r;
+    let start = t[a + FIRST_ENTRY] as usize;
+    let e = ENTRIES + ENTRY_WORDS * start + ENTRY_WORDS * place;
+    let kind = t[e + KIND];
+    let operand = t[e + OPERAND] as usize;
+    let cells = t[e + CELLS_AT] as usize;
+    let first = t[e + FIRST_COUNT] as usize;
+    let second = t[e + SECOND_COUNT] as usize;
     Entry {
         kind,
         operand,
@@ -55,11 +68,11 @@ pub fn opening_of(t: &[u32], r: usize) -> Opening
     requires { ⌜ (isTable (now t) ≡ true) × (r < word (now t) 2) ⌝ }
     ensures { λ o. ⌜ (o ≡ openingAt (now (t .entry)) r) × Opened (now (t .entry)) r (o .arguments) (o .bits) (o .locals) (o .size) ⌝ }
 {
-    let a = 8 + 5 * r;
-    let arguments = t[a + 0] as usize;
-    let bits = t[a + 1];
-    let locals = t[a + 2] as usize;
-    let size = t[a + 4] as usize;
+    let a = ROUTINES + ROUTINE_WORDS * r;
+    let arguments = t[a + ARGUMENTS] as usize;
+    let bits = t[a + KIND_BITS];
+    let locals = t[a + LOCALS] as usize;
+    let size = t[a + SIZE] as usize;
     Opening {
         arguments,
         bits,
@@ -75,7 +88,7 @@ pub struct Head {
 }
 
 pub fn head_at(t: &[u32], a: usize) -> Head
-    requires { ⌜ (length (now t) ≡ 12288) × (a + 2 ≤ 12288) ⌝ }
+    requires { ⌜ TableLong (now t) × (a + 2 ≤ 12288) ⌝ }
     ensures { λ h. ⌜ (h .arguments ≡ word (now (t .entry)) (a + 0)) × (h .callee ≡ word (now (t .entry)) (a + 1)) ⌝ }
 {
     let arguments = t[a + 0] as usize;
@@ -85,7 +98,7 @@ pub fn head_at(t: &[u32], a: usize) -> Head
 
 // The head behind the child field whose head stands at `a`.
 pub fn next_head(t: &[u32], a: usize) -> usize
-    requires { ⌜ (length (now t) ≡ 12288) × (a + 2 ≤ 12288) ⌝ }
+    requires { ⌜ TableLong (now t) × (a + 2 ≤ 12288) ⌝ }
     ensures { λ r. ⌜ r ≡ afterCall (now (t .entry)) a ⌝ }
 {
     let arguments = t[a + 0] as usize;
@@ -94,7 +107,7 @@ pub fn next_head(t: &[u32], a: usize) -> usize
 
 // The name in the cell at `a`.
 pub fn name_at(t: &[u32], a: usize) -> usize
-    requires { ⌜ (length (now t) ≡ 12288) × (a + 2 ≤ 12288) ⌝ }
+    requires { ⌜ TableLong (now t) × (a + 2 ≤ 12288) ⌝ }
     ensures { λ r. ⌜ r ≡ nameAt (now (t .entry)) a ⌝ }
 {
     t[a + 1] as usize

@@ -29,10 +29,10 @@ pub fn one_piece(s: &[u8], place: Place, stop: u8) -> OnePiece
     requires { ⌜ Within (now s) (place .offset) (place .line) ⌝ }
     ensures { λ r. ⌜ r ≡ pieceAnswer (now (s .entry)) place stop ⌝ }
 {
-    if stop == 9 {
+    if stop == b'\t' {
         let t = take_piece(s, place);
         let b = t.stop;
-        if b == 32 {
+        if b == b' ' {
             return OnePiece::Bad;
         }
         let from = t.from;

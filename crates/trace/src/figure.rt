@@ -32,7 +32,7 @@ pub fn moment_of(s: &[u8], from: usize, to: usize) -> Bounded
     if from == to {
         return Bounded::Bad;
     }
-    if s[from] == 48 {
+    if s[from] == b'0' {
         if from + 1 == to {
             return Bounded::Value(0);
         }
@@ -45,7 +45,7 @@ pub fn moment_of(s: &[u8], from: usize, to: usize) -> Bounded
         if !is_digit(b) {
             return Bounded::Bad;
         }
-        let Bounded::Value(more) = append_digit(n, wide(b - 48)) else {
+        let Bounded::Value(more) = append_digit(n, wide(b - b'0')) else {
             return Bounded::Bad;
         };
         n = more;
@@ -76,7 +76,7 @@ pub fn value_of(s: &[u8], from: usize, to: usize) -> Bounded
     if from == to {
         return Bounded::Bad;
     }
-    if s[from] == 45 {
+    if s[from] == b'-' {
         let Bounded::Value(n) = moment_of(s, from + 1, to) else {
             return Bounded::Bad;
         };

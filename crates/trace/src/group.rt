@@ -30,7 +30,7 @@ fn ended(length: usize, line: TraceLine) -> Next
     let TraceLine::Last(time, stop, next) = line else {
         return Next::Broken;
     };
-    if stop == 10 {
+    if stop == b'\n' {
         return Next::Last(time, next.offset == length);
     }
     Next::Broken
@@ -69,7 +69,7 @@ fn joining(trace: &[u8], at: usize, time: u64) -> Joins
     ) else {
         return Joins::No;
     };
-    if stop != 10 {
+    if stop != b'\n' {
         return Joins::No;
     }
     if t == time {
@@ -93,7 +93,7 @@ pub fn next_call(trace: &[u8], at: usize, numbers: &mut [u32], values: &mut [u32
     let TraceLine::Input(time, number, value, stop, after) = line else {
         return ended(trace.len(), line);
     };
-    if stop != 10 {
+    if stop != b'\n' {
         return Next::Broken;
     }
     let mut count = put_input(numbers, values, 0, number, value);

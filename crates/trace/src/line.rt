@@ -34,7 +34,7 @@ fn read_input(s: &[u8], place: Place, stop: u8) -> TraceLine
     let Figure::Read(value, b3, p3) = value_field(s, p2, b2) else {
         return TraceLine::Bad;
     };
-    if b3 == 9 {
+    if b3 == b'\t' {
         return TraceLine::Bad;
     }
     TraceLine::Input(time, number as u32, value as u32, b3, p3)
@@ -47,7 +47,7 @@ fn read_last(s: &[u8], place: Place, stop: u8) -> TraceLine
     let Figure::Read(time, b1, p1) = time_field(s, place, stop) else {
         return TraceLine::Bad;
     };
-    if b1 == 9 {
+    if b1 == b'\t' {
         return TraceLine::Bad;
     }
     TraceLine::Last(time, b1, p1)
@@ -58,7 +58,7 @@ pub fn read_trace_line(s: &[u8], place: Place) -> TraceLine
     requires { ⌜ Within (now s) (place .offset) (place .line) ⌝ }
     ensures { λ r. ⌜ r ≡ lineAnswer (now (s .entry)) place ⌝ }
 {
-    let OnePiece::Read(from, to, b, next) = one_piece(s, place, 9) else {
+    let OnePiece::Read(from, to, b, next) = one_piece(s, place, b'\t') else {
         return TraceLine::Bad;
     };
     if to - from != 1 {

@@ -6,14 +6,23 @@ use child_fields::pick::nobody;
 use child_fields::pick::pick;
 use child_fields::routines::line_at;
 use child_fields::routines::owned_by;
+use machine::BLOCK_WORDS;
+use machine::BLOCKS;
+use machine::CHILD;
+use machine::LEVEL;
+use machine::LIVE;
+use machine::ORDER;
+use machine::OWN;
+use machine::PLACE;
 use machine_words::number;
 ghost use mathlib.Core.Path.{_≡_};
 ghost use Prim.Native.Nat.{_+_, _<_, _≤_};
 ghost use lib.ListN.{length, getD};
+ghost use Rattle.table.specs.Areas.{TableLong};
 ghost use Rattle.walk.specs.Question7.{ownedBy};
 ghost use Rattle.table.specs.Decode.{tableListing};
 ghost use Rattle.machine.specs.Records.{levelFits};
-ghost use Rattle.machine.specs.Words.{blockAt, slotOf};
+ghost use Rattle.machine.specs.Words.{blockAt, slotOf, MachineLong};
 ghost use Rattle.tree_scan.specs.Scan.{Ready, Going, Caller, Made, Stepped, whole, recordOf};
 ghost use Rattle.tree_scan.specs.Scan.{makerFor, refusedPath, enteredPath, pushedPath, settledPath, steppedPath};
 
@@ -30,10 +39,10 @@ pub struct Path {
 
 // The address of the k-th routine's block.
 fn block_of(m: &[u32], k: usize) -> usize
-    requires { ⌜ (length (now m) ≡ 12288) × (k < 64) × (slotOf (now m) k < 64) ⌝ }
+    requires { ⌜ MachineLong (now m) × (k < 64) × (slotOf (now m) k < 64) ⌝ }
     ensures { λ r. ⌜ (r ≡ blockAt (slotOf (now (m .entry)) k)) × (r + 184 ≤ 12104) ⌝ }
 {
-    328 + number(m[64 + k]) * 184
+    BLOCKS + number(m[ORDER + k]) * BLOCK_WORDS
 }
 
 fn level_fits(forked: bool, level: usize, depth: usize) -> bool
@@ -48,17 +57,17 @@ fn level_fits(forked: bool, level: usize, depth: usize) -> bool
 
 // The child field that made the k-th record, if it is one that may still come.
 fn made_by(t: &[u32], m: &[u32], k: usize, p: Path) -> Maker
-    requires { ⌜ (length (now t) ≡ 12288) × (length (now m) ≡ 12288) × (k < getD (now m) 3 0) × Ready (now t) (now m) × Going (now t) (now m) k p ⌝ }
+    requires { ⌜ TableLong (now t) × MachineLong (now m) × (k < getD (now m) 3 0) × Ready (now t) (now m) × Going (now t) (now m) k p ⌝ }
     ensures { λ r. ⌜ (r ≡ makerFor (now (t .entry)) (now (m .entry)) k p) × Made (now (t .entry)) (now (m .entry)) k p r ⌝ }
 {
     let at = block_of(m, k);
-    let level = number(m[at + 1]);
+    let level = number(m[at + LEVEL]);
     let depth = p.depth;
     let forked = p.forked;
     if !level_fits(forked, level, depth) {
         return nobody();
     }
-    let child = number(m[at + 2]);
+    let child = number(m[at + CHILD]);
     let first = p.head[level];
     let left = p.left[level];
     let next = p.next[level];
@@ -104,13 +113,13 @@ fn pushed(p: Path, level: usize, cells: usize, count: usize) -> Path
 
 // A record of the right size: is its routine asleep?
 fn settle(t: &[u32], m: &[u32], k: usize, p: Path, made: Maker) -> Path
-    requires { ⌜ (length (now t) ≡ 12288) × (length (now m) ≡ 12288) × (k < getD (now m) 3 0) × Ready (now t) (now m) × Going (now t) (now m) k p × Caller (now t) (now m) k p (made .routine) (made .head) (made .left) × (length (recordOf (now m) k .own) ≡ ownedBy (tableListing (now t)) (made .routine)) ⌝ }
+    requires { ⌜ TableLong (now t) × MachineLong (now m) × (k < getD (now m) 3 0) × Ready (now t) (now m) × Going (now t) (now m) k p × Caller (now t) (now m) k p (made .routine) (made .head) (made .left) × (length (recordOf (now m) k .own) ≡ ownedBy (tableListing (now t)) (made .routine)) ⌝ }
     ensures { λ q. ⌜ (q ≡ settledPath (now (t .entry)) (now (m .entry)) k p made) × Stepped (now (t .entry)) (now (m .entry)) (k + 1) q ⌝ }
 {
     let at = block_of(m, k);
-    let level = number(m[at + 1]);
-    let child = number(m[at + 2]);
-    let place = number(m[at + 3]);
+    let level = number(m[at + LEVEL]);
+    let child = number(m[at + CHILD]);
+    let place = number(m[at + PLACE]);
     let q = entered(p, level, child, made.head, made.left);
     let line = line_at(t, made.routine, place);
     let kind = line.kind;
@@ -128,7 +137,7 @@ fn settle(t: &[u32], m: &[u32], k: usize, p: Path, made: Maker) -> Path
 
 // The path after the k-th record: is it a child that may come now, with its own variables, asleep?
 fn step(t: &[u32], m: &[u32], k: usize, p: Path) -> Path
-    requires { ⌜ (length (now t) ≡ 12288) × (length (now m) ≡ 12288) × (k < getD (now m) 3 0) × Ready (now t) (now m) × Going (now t) (now m) k p ⌝ }
+    requires { ⌜ TableLong (now t) × MachineLong (now m) × (k < getD (now m) 3 0) × Ready (now t) (now m) × Going (now t) (now m) k p ⌝ }
     ensures { λ q. ⌜ (q ≡ steppedPath (now (t .entry)) (now (m .entry)) k p) × Stepped (now (t .entry)) (now (m .entry)) (k + 1) q ⌝ }
 {
     let made = made_by(t, m, k, p);
@@ -138,7 +147,7 @@ fn step(t: &[u32], m: &[u32], k: usize, p: Path) -> Path
     let at = block_of(m, k);
     let routine = made.routine;
     let owned = owned_by(t, routine);
-    if number(m[at + 4]) != owned {
+    if number(m[at + OWN]) != owned {
         return refused(p);
     }
     settle(t, m, k, p, made)
@@ -146,10 +155,10 @@ fn step(t: &[u32], m: &[u32], k: usize, p: Path) -> Path
 
 // Is the list of the records in order that of a tree?
 pub fn tree_passes(t: &[u32], m: &[u32]) -> bool
-    requires { ⌜ (length (now t) ≡ 12288) × (length (now m) ≡ 12288) × Ready (now t) (now m) ⌝ }
+    requires { ⌜ TableLong (now t) × MachineLong (now m) × Ready (now t) (now m) ⌝ }
     ensures { λ b. ⌜ b ≡ whole (now (t .entry)) (now (m .entry)) ⌝ }
 {
-    let n = number(m[3]);
+    let n = number(m[LIVE]);
     // Main's frame: the words 3 and 4 of a table are 0, and read as a head that calls routine 0.
     let mut path = Path {
         good: true,

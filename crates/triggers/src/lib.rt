@@ -5,6 +5,7 @@ ghost use mathlib.Core.Bool.{true};
 ghost use mathlib.Core.List.{List};
 ghost use Prim.Native.Nat.{ℕ, suc, _+_, _*_, _≤_, _<_};
 ghost use lib.ListN.{length};
+ghost use Rattle.machine.specs.Words.{HasMachine, AtSlot};
 ghost use Rattle.listing.specs.Listing.{Listing};
 ghost use Rattle.table.specs.Decode.{word, namesAt, instructionEntry};
 ghost use Rattle.scheduler.specs.Rows.{Owner, ownerOf};
@@ -16,7 +17,19 @@ ghost use Rattle.ready.specs.Ordered.{Ordered};
 ghost use Rattle.triggers.specs.Chains.{triggersAt, NoTriggers, Chains, OnlyTriggers};
 ghost use Rattle.triggers.specs.Awaited.{awaitedNames, FewNames, Sleepers, NamesOf, listsWith};
 ghost use Rattle.triggers.specs.Wakes.{wakes, triggeredFrom, goesFirst};
+use machine::FIRST_TRIGGERS;
+use machine::NEXT_TRIGGERS;
+use machine::SLOTS;
 use ready::ReadyList;
+use table::CELL_WORDS;
+use table::CELLS_AT;
+use table::ENTRIES;
+use table::ENTRY_WORDS;
+use table::FIRST_COUNT;
+use table::FIRST_ENTRY;
+use table::KIND;
+use table::ROUTINE_WORDS;
+use table::ROUTINES;
 
 // The number of an instruction's kind in the table: `W`.
 const WAIT: usize = 5;
@@ -25,7 +38,7 @@ const WAIT: usize = 5;
 
 // Slot s put into the ready list, if it sleeps and its lowest priority is `from` or above.
 fn wake_one(m: &[u32], q: ReadyList, s: usize, from: u64) -> ReadyList
-    requires { ⌜ (12288 ≤ length (now m)) × (s < 64) × (Ordered (rowsOf (now m)) (slotsOf q)) ⌝ }
+    requires { ⌜ HasMachine (now m) × (s < 64) × (Ordered (rowsOf (now m)) (slotsOf q)) ⌝ }
     ensures { λ r. ⌜ slotsOf r ≡ insertIf (wakes (rowsOf (now (m .entry))) from s) (rowsOf (now (m .entry))) s (slotsOf q) ⌝ }
 {
     if !blocks::asleep(m, s) {
@@ -40,11 +53,11 @@ fn wake_one(m: &[u32], q: ReadyList, s: usize, from: u64) -> ReadyList
 
 // The ready list after a write to variable `index` of block s, which reaches the sleepers whose lowest priority is `from` or above.
 fn wake_from(m: &[u32], q: ReadyList, s: usize, index: usize, from: u64) -> ReadyList
-    requires { ⌜ (12288 ≤ length (now m)) × (s ≤ 64) × (index < 16) × (Ordered (rowsOf (now m)) (slotsOf q)) ⌝ }
+    requires { ⌜ HasMachine (now m) × (s ≤ 64) × (index < 16) × (Ordered (rowsOf (now m)) (slotsOf q)) ⌝ }
     ensures { λ r. ⌜ (slotsOf r ≡ insertAll (rowsOf (now (m .entry))) (triggeredFrom (rowsOf (now (m .entry))) from (triggersAt (now (m .entry)) s index)) (slotsOf q))
         × (Ordered (rowsOf (now (m .entry))) (slotsOf r)) ⌝ }
 {
-    let mut next = number(blocks::word_at(m, s, 144 + index));
+    let mut next = number(blocks::word_at(m, s, FIRST_TRIGGERS + index));
     if next > 256 {
         return q;
     }
@@ -53,7 +66,7 @@ fn wake_from(m: &[u32], q: ReadyList, s: usize, index: usize, from: u64) -> Read
         let n = next - 1;
         let slot = n / 4;
         woken = wake_one(m, woken, slot, from);
-        next = number(blocks::word_at(m, slot, 160 + n % 4));
+        next = number(blocks::word_at(m, slot, NEXT_TRIGGERS + n % 4));
         if next > n {
             return woken;
         }
@@ -63,7 +76,7 @@ fn wake_from(m: &[u32], q: ReadyList, s: usize, index: usize, from: u64) -> Read
 
 // A write by a routine whose lowest priority is `low`: it reaches those who come later.
 pub fn wake(m: &[u32], q: ReadyList, s: usize, index: usize, low: u32) -> ReadyList
-    requires { ⌜ (12288 ≤ length (now m)) × (s ≤ 64) × (index < 16) × (Ordered (rowsOf (now m)) (slotsOf q)) ⌝ }
+    requires { ⌜ HasMachine (now m) × (s ≤ 64) × (index < 16) × (Ordered (rowsOf (now m)) (slotsOf q)) ⌝ }
     ensures { λ r. ⌜ (slotsOf r ≡ insertAll (rowsOf (now (m .entry))) (triggered (rowsOf (now (m .entry))) low (triggersAt (now (m .entry)) s index)) (slotsOf q))
         × (Ordered (rowsOf (now (m .entry))) (slotsOf r)) ⌝ }
 {
@@ -72,7 +85,7 @@ pub fn wake(m: &[u32], q: ReadyList, s: usize, index: usize, low: u32) -> ReadyL
 
 // Whether trigger `next` is there, numbered up to `most`, and its slot sleeps and has its lowest priority below `low`.
 fn goes_first(m: &[u32], next: usize, most: usize, low: u64) -> bool
-    requires { ⌜ (12288 ≤ length (now m)) × (most ≤ 256) ⌝ }
+    requires { ⌜ HasMachine (now m) × (most ≤ 256) ⌝ }
     ensures { λ r. ⌜ r ≡ goesFirst (rowsOf (now (m .entry))) next most low ⌝ }
 {
     if next == 0 {
@@ -92,11 +105,11 @@ fn goes_first(m: &[u32], next: usize, most: usize, low: u64) -> bool
 // A due write or an input, before any routine runs: it reaches all who await the variable. As a rule each goes before all who
 // are ready: these are gathered, and put there in one go, since a push by value copies the whole list right behind its store. Else each is pushed.
 pub fn wake_all(m: &[u32], q: ReadyList, s: usize, index: usize) -> ReadyList
-    requires { ⌜ (12288 ≤ length (now m)) × (s ≤ 64) × (index < 16) × (Ordered (rowsOf (now m)) (slotsOf q)) ⌝ }
+    requires { ⌜ HasMachine (now m) × (s ≤ 64) × (index < 16) × (Ordered (rowsOf (now m)) (slotsOf q)) ⌝ }
     ensures { λ r. ⌜ (slotsOf r ≡ insertAll (rowsOf (now (m .entry))) (triggeredFrom (rowsOf (now (m .entry))) 0 (triggersAt (now (m .entry)) s index)) (slotsOf q))
         × (Ordered (rowsOf (now (m .entry))) (slotsOf r)) ⌝ }
 {
-    let mut next = number(blocks::word_at(m, s, 144 + index));
+    let mut next = number(blocks::word_at(m, s, FIRST_TRIGGERS + index));
     let mut most: usize = 256;
     let mut low = ready::first_low(m, q);
     let mut new = [0u8; 64];
@@ -107,7 +120,7 @@ pub fn wake_all(m: &[u32], q: ReadyList, s: usize, index: usize) -> ReadyList
         low = blocks::low(m, slot) as u64;
         new[count] = slot as u8;
         count += 1;
-        next = number(blocks::word_at(m, slot, 160 + most % 4));
+        next = number(blocks::word_at(m, slot, NEXT_TRIGGERS + most % 4));
     }
     if next > 0 {
         return wake_from(m, q, s, index, 0);
@@ -135,7 +148,7 @@ fn table_word(t: &[u32], address: usize) -> usize
 
 // Slot s put before the list of the variable that a name of its routine stands for: name j of its wait.
 fn list_name(m: &mut [u32], s: usize, j: usize, name: usize)
-    requires { ⌜ (12288 ≤ length (now m)) × (s < 64) × (j < 4) × (name < 16) × (name < length ((rowsOf (now m) s) .bindings)) ⌝ }
+    requires { ⌜ HasMachine (now m) × (s < 64) × (j < 4) × (name < 16) × (name < length ((rowsOf (now m) s) .bindings)) ⌝ }
     ensures { λ _. ⌜ (OnlyTriggers (now (m .entry)) (now (m .exit)))
         × ((lists : Owner → List ℕ) → Chains (now (m .entry)) (4 * s + j) lists
         → Chains (now (m .exit)) (suc (4 * s + j)) (λ o. consIf (sameOwner (ownerOf ((rowsOf (now (m .entry)) s) .bindings) name) o) s (lists o))) ⌝ }
@@ -143,22 +156,22 @@ fn list_name(m: &mut [u32], s: usize, j: usize, name: usize)
     let binding = variables::owner(m, s, name);
     let block = binding.block;
     let index = binding.index;
-    let first = blocks::word_at(m, block, 144 + index);
+    let first = blocks::word_at(m, block, FIRST_TRIGGERS + index);
     let number = 4 * s + j + 1;
-    blocks::put_word(m, s, 160 + j, first);
-    blocks::put_word(m, block, 144 + index, number as u32);
+    blocks::put_word(m, s, NEXT_TRIGGERS + j, first);
+    blocks::put_word(m, block, FIRST_TRIGGERS + index, number as u32);
 }
 
 // The same for the names of a wait, which stand in the table's cells.
 fn list_names(m: &mut [u32], t: &[u32], s: usize, cells: usize, count: usize)
-    requires { ⌜ (12288 ≤ length (now m)) × (s < 64) × (cells < 4294967296) × (FewNames (rowsOf (now m) s) (namesAt (now t) cells count)) ⌝ }
+    requires { ⌜ HasMachine (now m) × (s < 64) × (cells < 4294967296) × (FewNames (rowsOf (now m) s) (namesAt (now t) cells count)) ⌝ }
     ensures { λ _. ⌜ (OnlyTriggers (now (m .entry)) (now (m .exit)))
         × ((lists : Owner → List ℕ) → Chains (now (m .entry)) (4 * s) lists
         → Chains (now (m .exit)) (4 * s + count) (listsWith ((rowsOf (now (m .entry)) s) .bindings) s (namesAt (now (t .entry)) cells count) lists)) ⌝ }
 {
     let mut j: usize = 0;
     while j < count {
-        let name = table_word(t, cells + 2 * j + 1);
+        let name = table_word(t, cells + CELL_WORDS * j + 1);
         list_name(m, s, j, name);
         j += 1;
     }
@@ -166,18 +179,18 @@ fn list_names(m: &mut [u32], t: &[u32], s: usize, cells: usize, count: usize)
 
 // Where the instruction that slot s is at has its entry in the table.
 fn entry_of(m: &[u32], t: &[u32], s: usize) -> usize
-    requires { ⌜ (12288 ≤ length (now m)) × (s < 64) ⌝ }
+    requires { ⌜ AtSlot (now m) s ⌝ }
     ensures { λ r. ⌜ (r ≡ instructionEntry (now (t .entry)) ((rowsOf (now (m .entry)) s) .routine) ((rowsOf (now (m .entry)) s) .place)) × (r < 68719476736) ⌝ }
 {
     let routine = number(blocks::routine(m, s));
     let place = number(blocks::place(m, s));
-    let first = table_word(t, 8 + 5 * routine + 3);
-    328 + 5 * first + 5 * place
+    let first = table_word(t, ROUTINES + ROUTINE_WORDS * routine + FIRST_ENTRY);
+    ENTRIES + ENTRY_WORDS * first + ENTRY_WORDS * place
 }
 
 // Slot s in the lists of the variables that it awaits, if it sleeps.
 fn list_slot(m: &mut [u32], t: &[u32], s: usize)
-    requires { ⌜ (12288 ≤ length (now m)) × (s < 64)
+    requires { ⌜ HasMachine (now m) × (s < 64)
         × ((rowsOf (now m) s) .asleep ≡ true → FewNames (rowsOf (now m) s) (awaitedNames (now t) (rowsOf (now m) s))) ⌝ }
     ensures { λ _. ⌜ (OnlyTriggers (now (m .entry)) (now (m .exit)))
         × ((lists : Owner → List ℕ) → Chains (now (m .entry)) (4 * s) lists
@@ -188,23 +201,23 @@ fn list_slot(m: &mut [u32], t: &[u32], s: usize)
         return;
     }
     let entry = entry_of(m, t, s);
-    if table_word(t, entry + 0) != WAIT {
+    if table_word(t, entry + KIND) != WAIT {
         return;
     }
-    let cells = table_word(t, entry + 2);
-    let count = table_word(t, entry + 3);
+    let cells = table_word(t, entry + CELLS_AT);
+    let count = table_word(t, entry + FIRST_COUNT);
     list_names(m, t, s, cells, count);
 }
 
 // The lists of all sleepers, where there are none yet: those of the listing that the table stands for.
 pub fn list_sleepers(m: &mut [u32], t: &[u32])
-    requires { ⌜ (12288 ≤ length (now m)) × (NoTriggers (now m)) × (Sleepers (now t) (now m)) ⌝ }
+    requires { ⌜ HasMachine (now m) × (NoTriggers (now m)) × (Sleepers (now t) (now m)) ⌝ }
     ensures { λ _. ⌜ (OnlyTriggers (now (m .entry)) (now (m .exit)))
         × ((listing : Listing) → NamesOf listing (now (t .entry)) (now (m .entry)) → (s index : ℕ) → s ≤ 64 → index < 16
         → triggersAt (now (m .exit)) s index ≡ triggersOf listing (rowsOf (now (m .entry))) (ownerAt s index)) ⌝ }
 {
     let mut s: usize = 0;
-    while s < 64 {
+    while s < SLOTS {
         list_slot(m, t, s);
         s += 1;
     }

@@ -4,6 +4,7 @@ ghost use lib.ListN.{length};
 ghost use Rattle.listing.specs.Form.{readFork};
 ghost use Rattle.reader.specs.Texts.{Within};
 ghost use Rattle.writer.specs.Calls.{WritesCall};
+ghost use Rattle.writer.specs.Writable.{Writable};
 ghost use Rattle.openings.specs.Lines.{Good, restAt, WritesRest};
 use cells::cell::Cells;
 use cells::cell::write_cells;
@@ -12,6 +13,7 @@ use cells::put::put_entry;
 use openings::Holds;
 use openings::WrittenLine;
 use reader::Place;
+use table::FORK;
 
 // The cells of a child field: a head of its number of arguments and its routine, then the arguments' names.
 fn write_call(s: &[u8], t: &mut [u32], place: Place, a: usize) -> Cells
@@ -31,7 +33,7 @@ pub fn write_fork(
     e: usize,
     a: usize,
 ) -> WrittenLine
-    requires { ⌜ Within (now s) (place .offset) (place .line) × (length (now s) ≤ 49152) × (e ≤ 12288) × (a ≤ 12288) × Good (restAt readFork (now s) place stop) ⌝ }
+    requires { ⌜ Writable (now s) place e a (Good (restAt readFork (now s) place stop)) ⌝ }
     ensures { λ r. ⌜ WritesRest readFork (now (s .entry)) place stop e a (now (t .entry)) (now (t .exit)) r ⌝ }
 {
     let mut at = place.offset;
@@ -39,7 +41,7 @@ pub fn write_fork(
     let mut b = stop;
     let mut count: usize = 0;
     let mut cells: usize = 0;
-    while b == 9 {
+    while b == b'\t' {
         let call = write_call(
             s,
             t,
@@ -56,7 +58,7 @@ pub fn write_fork(
         at = next.offset;
         line = next.line;
     }
-    put_entry(t, e, 6, 0, a as u32, count as u32, 0);
+    put_entry(t, e, FORK, 0, a as u32, count as u32, 0);
     WrittenLine {
         holds: Holds::Instruction(2 * cells),
         next: Place {

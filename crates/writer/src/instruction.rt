@@ -1,8 +1,6 @@
 // The instructions but for the fork, each from the fields after its letter: its cells at a, its entry at e.
-ghost use Prim.Native.Nat.{_≤_};
-ghost use lib.ListN.{length};
 ghost use Rattle.listing.specs.Form.{readAssign, readSchedule, readBranch, readJump, readWait, readEnd};
-ghost use Rattle.reader.specs.Texts.{Within};
+ghost use Rattle.writer.specs.Writable.{Writable};
 ghost use Rattle.openings.specs.Lines.{Good, restAt, WritesRest};
 use cells::cell::write_cells;
 use cells::put::put_entry;
@@ -10,6 +8,12 @@ use cells::word::word_field;
 use openings::Holds;
 use openings::WrittenLine;
 use reader::Place;
+use table::ASSIGN;
+use table::BRANCH;
+use table::END;
+use table::JUMP;
+use table::SCHEDULE;
+use table::WAIT;
 
 // Document 01: "`S|n|e` writes expression e to name n."
 pub fn write_assign(
@@ -20,14 +24,14 @@ pub fn write_assign(
     e: usize,
     a: usize,
 ) -> WrittenLine
-    requires { ⌜ Within (now s) (place .offset) (place .line) × (length (now s) ≤ 49152) × (e ≤ 12288) × (a ≤ 12288) × Good (restAt readAssign (now s) place stop) ⌝ }
+    requires { ⌜ Writable (now s) place e a (Good (restAt readAssign (now s) place stop)) ⌝ }
     ensures { λ r. ⌜ WritesRest readAssign (now (s .entry)) place stop e a (now (t .entry)) (now (t .exit)) r ⌝ }
 {
     let name = word_field(s, place, stop);
     let value = name.next;
     let cells = write_cells(s, t, value, a, 1);
     let end = cells.next;
-    put_entry(t, e, 1, name.value, a as u32, cells.count as u32, 0);
+    put_entry(t, e, ASSIGN, name.value, a as u32, cells.count as u32, 0);
     WrittenLine {
         holds: Holds::Instruction(2 * cells.count),
         next: end,
@@ -43,7 +47,7 @@ pub fn write_schedule(
     e: usize,
     a: usize,
 ) -> WrittenLine
-    requires { ⌜ Within (now s) (place .offset) (place .line) × (length (now s) ≤ 49152) × (e ≤ 12288) × (a ≤ 12288) × Good (restAt readSchedule (now s) place stop) ⌝ }
+    requires { ⌜ Writable (now s) place e a (Good (restAt readSchedule (now s) place stop)) ⌝ }
     ensures { λ r. ⌜ WritesRest readSchedule (now (s .entry)) place stop e a (now (t .entry)) (now (t .exit)) r ⌝ }
 {
     let name = word_field(s, place, stop);
@@ -55,7 +59,7 @@ pub fn write_schedule(
     put_entry(
         t,
         e,
-        2,
+        SCHEDULE,
         name.value,
         a as u32,
         delay_cells.count as u32,
@@ -76,14 +80,14 @@ pub fn write_branch(
     e: usize,
     a: usize,
 ) -> WrittenLine
-    requires { ⌜ Within (now s) (place .offset) (place .line) × (length (now s) ≤ 49152) × (e ≤ 12288) × (a ≤ 12288) × Good (restAt readBranch (now s) place stop) ⌝ }
+    requires { ⌜ Writable (now s) place e a (Good (restAt readBranch (now s) place stop)) ⌝ }
     ensures { λ r. ⌜ WritesRest readBranch (now (s .entry)) place stop e a (now (t .entry)) (now (t .exit)) r ⌝ }
 {
     let cells = write_cells(s, t, place, a, 1);
     let target = cells.next;
     let jump = word_field(s, target, cells.stop);
     let end = jump.next;
-    put_entry(t, e, 3, jump.value, a as u32, cells.count as u32, 0);
+    put_entry(t, e, BRANCH, jump.value, a as u32, cells.count as u32, 0);
     WrittenLine {
         holds: Holds::Instruction(2 * cells.count),
         next: end,
@@ -99,12 +103,12 @@ pub fn write_jump(
     e: usize,
     a: usize,
 ) -> WrittenLine
-    requires { ⌜ Within (now s) (place .offset) (place .line) × (length (now s) ≤ 49152) × (e ≤ 12288) × (a ≤ 12288) × Good (restAt readJump (now s) place stop) ⌝ }
+    requires { ⌜ Writable (now s) place e a (Good (restAt readJump (now s) place stop)) ⌝ }
     ensures { λ r. ⌜ WritesRest readJump (now (s .entry)) place stop e a (now (t .entry)) (now (t .exit)) r ⌝ }
 {
     let jump = word_field(s, place, stop);
     let end = jump.next;
-    put_entry(t, e, 4, jump.value, a as u32, 0, 0);
+    put_entry(t, e, JUMP, jump.value, a as u32, 0, 0);
     WrittenLine {
         holds: Holds::Instruction(0),
         next: end,
@@ -120,12 +124,12 @@ pub fn write_wait(
     e: usize,
     a: usize,
 ) -> WrittenLine
-    requires { ⌜ Within (now s) (place .offset) (place .line) × (length (now s) ≤ 49152) × (e ≤ 12288) × (a ≤ 12288) × Good (restAt readWait (now s) place stop) ⌝ }
+    requires { ⌜ Writable (now s) place e a (Good (restAt readWait (now s) place stop)) ⌝ }
     ensures { λ r. ⌜ WritesRest readWait (now (s .entry)) place stop e a (now (t .entry)) (now (t .exit)) r ⌝ }
 {
     let cells = write_cells(s, t, place, a, 0);
     let end = cells.next;
-    put_entry(t, e, 5, 0, a as u32, cells.count as u32, 0);
+    put_entry(t, e, WAIT, 0, a as u32, cells.count as u32, 0);
     WrittenLine {
         holds: Holds::Instruction(2 * cells.count),
         next: end,
@@ -134,10 +138,10 @@ pub fn write_wait(
 
 // "`E` ends the routine."
 pub fn write_end(s: &[u8], t: &mut [u32], place: Place, stop: u8, e: usize, a: usize) -> WrittenLine
-    requires { ⌜ Within (now s) (place .offset) (place .line) × (length (now s) ≤ 49152) × (e ≤ 12288) × (a ≤ 12288) × Good (restAt readEnd (now s) place stop) ⌝ }
+    requires { ⌜ Writable (now s) place e a (Good (restAt readEnd (now s) place stop)) ⌝ }
     ensures { λ r. ⌜ WritesRest readEnd (now (s .entry)) place stop e a (now (t .entry)) (now (t .exit)) r ⌝ }
 {
-    put_entry(t, e, 7, 0, a as u32, 0, 0);
+    put_entry(t, e, END, 0, a as u32, 0, 0);
     WrittenLine {
         holds: Holds::Instruction(0),
         next: place,

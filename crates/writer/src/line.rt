@@ -1,8 +1,6 @@
 // A line of a listing that is in form: what it gives the table is written, and what it holds handed back.
-ghost use Prim.Native.Nat.{_≤_};
-ghost use lib.ListN.{length};
 ghost use Rattle.listing.specs.Form.{readByLetter};
-ghost use Rattle.reader.specs.Texts.{Within};
+ghost use Rattle.writer.specs.Writable.{Writable};
 ghost use Rattle.openings.specs.Lines.{Good, restAt, lineAt, WritesRest, WritesLine};
 use crate::fork::write_fork;
 use crate::instruction::write_assign;
@@ -27,25 +25,25 @@ fn write_rest(
     e: usize,
     a: usize,
 ) -> WrittenLine
-    requires { ⌜ Within (now s) (place .offset) (place .line) × (length (now s) ≤ 49152) × (e ≤ 12288) × (a ≤ 12288) × Good (restAt (readByLetter letter) (now s) place stop) ⌝ }
+    requires { ⌜ Writable (now s) place e a (Good (restAt (readByLetter letter) (now s) place stop)) ⌝ }
     ensures { λ r. ⌜ WritesRest (readByLetter letter) (now (s .entry)) place stop e a (now (t .entry)) (now (t .exit)) r ⌝ }
 {
     match letter {
-        80 => return hold_ports(s, place, stop),
-        82 => return hold_opens(s, place, stop),
-        83 => return write_assign(s, t, place, stop, e, a),
-        65 => return write_schedule(s, t, place, stop, e, a),
-        85 => return write_branch(s, t, place, stop, e, a),
-        71 => return write_jump(s, t, place, stop, e, a),
-        87 => return write_wait(s, t, place, stop, e, a),
-        70 => return write_fork(s, t, place, stop, e, a),
+        b'P' => return hold_ports(s, place, stop),
+        b'R' => return hold_opens(s, place, stop),
+        b'S' => return write_assign(s, t, place, stop, e, a),
+        b'A' => return write_schedule(s, t, place, stop, e, a),
+        b'U' => return write_branch(s, t, place, stop, e, a),
+        b'G' => return write_jump(s, t, place, stop, e, a),
+        b'W' => return write_wait(s, t, place, stop, e, a),
+        b'F' => return write_fork(s, t, place, stop, e, a),
         _ => return write_end(s, t, place, stop, e, a),
     }
 }
 
 // The line at a place: an instruction's entry at e, its cells from a on.
 pub fn write_line(s: &[u8], t: &mut [u32], place: Place, e: usize, a: usize) -> WrittenLine
-    requires { ⌜ Within (now s) (place .offset) (place .line) × (length (now s) ≤ 49152) × (e ≤ 12288) × (a ≤ 12288) × Good (lineAt (now s) place) ⌝ }
+    requires { ⌜ Writable (now s) place e a (Good (lineAt (now s) place)) ⌝ }
     ensures { λ r. ⌜ WritesLine (now (s .entry)) place e a (now (t .entry)) (now (t .exit)) r ⌝ }
 {
     let piece = take_piece(s, place);

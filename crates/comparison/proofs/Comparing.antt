@@ -19,8 +19,8 @@ use Rattle.machine.specs.Records.{stateFrom}
 use Rattle.machine.specs.Words.{momentAt, variableIn, variablesIn, stateOf}
 use Rattle.machine.specs.ReadMachine.{readMachine}
 use Rattle.layout.specs.Layout.{layout}
-use Rattle.questions.specs.Asked.{machineRefusal}
-use Rattle.questions.proofs.Refusals.{read-by-refusal}
+use Rattle.call_arguments.specs.Asked.{machineRefusal}
+use Rattle.call_arguments.proofs.Refusals.{read-by-refusal}
 use Rattle.comparison.specs.Compared.{pairRefusal}
 
 -- ── the values ────────────────────────────────────────────────────────────────────────────────────

@@ -11,10 +11,10 @@ ghost use Rattle.machine.specs.Words.{stateOf, variablesIn, HasMachine};
 ghost use Rattle.machine.specs.ReadMachine.{readMachine};
 ghost use Rattle.layout.specs.Layout.{layout};
 ghost use Rattle.comparison.specs.Compared.{pairRefusal, comparedOf};
+use call_arguments::environment_size;
 use machine::ENVIRONMENT_VARIABLES;
 use machine::MACHINE_WORDS;
 use machine::VARIABLE_WORDS;
-use questions::environment_size;
 use questions::machine_refusal;
 use table::TABLE_WORDS;
 

@@ -27,7 +27,7 @@ use Rattle.engine.proofs.Ways.{StateWay, not-after, due-before, not-ris
 use Rattle.engine.proofs.Ways as ways
 use Rattle.conclusion.specs.declared.answers.Answer.{Answer}
 use Rattle.conclusion.specs.declared.answers.Answer.the-variants as answers
-use Rattle.questions.specs.Asked.{longEnough, asked, InstantAsked, StartAsked}
+use Rattle.call_arguments.specs.Asked.{longEnough, asked, InstantAsked, StartAsked}
 use Rattle.conclusion.specs.Answers.{resultOf}
 use Rattle.conclusion.specs.Conclusions.{Leaves, leaves-stopped, leaves-state, Concludes}
 use Rattle.engine.specs.Works.{MayInstant}

@@ -37,7 +37,7 @@ use Rattle.beginning.proofs.Filled.{table-fits}
 use Rattle.conclusion.specs.declared.answers.Answer.{Answer}
 use Rattle.conclusion.specs.Conclusions.{Leaves, leaves-stopped, leaves-state, Concludes, MayConclude}
 use Rattle.engine.specs.Works.{MayInstant}
-use Rattle.questions.proofs.TableSize.{first-words32}
+use Rattle.call_arguments.proofs.TableSize.{first-words32}
 use Rattle.walk_laws.proofs.Literals.{inputs-are-words}
 use Rattle.engine.proofs.Literals.{literals-are-words}
 

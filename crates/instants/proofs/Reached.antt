@@ -25,9 +25,9 @@ use Rattle.variables.proofs.Readings.{variable-of}
 use Rattle.blocks.proofs.RowChanges.{row-past, with-row-same}
 use Rattle.ready.proofs.SameLows.{insert-all-same-lows, low-with-owner}
 use Rattle.triggers.specs.Chains.{triggersAt}
-use Rattle.triggers.specs.Wakes.{triggeredFrom}
+use Rattle.engine_wake.specs.Wakes.{triggeredFrom}
 use Rattle.triggers.proofs.Chaining.{lists-stay}
-use Rattle.triggers.proofs.Waking.{all-only, all-in}
+use Rattle.engine_wake.proofs.Waking.{all-only, all-in}
 use Rattle.instants.specs.Reaching.{ReadySoFar, Reaches, reachedIf}
 use Rattle.scheduler.proofs.Marking.{triggers-only, triggers-in, triggers-same, asleep-same, wakes-kept, wakes-marked, wakes-cases}
 

@@ -24,7 +24,7 @@ use Rattle.ready.specs.Ordered.{Ordered}
 use Rattle.ready.proofs.Distinct.{ordered-same-lows}
 use Rattle.ready.proofs.SameLows.{low-with-owner}
 use Rattle.triggers.specs.Chains.{triggersAt}
-use Rattle.triggers.specs.Wakes.{triggeredFrom}
+use Rattle.engine_wake.specs.Wakes.{triggeredFrom}
 use Rattle.instants.specs.Passes.{dueFirst, dueSlot, Mapped}
 use Rattle.instants.specs.Reaching.{Reaches, reachedIf, ReachesOne, Unwritten, NothingWritten}
 use Rattle.instants.proofs.DueBlocks.{first-words-stay, later-variable}

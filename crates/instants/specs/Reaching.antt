@@ -11,7 +11,7 @@ use Rattle.scheduler.specs.Tree.{In}
 use Rattle.blocks.specs.Blocks.{Block, block, variableIn, ownerAt, rowsOf, environmentOf}
 use Rattle.ready.specs.Ordered.{Ordered}
 use Rattle.triggers.specs.Chains.{triggersAt}
-use Rattle.triggers.specs.Wakes.{triggeredFrom}
+use Rattle.engine_wake.specs.Wakes.{triggeredFrom}
 
 -- Rule 2 of document 01, "A routine at `W` goes on if a name of that wait has been written in this instant before its turn": q is made by putting in, one
 -- after the other, just those who wait on what is written by now. The trigger lists are the listing's.

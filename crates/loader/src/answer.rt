@@ -4,8 +4,8 @@ ghost use Rattle.listing.specs.Load.{loading};
 ghost use Rattle.loader.specs.Outcome.{outcomeOf};
 use crate::opening::form_question;
 use survey::ending_place;
-use survey::limit_place;
 use survey::there_place;
+use text_limits::limit_place;
 
 // What loading gives: the table, or a refusal with the number of the question and the place.
 pub enum Loaded {

@@ -11,7 +11,7 @@ use Rattle.walk.specs.Calls.{ask, found, allowed, startOn, startLongEnough, ins
 use Rattle.table.specs.Question6.{isTable, readTable}
 use Rattle.table.specs.Decode.{tableListing}
 use Rattle.machine.proofs.Basics.{and-left, and-right}
-use Rattle.questions.specs.Asked.{longEnough, asked, MachineAsked, InstantAsked, StartAsked}
+use Rattle.call_arguments.specs.Asked.{longEnough, asked, MachineAsked, InstantAsked, StartAsked}
 
 -- What question 1 gives of the lengths.
 pub record Long (table machine numbers values : ℕ) : Type 0 where

@@ -1,4 +1,1 @@
-pub mod TableSize
-pub mod Refusals
-pub mod Asking
 pub mod Calling

@@ -1,37 +1,25 @@
 // The questions that the calls put before they run: 1 and 6 to 12. A number that answers is the one that refuses, 0 if none does.
 ghost use mathlib.Core.Bool.{true, not};
 ghost use mathlib.Core.Path.{_≡_};
-ghost use Prim.Native.Nat.{_≤_};
 ghost use lib.Dec.{ltb};
 ghost use lib.ListN.{length};
 ghost use Rattle.table.specs.Areas.{HasTable};
 ghost use Rattle.walk.specs.Calls.{Outcome, ask, dueBefore, allowed, firstWords};
-ghost use Rattle.walk.specs.Instant.{environmentSize};
 ghost use Rattle.table.specs.Question6.{isTable};
 ghost use Rattle.table.specs.Decode.{tableListing};
 ghost use Rattle.machine.specs.Words.{momentAt, HasMachine, MachineLong};
 ghost use Rattle.machine.specs.Due.{dueAt};
 ghost use Rattle.machine.specs.ReadMachine.{readMachine};
-ghost use Rattle.questions.specs.Asked.{machineRefusal, longEnough, numbersRise, asked, MachineAsked, InstantAsked, StartAsked};
+ghost use Rattle.call_arguments.specs.Asked.{machineRefusal, numbersRise, asked, MachineAsked, InstantAsked, StartAsked};
+use call_arguments::allowance_fits;
+use call_arguments::due_before;
+use call_arguments::long_enough;
+use call_arguments::numbers_rise;
 use machine::MACHINE_WORDS;
 use machine_words::number;
 use question7::MachineCheck;
 use table::INPUTS;
-use table::OUTPUTS;
-use table::TABLE_WORDS;
 use words::Moment;
-
-const OUTPUT_PLACES: usize = 16;
-
-// The number of environment variables of a table that has passed question 6.
-pub fn environment_size(table: &[u32]) -> usize
-    requires { ⌜ HasTable (now table) × (isTable (firstWords (now table)) ≡ true) ⌝ }
-    ensures { λ r. ⌜ (r ≡ environmentSize (tableListing (firstWords (now (table .entry))))) × (r ≤ 16) ⌝ }
-{
-    let inputs = number(table[INPUTS]);
-    let outputs = number(table[OUTPUTS]);
-    inputs + outputs
-}
 
 // 7 and 8 of a machine.
 pub fn machine_refusal(table: &[u32], machine: &[u32]) -> u32
@@ -45,62 +33,6 @@ pub fn machine_refusal(table: &[u32], machine: &[u32]) -> u32
         MachineCheck::Stopped(_) => 8,
         MachineCheck::Running(_) => 0,
     }
-}
-
-// 1 "Are the lent memories long enough?", of their lengths.
-fn long_enough(table: usize, machine: usize, numbers: usize, values: usize) -> bool
-    ensures { λ r. ⌜ r ≡ longEnough table machine numbers values ⌝ }
-{
-    if table < TABLE_WORDS {
-        return false;
-    }
-    if machine < MACHINE_WORDS {
-        return false;
-    }
-    if numbers < OUTPUT_PLACES {
-        return false;
-    }
-    values >= OUTPUT_PLACES
-}
-
-// 10 "Is nothing due before t?", t being the call's moment: whether something is, by the next moment due (0: none).
-fn due_before(soonest: u64, moment: Moment) -> bool
-    ensures { λ r. ⌜ r ≡ dueBefore (dueAt soonest) (moment .0) ⌝ }
-{
-    if soonest == 0 {
-        return false;
-    }
-    soonest < moment.0
-}
-
-// 11 "Are the input numbers below i and strictly rising?"
-fn numbers_rise(numbers: &[u32], inputs: usize) -> bool
-    ensures { λ r. ⌜ r ≡ numbersRise inputs 0 (now (numbers .entry)) ⌝ }
-{
-    let mut least: usize = 0;
-    let mut k: usize = 0;
-    while k < numbers.len() {
-        let n = number(numbers[k]);
-        if n < least {
-            return false;
-        }
-        if n >= inputs {
-            return false;
-        }
-        least = n + 1;
-        k += 1;
-    }
-    true
-}
-
-// 12 "Is the allowance 1 to 1,000,000?"
-fn allowance_fits(allowance: u32) -> bool
-    ensures { λ r. ⌜ r ≡ allowed allowance ⌝ }
-{
-    if allowance < 1 {
-        return false;
-    }
-    allowance <= 1000000
 }
 
 // 9 to 12, of the 12,288 words of a running machine and its next moment due (0: none).

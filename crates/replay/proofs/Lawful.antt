@@ -19,7 +19,7 @@ use Rattle.machine.proofs.MachineWords.{read-is-a-state}
 use Rattle.replay.specs.Standing.{Runs}
 use Rattle.printed_calls.specs.declared.calls.Clock.{Clock}
 use Rattle.engine.proofs.Literals.{literals-are-words}
-use Rattle.questions.proofs.TableSize.{first-words32}
+use Rattle.call_arguments.proofs.TableSize.{first-words32}
 
 -- of a listing
 pub record Lawful (l : Listing) : Type 0 where

@@ -36,7 +36,7 @@ pub fn assign_step(
     let index = binding.index;
     let low = blocks::low(m, me);
     let q = running.ready;
-    let ready = triggers::wake(m, q, block, index, low);
+    let ready = engine_wake::wake(m, q, block, index, low);
     let next = blocks::place(m, me) + 1;
     variables::assign(m, block, index, value);
     blocks::set_place(m, me, next);

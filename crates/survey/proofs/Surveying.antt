@@ -19,9 +19,9 @@ use Rattle.records.specs.declared.scope.Scope.{Scope}
 use Rattle.records.proofs.Lines.{NextLine, records-whole, records-end}
 use Rattle.records.specs.Onward.{Formed, recordsFrom}
 use Rattle.survey.specs.Surveys.{arity, SurveyFits, surveyOf, surveyOne, isInstruction}
-use Rattle.survey.specs.declared.counts.Counts.{Counts}
+use Rattle.text_limits.specs.declared.counts.Counts.{Counts}
 use Rattle.survey.specs.declared.routines.Survey.{Survey}
-use Rattle.survey.proofs.LimitPass.{Limiting, limiting-begun, limits-hold, none-held, also}
+use Rattle.text_limits.proofs.LimitPass.{Limiting, limiting-begun, limits-hold, none-held, also}
 use Rattle.survey.proofs.Body.{Body, body-empty, body-opens, body-of}
 
 -- ── the argument counts on lines ─────────────────────────────────────────────────

@@ -23,10 +23,10 @@ use Rattle.records.specs.declared.scope.Scope.{Scope}
 use Rattle.records.proofs.Lines.{NextLine, next-line, records-whole, records-end}
 use Rattle.records.specs.Onward.{recordsFrom}
 use Rattle.survey.specs.Surveys.{arity, surveyOf, statedIf, answersHere, movedHere}
-use Rattle.survey.specs.declared.counts.Counts.{Counts}
+use Rattle.text_limits.specs.declared.counts.Counts.{Counts}
 use Rattle.survey.specs.declared.there.Here.{Here}
 use Rattle.survey.specs.declared.routines.Survey.{Survey}
-use Rattle.survey.proofs.LimitPass.{Limiting, limiting-begun, limits-hold, none-held, also}
+use Rattle.text_limits.proofs.LimitPass.{Limiting, limiting-begun, limits-hold, none-held, also}
 use Rattle.survey.proofs.Body.{NoPorts, none-left, opens-more, instruction-more, Body, body-empty, body-opens, body-of}
 
 clash : {A : Type 0} → _≡_ {A = Bool} false true → A

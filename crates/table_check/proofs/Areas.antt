@@ -17,8 +17,8 @@ use Rattle.table.specs.Question6.{sameWords}
 use Rattle.table.proofs.Lengths.{pad-length, routine-five}
 use Rattle.table.proofs.Reach.{code-count, routine-total}
 use Rattle.table.proofs.Tests.{and-left, and-right}
-use Rattle.table_code.specs.Pass.{sameAt}
-use Rattle.table_code.proofs.Words.{same-split, same-number}
+use Rattle.table_check_cells.specs.Pass.{sameAt}
+use Rattle.table_check_cells.proofs.Words.{same-split, same-number}
 use Rattle.table_check.specs.Check.{zerosAt, operandCount}
 use Rattle.table_check.proofs.Opening.{five}
 

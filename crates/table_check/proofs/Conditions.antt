@@ -10,8 +10,8 @@ use Rattle.listing.specs.Listing.{Instruction, Routine, Listing, nameCount}
 use Rattle.listing.specs.Questions.{isThere, opensAsStated, routinesThere, lastAnswers, routinesEnd}
 use Rattle.listing.specs.WellFormed.{instructionHasForm}
 use Rattle.table.proofs.Tests.{and-no}
-use Rattle.table_code.specs.Pass.{instructionPasses}
-use Rattle.table_code.proofs.Words.{and-assoc}
+use Rattle.table_check_cells.specs.Pass.{instructionPasses}
+use Rattle.table_check_cells.proofs.Words.{and-assoc}
 use Rattle.table_check.specs.Check.{routinePasses, routinesPass}
 
 -- ── tests of lists ───────────────────────────────────────────────────────────────

@@ -14,8 +14,8 @@ use Rattle.table.specs.Areas.{operands, kindBits, routineWords}
 use Rattle.table.specs.Decode.{word, instructionOf, instructionAtEntry, codeAtEntry, kindsOfBits, routineEntry, routineAtEntry, tableListing}
 use Rattle.table.proofs.Reach.{code-count, kinds-count}
 use Rattle.table.proofs.Tests.{and-left, and-right, and-no, and-yes, same-answer}
-use Rattle.table_code.specs.Pass.{sameAt}
-use Rattle.table_code.proofs.Words.{same-number}
+use Rattle.table_check_cells.specs.Pass.{sameAt}
+use Rattle.table_check_cells.proofs.Words.{same-number}
 use Rattle.table_check.specs.Check.{entryTest, openingTest}
 
 -- ── kinds as bits ────────────────────────────────────────────────────────────────

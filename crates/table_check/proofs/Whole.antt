@@ -20,7 +20,7 @@ use Rattle.table.proofs.Pieces.{pieces-in-cells, pieces-in-all}
 use Rattle.table.proofs.Reach.{routine-total}
 use Rattle.table.proofs.Tests.{and-left, and-right, same-answer}
 use Rattle.table.proofs.Table.{Meets, table-meets, instructions-total, table-is-laid-out}
-use Rattle.table_code.specs.Pass.{sameAt}
+use Rattle.table_check_cells.specs.Pass.{sameAt}
 use Rattle.table_check.specs.Check.{zerosAt, operandCount, tailTest, routinesPass, routinesTest, tableTest}
 use Rattle.table_check.proofs.Conditions.{routines-pass}
 use Rattle.table_check.proofs.RoutinePass.{pass-from}

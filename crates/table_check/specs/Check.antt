@@ -11,7 +11,7 @@ use Rattle.listing.specs.Limits.{instructionLimit, nameLimit}
 use Rattle.listing.specs.Questions.{opensAsStated, lastAnswers}
 use Rattle.table.specs.Areas.{cellEnd, entryArea, operands, kindBits, routineWords, allRoutines, allCode, allCells, allEntries}
 use Rattle.table.specs.Decode.{word, instructionAtEntry, kindsOfBits, routineEntry, routineAtEntry, tableListing}
-use Rattle.table_code.specs.Pass.{sameAt, instructionPasses}
+use Rattle.table_check_cells.specs.Pass.{sameAt, instructionPasses}
 
 -- n words from a on are 0
 unfoldable pub zerosAt : List ℕ → ℕ → ℕ → Bool

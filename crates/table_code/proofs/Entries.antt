@@ -18,9 +18,9 @@ use Rattle.table.specs.Decode.{word, pieceOf, pieceAt, nameAt, cellsAt, piecesA
 use Rattle.table.proofs.Lengths.{piece-two, name-two, each-two}
 use Rattle.table.proofs.Reach.{cells-count, calls-count}
 use Rattle.table.proofs.Tests.{and-no, and-yes, same-answer}
-use Rattle.table_code.specs.Pass.{Words, sameAt, routinesIn, expressionTest, namesTest, cellsPast, callsPast, instructionPasses, instructionTest, entryPast}
-use Rattle.table_code.proofs.Words.{same-split, same-number}
-use Rattle.table_code.proofs.Cells.{cond-cond}
+use Rattle.table_check_cells.specs.Pass.{Words, sameAt, routinesIn, expressionTest, namesTest, cellsPast, callsPast, instructionPasses, instructionTest, entryPast}
+use Rattle.table_check_cells.proofs.Words.{same-split, same-number}
+use Rattle.table_check_cells.proofs.Cells.{cond-cond}
 
 -- ── a literal is a word ──────────────────────────────────────────────────────────
 piece-has-form : (w : List ℕ) → Words w → (a : ℕ) → pieceHasForm (pieceAt w a) ≡ true

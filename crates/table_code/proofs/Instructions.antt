@@ -13,8 +13,8 @@ use Rattle.table.specs.Areas.{wordsOfEach, cellWords, entryWords, allCells, all
 use Rattle.table.specs.Decode.{instructionAtEntry, codeAtEntry}
 use Rattle.table.proofs.Lengths.{entry-five}
 use Rattle.table.proofs.Tests.{and-left, and-right, and-no}
-use Rattle.table_code.specs.Pass.{sameAt, routinesIn, cellsPast, instructionPasses, instructionTest, entryPast, onward, codePast, codeTest}
-use Rattle.table_code.proofs.Words.{same-split, leb-before}
+use Rattle.table_check_cells.specs.Pass.{sameAt, routinesIn, cellsPast, instructionPasses, instructionTest, entryPast, onward, codePast, codeTest}
+use Rattle.table_check_cells.proofs.Words.{same-split, leb-before}
 
 -- ── the four ends of a check of cells ────────────────────────────────────────────
 pub cells-yes : (at n : ℕ) → at + n ≤ 11080 → cellsPast at true n true ≡ at + n

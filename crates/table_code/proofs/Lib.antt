@@ -1,5 +1,2 @@
-pub mod Words
-pub mod Expressions
-pub mod Cells
 pub mod Entries
 pub mod Instructions

@@ -1,163 +1,29 @@
 // Question 6 of a routine's instructions: one pass over their entries, with a running address of the cells.
 // `t` is a table's 12,288 words, `names` and `size` are the numbers of the routine's names and instructions.
 // A function named `.._past` gives the address behind the cells that it looks at, or 0 if the answer is no.
-
 ghost use mathlib.Core.Path.{_≡_};
 ghost use mathlib.Core.Bool.{true, cond, _&&_};
 ghost use Prim.Native.Nat.{_+_, _*_, _≤_};
-ghost use lib.ListN.{length};
 ghost use lib.Dec.{eqb, ltb, leb};
 ghost use Rattle.table.specs.Areas.{TableLong};
 ghost use Rattle.table.specs.Decode.{word};
-ghost use Rattle.table_code.specs.Pass.{pushed, joined, heldAfter, expressionTest, namesTest, headTest, cellsPast, callsPast, entryPast, codePast};
-use table::ARGUMENTS;
+ghost use Rattle.table_check_cells.specs.Pass.{expressionTest, namesTest, cellsPast, callsPast, entryPast, codePast};
 use table::ASSIGN;
 use table::BRANCH;
 use table::CELL_END;
-use table::CELL_WORDS;
 use table::CELLS_AT;
 use table::END;
 use table::FIRST_COUNT;
 use table::FORK;
 use table::JUMP;
 use table::KIND;
-use table::LESS;
-use table::LITERAL;
 use table::OPERAND;
-use table::ROUTINE_COUNT;
-use table::ROUTINE_WORDS;
-use table::ROUTINES;
 use table::SCHEDULE;
 use table::SECOND_COUNT;
 use table::WAIT;
-use table::WRITTEN_MARK;
-
-// ---- expressions: "It leaves one value and never holds more than 8" ----
-
-// The number of values held once one is pushed, 0 for a no.
-fn push(held: u32) -> u32
-    ensures { λ r. ⌜ r ≡ pushed held ⌝ }
-{
-    if held < 8 {
-        return held + 1;
-    }
-    0
-}
-
-// The number of values held once a sign made one of two, 0 for a no.
-fn join(held: u32) -> u32
-    ensures { λ r. ⌜ r ≡ joined held ⌝ }
-{
-    if held >= 2 {
-        return held - 1;
-    }
-    0
-}
-
-// The number of values held after the piece at `a`, 0 for a no.
-fn held_after(t: &[u32], names: u32, held: u32, a: usize) -> u32
-    requires { ⌜ a + 2 ≤ length (now t) ⌝ }
-    ensures { λ r. ⌜ r ≡ heldAfter (now (t .entry)) names held a ⌝ }
-{
-    let kind = t[a];
-    let value = t[a + 1];
-    if kind == LITERAL {
-        return push(held);
-    }
-    if kind <= WRITTEN_MARK {
-        if value < names {
-            return push(held);
-        }
-        return 0;
-    }
-    if kind <= LESS {
-        if value == 0 {
-            return join(held);
-        }
-    }
-    0
-}
-
-// Do the `n` pieces from `a` on make an expression?
-fn expression_passes(t: &[u32], names: u32, a: usize, n: usize) -> bool
-    requires { ⌜ a + 2 * n ≤ length (now t) ⌝ }
-    ensures { λ r. ⌜ r ≡ expressionTest (now (t .entry)) names 0 a n ⌝ }
-{
-    let mut held: u32 = 0;
-    let mut at = a;
-    let mut left = n;
-    while left > 0 {
-        held = held_after(t, names, held, at);
-        if held == 0 {
-            return false;
-        }
-        at += CELL_WORDS;
-        left -= 1;
-    }
-    held == 1
-}
-
-// ---- names and child fields ----
-
-// Are the `n` cells from `a` on names of the routine?
-fn names_pass(t: &[u32], names: u32, a: usize, n: usize) -> bool
-    requires { ⌜ a + 2 * n ≤ length (now t) ⌝ }
-    ensures { λ r. ⌜ r ≡ namesTest (now (t .entry)) names a n ⌝ }
-{
-    let mut at = a;
-    let mut left = n;
-    while left > 0 {
-        if t[at] != 0 {
-            return false;
-        }
-        if t[at + 1] >= names {
-            return false;
-        }
-        at += CELL_WORDS;
-        left -= 1;
-    }
-    true
-}
-
-// Does the child field's head at `a` name a routine that is there, with as many arguments as it takes?
-fn head_passes(t: &[u32], a: usize) -> bool
-    requires { ⌜ TableLong (now t) × (a + 2 ≤ 12288) × (word (now t) 2 ≤ 64) ⌝ }
-    ensures { λ r. ⌜ r ≡ headTest (now (t .entry)) a ⌝ }
-{
-    let callee = t[a + 1];
-    if callee >= t[ROUTINE_COUNT] {
-        return false;
-    }
-    let entry = ROUTINES + ROUTINE_WORDS * (callee as usize);
-    t[a + 0] == t[entry + ARGUMENTS]
-}
-
-// Behind `n` child fields.
-fn calls_past(t: &[u32], names: u32, cells: usize, n: u32) -> usize
-    requires { ⌜ TableLong (now t) × (cells ≤ 11080) × (word (now t) 2 ≤ 64) ⌝ }
-    ensures { λ r. ⌜ r ≡ callsPast (now (t .entry)) names cells n ⌝ }
-{
-    let mut a = cells;
-    let mut left = n;
-    while left > 0 {
-        let count = t[a + 0] as usize;
-        let stop = a + (2 + 2 * count);
-        if !head_passes(t, a) {
-            return 0;
-        }
-        if stop > CELL_END {
-            return 0;
-        }
-        if !names_pass(t, names, a + CELL_WORDS, count) {
-            return 0;
-        }
-        a = stop;
-        left -= 1;
-    }
-    a
-}
-
-// ---- an instruction, by the words of its entry: operand, address of its cells, two counts ----
+use table_check_cells::calls_past;
+use table_check_cells::expression_passes;
+use table_check_cells::names_pass;
 
 // `S` and `U`: an operand below `limit`, and one expression.
 fn expression_past(

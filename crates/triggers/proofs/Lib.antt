@@ -1,6 +1,4 @@
 pub mod Owners
 pub mod Chaining
-pub mod Waking
-pub mod Putting
 pub mod Listing
 pub mod Slots

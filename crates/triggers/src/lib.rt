@@ -1,5 +1,5 @@
 // The trigger lists of an instant, as linked lists in the machine's words: for each variable, the slots of those who await
-// it. They are made once, at the instant's beginning; a write passes along one. `m` is the machine's memory, `t` the table.
+// it. They are made once, at the instant's beginning; a write passes along one (crate `engine_wake`). `m` is the machine's memory, `t` the table.
 ghost use mathlib.Core.Path.{_≡_};
 ghost use mathlib.Core.Bool.{true};
 ghost use mathlib.Core.List.{List};
@@ -9,18 +9,13 @@ ghost use Rattle.machine.specs.Words.{HasMachine, AtSlot};
 ghost use Rattle.listing.specs.Listing.{Listing};
 ghost use Rattle.table.specs.Decode.{word, namesAt, instructionEntry};
 ghost use Rattle.scheduler.specs.Rows.{Owner, ownerOf};
-ghost use Rattle.scheduler.specs.Ready.{insertAll, insertIf};
-ghost use Rattle.scheduler.specs.Triggers.{sameOwner, consIf, listIf, triggered, triggersOf};
+ghost use Rattle.scheduler.specs.Triggers.{sameOwner, consIf, listIf, triggersOf};
 ghost use Rattle.blocks.specs.Blocks.{ownerAt, rowsOf};
-ghost use Rattle.ready.specs.Slots.{slotsOf};
-ghost use Rattle.ready.specs.Ordered.{Ordered};
 ghost use Rattle.triggers.specs.Chains.{triggersAt, NoTriggers, Chains, OnlyTriggers};
 ghost use Rattle.triggers.specs.Awaited.{awaitedNames, FewNames, Sleepers, NamesOf, listsWith};
-ghost use Rattle.triggers.specs.Wakes.{wakes, triggeredFrom, goesFirst};
 use machine::FIRST_TRIGGERS;
 use machine::NEXT_TRIGGERS;
 use machine::SLOTS;
-use ready::ReadyList;
 use table::CELL_WORDS;
 use table::CELLS_AT;
 use table::ENTRIES;
@@ -34,103 +29,7 @@ use table::ROUTINES;
 // The number of an instruction's kind in the table: `W`.
 const WAIT: usize = 5;
 
-// ---- at a write ----
-
-// Slot s put into the ready list, if it sleeps and its lowest priority is `from` or above.
-fn wake_one(m: &[u32], q: ReadyList, s: usize, from: u64) -> ReadyList
-    requires { ⌜ HasMachine (now m) × (s < 64) × (Ordered (rowsOf (now m)) (slotsOf q)) ⌝ }
-    ensures { λ r. ⌜ slotsOf r ≡ insertIf (wakes (rowsOf (now (m .entry))) from s) (rowsOf (now (m .entry))) s (slotsOf q) ⌝ }
-{
-    if !blocks::asleep(m, s) {
-        return q;
-    }
-    let low = blocks::low(m, s) as u64;
-    if low < from {
-        return q;
-    }
-    ready::push(m, q, s)
-}
-
-// The ready list after a write to variable `index` of block s, which reaches the sleepers whose lowest priority is `from` or above.
-fn wake_from(m: &[u32], q: ReadyList, s: usize, index: usize, from: u64) -> ReadyList
-    requires { ⌜ HasMachine (now m) × (s ≤ 64) × (index < 16) × (Ordered (rowsOf (now m)) (slotsOf q)) ⌝ }
-    ensures { λ r. ⌜ (slotsOf r ≡ insertAll (rowsOf (now (m .entry))) (triggeredFrom (rowsOf (now (m .entry))) from (triggersAt (now (m .entry)) s index)) (slotsOf q))
-        × (Ordered (rowsOf (now (m .entry))) (slotsOf r)) ⌝ }
-{
-    let mut next = number(blocks::word_at(m, s, FIRST_TRIGGERS + index));
-    if next > 256 {
-        return q;
-    }
-    let mut woken = q;
-    while next > 0 {
-        let n = next - 1;
-        let slot = n / 4;
-        woken = wake_one(m, woken, slot, from);
-        next = number(blocks::word_at(m, slot, NEXT_TRIGGERS + n % 4));
-        if next > n {
-            return woken;
-        }
-    }
-    woken
-}
-
-// A write by a routine whose lowest priority is `low`: it reaches those who come later.
-pub fn wake(m: &[u32], q: ReadyList, s: usize, index: usize, low: u32) -> ReadyList
-    requires { ⌜ HasMachine (now m) × (s ≤ 64) × (index < 16) × (Ordered (rowsOf (now m)) (slotsOf q)) ⌝ }
-    ensures { λ r. ⌜ (slotsOf r ≡ insertAll (rowsOf (now (m .entry))) (triggered (rowsOf (now (m .entry))) low (triggersAt (now (m .entry)) s index)) (slotsOf q))
-        × (Ordered (rowsOf (now (m .entry))) (slotsOf r)) ⌝ }
-{
-    wake_from(m, q, s, index, low as u64 + 1)
-}
-
-// Whether trigger `next` is there, numbered up to `most`, and its slot sleeps and has its lowest priority below `low`.
-fn goes_first(m: &[u32], next: usize, most: usize, low: u64) -> bool
-    requires { ⌜ HasMachine (now m) × (most ≤ 256) ⌝ }
-    ensures { λ r. ⌜ r ≡ goesFirst (rowsOf (now (m .entry))) next most low ⌝ }
-{
-    if next == 0 {
-        return false;
-    }
-    if next > most {
-        return false;
-    }
-    let slot = (next - 1) / 4;
-    if !blocks::asleep(m, slot) {
-        return false;
-    }
-    let own = blocks::low(m, slot) as u64;
-    own < low
-}
-
-// A due write or an input, before any routine runs: it reaches all who await the variable. As a rule each goes before all who
-// are ready: these are gathered, and put there in one go, since a push by value copies the whole list right behind its store. Else each is pushed.
-pub fn wake_all(m: &[u32], q: ReadyList, s: usize, index: usize) -> ReadyList
-    requires { ⌜ HasMachine (now m) × (s ≤ 64) × (index < 16) × (Ordered (rowsOf (now m)) (slotsOf q)) ⌝ }
-    ensures { λ r. ⌜ (slotsOf r ≡ insertAll (rowsOf (now (m .entry))) (triggeredFrom (rowsOf (now (m .entry))) 0 (triggersAt (now (m .entry)) s index)) (slotsOf q))
-        × (Ordered (rowsOf (now (m .entry))) (slotsOf r)) ⌝ }
-{
-    let mut next = number(blocks::word_at(m, s, FIRST_TRIGGERS + index));
-    let mut most: usize = 256;
-    let mut low = ready::first_low(m, q);
-    let mut new = [0u8; 64];
-    let mut count: usize = 0;
-    while goes_first(m, next, most, low) {
-        most = next - 1;
-        let slot = most / 4;
-        low = blocks::low(m, slot) as u64;
-        new[count] = slot as u8;
-        count += 1;
-        next = number(blocks::word_at(m, slot, NEXT_TRIGGERS + most % 4));
-    }
-    if next > 0 {
-        return wake_from(m, q, s, index, 0);
-    }
-    ready::put_first(q, &new, count)
-}
-
-// ---- at the beginning of an instant ----
-
-fn number(x: u32) -> usize
+pub fn number(x: u32) -> usize
     ensures { λ r. ⌜ (r ≡ x) × (r < 4294967296) ⌝ }
 {
     x as usize

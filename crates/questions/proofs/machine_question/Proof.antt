@@ -3,8 +3,8 @@ use native.Mathlib.Omega.{arith}
 use mathlib.Core.Path.{sym, ap, _∙_}
 use lib.ListN.{take, length-take}
 use Rattle.question7.specs.Answer.{checkOf}
-use Rattle.questions.proofs.Refusals.{refusal-none, refusal-stopped}
-use Rattle.questions.proofs.Asking.{machine-refused, machine-passed-with}
+use Rattle.call_arguments.proofs.Refusals.{refusal-none, refusal-stopped}
+use Rattle.call_arguments.proofs.Asking.{machine-refused, machine-passed-with}
 use borrow.Author.Needs.{needs}
 use Rattle.questions.proofs.machine_question.Statement.{statement}
 use Rattle.questions.proofs.machine_question.Tie as tie

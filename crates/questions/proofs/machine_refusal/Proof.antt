@@ -1,7 +1,7 @@
 -- `questions::machine_refusal` meets its contract.
 use mathlib.Core.Path.{sym, ap, _∙_}
 use Rattle.question7.specs.Answer.{checkOf}
-use Rattle.questions.proofs.Refusals.{refusal-none, refusal-stopped, refusal-running}
+use Rattle.call_arguments.proofs.Refusals.{refusal-none, refusal-stopped, refusal-running}
 use borrow.Author.Needs.{needs}
 use Rattle.questions.proofs.machine_refusal.Statement.{statement}
 use Rattle.questions.proofs.machine_refusal.Tie as tie

@@ -5,7 +5,7 @@ use mathlib.Core.Bool.{true, false}
 use lib.Dec.{ltb}
 use borrow.Author.Tests.{le-ltb, lt-ltb, not-true, not-false}
 use Rattle.machine.specs.Words.{momentAt}
-use Rattle.questions.proofs.Asking.{refused-9, refused-10, refused-11, refused-12, none-refused}
+use Rattle.call_arguments.proofs.Asking.{refused-9, refused-10, refused-11, refused-12, none-refused}
 use borrow.Author.Needs.{needs}
 use Rattle.questions.proofs.state_question.Statement.{statement}
 use Rattle.questions.proofs.state_question.Tie as tie

@@ -3,7 +3,7 @@ use denote.Ref.{now}
 use Prim.Native.Nat.{_≤_, _+_, _*_}
 use mathlib.Core.Path.{_≡_, refl, sym, _∙_}
 use native.Mathlib.Omega.{arith}
-use Rattle.table_code.specs.Pass.{entryPast, codePast}
+use Rattle.table_check_cells.specs.Pass.{entryPast, codePast}
 use Rattle.table_code.proofs.Instructions as instructions
 use borrow.Author.Needs.{needs}
 use Rattle.table_code.proofs.code_past.Statement.{statement}

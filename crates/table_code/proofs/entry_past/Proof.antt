@@ -5,7 +5,7 @@ use mathlib.Core.Path.{_≡_, sym}
 use mathlib.Core.List.{List}
 use native.Mathlib.Omega.{arith}
 use Rattle.table.specs.Decode.{word}
-use Rattle.table_code.specs.Pass.{Words, entryPast}
+use Rattle.table_check_cells.specs.Pass.{Words, entryPast}
 use Rattle.table_code.proofs.Entries as entries
 use borrow.Author.Needs.{needs}
 use Rattle.table_code.proofs.entry_past.Statement.{statement}

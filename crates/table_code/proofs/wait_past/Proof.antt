@@ -5,7 +5,7 @@ use mathlib.Core.Path.{_≡_, sym, _∙_}
 use mathlib.Core.Bool.{true, false}
 use native.Mathlib.Omega.{arith}
 use borrow.Author.Tests.{not-true, not-false}
-use Rattle.table_code.specs.Pass.{namesTest}
+use Rattle.table_check_cells.specs.Pass.{namesTest}
 use Rattle.table_code.proofs.Instructions as instructions
 use borrow.Author.Needs.{needs}
 use Rattle.table_code.proofs.wait_past.Statement.{statement}

@@ -2,7 +2,7 @@
 use native.Mathlib.Omega.{arith}
 use denote.Ref.{now}
 use Prim.Native.Nat.{_+_}
-use Rattle.questions.proofs.TableSize.{whole-size}
+use Rattle.call_arguments.proofs.TableSize.{whole-size}
 use Rattle.conclusion.proofs.Finished.{finished-as, listed-below}
 use borrow.Author.Needs.{needs}
 use Rattle.conclusion.proofs.ending.finished.Statement.{statement}

@@ -5,7 +5,7 @@ use Prim.Native.Nat.{_-_}
 use native.Mathlib.Omega.{arith}
 use lib.ListN.{length}
 use Rattle.records.proofs.Lines as lines
-use Rattle.survey.proofs.Steps as steps
+use Rattle.text_limits.proofs.Steps as steps
 use Rattle.survey.specs.Endings.{endsBadly, mayEndWith}
 use Rattle.survey.proofs.EndingPass as pass
 use borrow.Author.Needs.{needs}

@@ -6,7 +6,7 @@ use native.Mathlib.Omega.{arith}
 use lib.ListN.{length}
 use Rattle.listing.specs.Questions.{listingIn}
 use Rattle.records.proofs.Lines as lines
-use Rattle.survey.proofs.Steps as steps
+use Rattle.text_limits.proofs.Steps as steps
 use Rattle.survey.specs.Surveys.{answersHere, movedHere}
 use Rattle.survey.proofs.TherePass as pass
 use borrow.Author.Needs.{needs}

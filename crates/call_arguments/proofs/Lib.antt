@@ -1,0 +1,3 @@
+pub mod TableSize
+pub mod Refusals
+pub mod Asking

@@ -6,12 +6,13 @@ use native.Mathlib.Omega.{arith}
 use native.Mathlib.Numerals.{add-one}
 use lib.ListN.{length, set, length-set}
 use lib.Seq.{slice, sets}
-use Rattle.reader.specs.Texts.{endsField, fieldEnd, fieldPieces, Within}
-use Rattle.reader.specs.Answers.{takenAt, pieceAnswer}
-use Rattle.reader.specs.declared.place.Place.{Place}
-use Rattle.reader.specs.declared.place.Taken.{Taken}
-use Rattle.reader.specs.declared.piece.Piece.{Piece}
-use Rattle.reader.proofs.Places.{passed-in, end-in}
+use Rattle.text_place.specs.Texts.{endsField, fieldEnd, fieldPieces, Within}
+use Rattle.text_place.specs.Places.{takenAt}
+use Rattle.text_piece.specs.Pieces.{pieceAnswer}
+use Rattle.text_place.specs.declared.place.Place.{Place}
+use Rattle.text_place.specs.declared.place.Taken.{Taken}
+use Rattle.text_piece.specs.declared.piece.Piece.{Piece}
+use Rattle.text_place.proofs.Places.{passed-in, end-in}
 use Rattle.reader.proofs.OnField.{OnField, begun, more-pieces, moved-on, still-on, last-piece, stop-at-end, next-at-end}
 use Rattle.cells.specs.Cells.{cellKind, cellValue, cellsOf, cellsAnswer, WritesCells}
 

@@ -15,9 +15,11 @@ use Rattle.listing.specs.Form.{Field, nextField, noneLeft, readNumber}
 use Rattle.listing.specs.Questions.{pieceIsThere}
 use Rattle.listing.specs.Listing as L
 use Rattle.table.specs.Areas.{wordsOfEach, pieceWords, nameWords}
-use Rattle.reader.specs.Texts.{fieldsLeft, fieldEnd, Within}
-use Rattle.reader.specs.Answers.{cap, passed, pieceAnswer, asPiece, asNumber, numberAnswer}
-use Rattle.reader.specs.declared.place.Place.{Place}
+use Rattle.text_place.specs.Texts.{fieldsLeft, fieldEnd, Within}
+use Rattle.text_place.specs.Places.{passed}
+use Rattle.text_piece.specs.Pieces.{cap, pieceAnswer, asPiece}
+use Rattle.reader.specs.Fields.{asNumber, numberAnswer}
+use Rattle.text_place.specs.declared.place.Place.{Place}
 use Rattle.reader.specs.declared.field.Number.{Number}
 use Rattle.reader.specs.declared.field.Number.the-variants as NV
 use Rattle.reader.proofs.Rows.{Said, said, said-of}

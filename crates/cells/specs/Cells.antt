@@ -8,11 +8,12 @@ use lib.ListN.{length, getD}
 use lib.Seq.{sets}
 use Rattle.listing.specs.Bytes.{Bytes}
 use Rattle.listing.specs.Expressions.{wordRange}
-use Rattle.reader.specs.Texts.{fieldEnd, fieldPieces, Within}
-use Rattle.reader.specs.Answers.{passed, pieceAnswer}
-use Rattle.reader.specs.declared.place.Place.{Place}
-use Rattle.reader.specs.declared.piece.Piece.{Piece}
-use Rattle.reader.specs.declared.piece.Piece.the-variants as PV
+use Rattle.text_place.specs.Texts.{fieldEnd, fieldPieces, Within}
+use Rattle.text_place.specs.Places.{passed}
+use Rattle.text_piece.specs.Pieces.{pieceAnswer}
+use Rattle.text_place.specs.declared.place.Place.{Place}
+use Rattle.text_piece.specs.declared.piece.Piece.{Piece}
+use Rattle.text_piece.specs.declared.piece.Piece.the-variants as PV
 use Rattle.cells.specs.declared.cell.Cells.{Cells}
 
 abbrev pub lowWord : ℕ → ℕ

@@ -1,8 +1,8 @@
 -- A field of one figure, as a word of the table.
 use Prim.Native.Nat.{ℕ}
 use Rattle.listing.specs.Bytes.{Bytes}
-use Rattle.reader.specs.Answers.{numberAnswer}
-use Rattle.reader.specs.declared.place.Place.{Place}
+use Rattle.reader.specs.Fields.{numberAnswer}
+use Rattle.text_place.specs.declared.place.Place.{Place}
 use Rattle.reader.specs.declared.field.Number.{Number}
 use Rattle.reader.specs.declared.field.Number.the-variants as NV
 use Rattle.cells.specs.Cells.{lowWord}

@@ -2,13 +2,9 @@
 ghost use mathlib.Core.Path.{_≡_};
 ghost use Prim.Native.Nat.{_+_, _*_, _≤_};
 ghost use lib.ListN.{length, set};
-ghost use Rattle.reader.specs.Texts.{Within};
+ghost use Rattle.text_place.specs.Texts.{Within};
 ghost use Rattle.cells.specs.Cells.{lowWord, cellKind, cellValue, WritesCells};
 use crate::put::put;
-use reader::Piece;
-use reader::Place;
-use reader::piece_of;
-use reader::take_piece;
 use table::CELL_WORDS;
 use table::LESS;
 use table::LITERAL;
@@ -16,6 +12,10 @@ use table::MINUS;
 use table::PLUS;
 use table::TIMES;
 use table::WRITTEN_MARK;
+use text_piece::Piece;
+use text_piece::piece_of;
+use text_place::Place;
+use text_place::take_piece;
 
 // How many cells were written, the byte that closes the field, and the place past it.
 pub struct Cells {

@@ -1,11 +1,11 @@
 // A field of one figure, as a word of the table.
 ghost use mathlib.Core.Path.{_≡_};
-ghost use Rattle.reader.specs.Texts.{Within};
+ghost use Rattle.text_place.specs.Texts.{Within};
 ghost use Rattle.cells.specs.Words.{wordAnswer};
 use crate::cell::low_word;
 use reader::Number;
-use reader::Place;
 use reader::number_field;
+use text_place::Place;
 
 // The word, the byte that closes the field, and the place past it.
 pub struct Word {

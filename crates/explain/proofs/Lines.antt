@@ -9,7 +9,7 @@ use lib.ListN.{length, getD, take, drop, length-drop}
 use lib.Seq.{drop-drop}
 use Rattle.listing.specs.Bytes.{Bytes, extend, split}
 use Rattle.listing.proofs.Splits.{split-has-part}
-use Rattle.reader.specs.Texts.{before, firstLine, lineEnd}
+use Rattle.text_place.specs.Texts.{before, firstLine, lineEnd}
 use Rattle.explain.specs.Lines.{lineOf, IsLine}
 
 -- a byte in front joins the first line

@@ -2,7 +2,7 @@
 ghost use mathlib.Core.Path.{_≡_};
 ghost use Prim.Native.Nat.{_≤_};
 ghost use lib.ListN.{length};
-ghost use Rattle.reader.specs.Texts.{lineEnd};
+ghost use Rattle.text_place.specs.Texts.{lineEnd};
 ghost use Rattle.explain.specs.Lines.{IsLine};
 
 // A line goes from one offset up to another, without its line feed.

@@ -15,9 +15,9 @@ use Rattle.table.specs.Areas.{tableWords, allCode, allCells, cellWords, wordsOf
 use Rattle.table.proofs.Lengths.{cells-append}
 use Rattle.table.proofs.Append.{code-append}
 use Rattle.table.proofs.Stands.{cells-room}
-use Rattle.reader.specs.Texts.{lineEnd}
-use Rattle.reader.specs.Answers.{passed}
-use Rattle.reader.specs.declared.place.Place.{Place}
+use Rattle.text_place.specs.Texts.{lineEnd}
+use Rattle.text_place.specs.Places.{passed}
+use Rattle.text_place.specs.declared.place.Place.{Place}
 use Rattle.records.specs.Onward.{recordsFrom}
 use Rattle.records.specs.Records.{asLine}
 use Rattle.records.specs.declared.line.Line.the-variants as LV

@@ -7,9 +7,9 @@ use lib.Seq.{sets}
 use Rattle.listing.specs.Listing as L
 use Rattle.listing.specs.Questions.{listingIn}
 use Rattle.table.specs.Areas.{tableWords, allCode, allCells}
-use Rattle.reader.specs.Texts.{lineEnd}
-use Rattle.reader.specs.Answers.{passed}
-use Rattle.reader.specs.declared.place.Place.{Place}
+use Rattle.text_place.specs.Texts.{lineEnd}
+use Rattle.text_place.specs.Places.{passed}
+use Rattle.text_place.specs.declared.place.Place.{Place}
 use Rattle.records.specs.Onward.{recordsFrom, Formed}
 use Rattle.load.specs.Growing.{lastCode, withLines}
 use Rattle.openings.specs.Lines.{holdsOf, wordsAfter, Fits, lineOf, lineAt}

@@ -4,7 +4,7 @@ ghost use Rattle.load.specs.Writing.{entered, advanced, Room};
 use cells::put::put;
 use cells::put::put_entry;
 use openings::Holds;
-use reader::Place;
+use text_place::Place;
 
 // The reading place (offset, line); the routines, instructions and words of cells so far; the instructions of the last routine.
 pub struct Progress {

@@ -10,7 +10,7 @@ use crate::progress::Progress;
 use crate::progress::advance;
 use crate::progress::enter;
 use halting::blank;
-use reader::Place;
+use text_place::Place;
 use writer::write_line;
 
 // The next line: its words, and what it adds to header and routine entries.

@@ -17,7 +17,7 @@ use Rattle.listing.specs.Text.{lineText, lineFields, joinFields}
 use Rattle.listing.specs.Questions.{place2}
 use Rattle.listing.proofs.Tests.{no-test, and-left, and-right}
 use Rattle.listing.proofs.LinesBack.{line-back}
-use Rattle.reader.specs.Texts.{before, firstLine, endsLine}
+use Rattle.text_place.specs.Texts.{before, firstLine, endsLine}
 use Rattle.records.specs.Onward.{placeFrom}
 use Rattle.records.proofs.Lines.{place-whole, place-end, place-unread}
 use Rattle.loader.specs.Opening.{beginsWith}

@@ -14,11 +14,11 @@ use Rattle.listing.specs.Form.{Field, nextField, noneLeft, onePiece, readNumber
 use Rattle.listing.specs.Listing as L
 use Rattle.listing.proofs.Splits.{split-has-part}
 use Rattle.table.specs.Areas.{kindBits}
-use Rattle.reader.specs.Texts.{firstPiece, firstField, endsPiece, fieldsLeft, pieceEnd, fieldPieces, Within}
-use Rattle.reader.specs.Answers.{passed, takenAt}
-use Rattle.reader.specs.declared.place.Place.{Place}
-use Rattle.reader.specs.declared.place.Taken.{Taken}
-use Rattle.reader.proofs.Places.{pieces-turn, pieces-last, field-last, before-slice, end-in, passed-in}
+use Rattle.text_place.specs.Texts.{firstPiece, firstField, endsPiece, fieldsLeft, pieceEnd, fieldPieces, Within}
+use Rattle.text_place.specs.Places.{passed, takenAt}
+use Rattle.text_place.specs.declared.place.Place.{Place}
+use Rattle.text_place.specs.declared.place.Taken.{Taken}
+use Rattle.text_place.proofs.Places.{pieces-turn, pieces-last, field-last, before-slice, end-in, passed-in}
 use Rattle.records.specs.Records.{endNext}
 use Rattle.records.proofs.Chain.{first, next-shut}
 use Rattle.openings.specs.Kinds.{kindBit, bitsOf, FewKinds, kindsOf, kindsAnswer}

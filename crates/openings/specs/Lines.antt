@@ -12,9 +12,9 @@ use Rattle.listing.specs.Form.{Field, fieldsOf, readRecord}
 use Rattle.listing.specs.Questions.{isThere}
 use Rattle.listing.specs.Listing as L
 use Rattle.table.specs.Areas.{cellWords, entryWords, kindBits}
-use Rattle.reader.specs.Texts.{firstLine, fieldsLeft, lineEnd}
-use Rattle.reader.specs.Answers.{passed}
-use Rattle.reader.specs.declared.place.Place.{Place}
+use Rattle.text_place.specs.Texts.{firstLine, fieldsLeft, lineEnd}
+use Rattle.text_place.specs.Places.{passed}
+use Rattle.text_place.specs.declared.place.Place.{Place}
 use Rattle.records.specs.Records.{endNext}
 use Rattle.openings.specs.declared.line.Holds.{Holds}
 use Rattle.openings.specs.declared.line.Holds.the-variants as HV

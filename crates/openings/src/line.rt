@@ -1,5 +1,5 @@
 // What a line gives its table, handed back.
-use reader::Place;
+use text_place::Place;
 
 // What a line holds that a table's header or a routine's entry needs; an instruction's cells and entry are written.
 pub enum Holds {

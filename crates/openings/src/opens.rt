@@ -4,15 +4,15 @@ ghost use Prim.Native.Nat.{_+_, _≤_};
 ghost use lib.ListN.{length};
 ghost use lib.Seq.{slice};
 ghost use Rattle.listing.specs.Form.{readPorts, readOpens};
-ghost use Rattle.reader.specs.Texts.{Within};
+ghost use Rattle.text_place.specs.Texts.{Within};
 ghost use Rattle.records.specs.Records.{endNext};
 ghost use Rattle.openings.specs.Kinds.{kindBit, bitsOf, FewKinds, kindsAnswer};
 ghost use Rattle.openings.specs.Lines.{Good, heldFor, restAt};
 use crate::line::Holds;
 use crate::line::WrittenLine;
 use cells::word::word_field;
-use reader::Place;
-use reader::take_piece;
+use text_place::Place;
+use text_place::take_piece;
 
 // How many kinds, and one bit for each.
 pub struct Kinds {

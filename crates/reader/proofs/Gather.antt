@@ -14,18 +14,19 @@ use Rattle.listing.specs.Expressions.{bind, when, each, readPiece, mostValuesHe
 use Rattle.listing.specs.Form.{nextField}
 use Rattle.listing.specs.Questions.{pieceIsThere}
 use Rattle.listing.specs.Listing as L
-use Rattle.reader.specs.Texts.{fieldsLeft, fieldEnd, fieldPieces}
-use Rattle.reader.specs.Answers.{cap, passed, takenAt, asPiece, pieceAnswer}
+use Rattle.text_place.specs.Texts.{fieldsLeft, fieldEnd, fieldPieces}
+use Rattle.text_place.specs.Places.{passed, takenAt}
+use Rattle.text_piece.specs.Pieces.{cap, asPiece, pieceAnswer}
 use Rattle.reader.specs.Gather.{pushed, joined, heldAfter, isThereBy, isValue, valueIn, nothing, gatherOne, gatherAll, piecesAnswer, asExpression, expressionAnswer}
-use Rattle.reader.specs.declared.place.Place.{Place}
-use Rattle.reader.specs.declared.piece.Piece.{Piece}
+use Rattle.text_place.specs.declared.place.Place.{Place}
+use Rattle.text_piece.specs.declared.piece.Piece.{Piece}
 use Rattle.reader.specs.declared.gathering.Gathering.{Gathering}
 use Rattle.reader.specs.declared.field.Expression.{Expression}
 use Rattle.reader.specs.declared.field.Expression.the-variants as EV
 use Rattle.reader.specs.declared.field.Pieces.{Pieces}
 use Rattle.reader.specs.declared.field.Pieces.the-variants as SV
-use Rattle.reader.specs.declared.place.Taken.{Taken}
-use Rattle.reader.proofs.Places.{left-open}
+use Rattle.text_place.specs.declared.place.Taken.{Taken}
+use Rattle.text_place.proofs.Places.{left-open}
 use Rattle.reader.proofs.OnField.{OnField, begun, more-pieces, moved-on, still-on, last-piece, stop-at-end, next-at-end}
 
 absurd-read : {A B : Type 0} {b : B} → none ≡ some b → A

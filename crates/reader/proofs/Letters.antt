@@ -16,12 +16,13 @@ use Rattle.listing.specs.Form.{nextField, onePiece, readKind, readKinds}
 use Rattle.listing.specs.Questions.{isByReference}
 use Rattle.listing.specs.Listing as L
 use Rattle.listing.proofs.Splits.{split-has-part}
-use Rattle.reader.specs.Texts.{firstPiece, firstField, fieldsLeft, pieceEnd, fieldEnd, fieldPieces}
-use Rattle.reader.specs.Answers.{passed, isKind, asKinds, kindsAnswer, asKindsField, kindsFieldAnswer, kinding}
-use Rattle.reader.specs.declared.place.Place.{Place}
+use Rattle.text_place.specs.Texts.{firstPiece, firstField, fieldsLeft, pieceEnd, fieldEnd, fieldPieces}
+use Rattle.text_place.specs.Places.{passed}
+use Rattle.reader.specs.Fields.{isKind, asKinds, kindsAnswer, asKindsField, kindsFieldAnswer, kinding}
+use Rattle.text_place.specs.declared.place.Place.{Place}
 use Rattle.reader.specs.declared.kinds.Kinds.the-variants as KV
 use Rattle.reader.specs.declared.kinds.KindsField.the-variants as KFV
-use Rattle.reader.proofs.Places.{left-open, pieces-turn, pieces-last, field-last}
+use Rattle.text_place.proofs.Places.{left-open, pieces-turn, pieces-last, field-last}
 
 abbrev pub isReference : ℕ → Bool
 isReference byte = eqb byte 114

@@ -1,10 +1,5 @@
-pub mod Figures
 pub mod Gather
 pub mod Letters
 pub mod Numbers
 pub mod OnField
-pub mod Passing
-pub mod Pieces
-pub mod Places
 pub mod Rows
-pub mod Texts

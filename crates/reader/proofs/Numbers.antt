@@ -9,11 +9,13 @@ use Rattle.listing.specs.Bytes.{readFigure}
 use Rattle.listing.specs.Expressions.{bind}
 use Rattle.listing.specs.Form.{nextField, onePiece, readNumber}
 use Rattle.listing.proofs.Splits.{split-has-part}
-use Rattle.reader.specs.Texts.{firstPiece, firstField, fieldsLeft, pieceEnd, fieldEnd, fieldPieces}
-use Rattle.reader.specs.Answers.{passed, asFigure, figureAnswer, numbering, asNumber, numberAnswer}
-use Rattle.reader.specs.declared.place.Place.{Place}
+use Rattle.text_place.specs.Texts.{firstPiece, firstField, fieldsLeft, pieceEnd, fieldEnd, fieldPieces}
+use Rattle.text_place.specs.Places.{passed}
+use Rattle.text_piece.specs.Pieces.{asFigure, figureAnswer}
+use Rattle.reader.specs.Fields.{numbering, asNumber, numberAnswer}
+use Rattle.text_place.specs.declared.place.Place.{Place}
 use Rattle.reader.specs.declared.field.Number.the-variants as NV
-use Rattle.reader.proofs.Places.{left-open, pieces-turn, pieces-last, field-last}
+use Rattle.text_place.proofs.Places.{left-open, pieces-turn, pieces-last, field-last}
 
 pub number-shut : (s : List ℕ) (c : Place) (b : ℕ) → (b ≡ 9 → ⊥) → numberAnswer s c b ≡ NV.Bad
 unfolding fieldsLeft nextField

@@ -6,10 +6,10 @@ use native.Mathlib.Omega.{arith}
 use lib.ListN.{length, getD, drop}
 use lib.Seq.{slice}
 use borrow.Author.Tests.{lt-ltb}
-use Rattle.reader.specs.Texts.{firstPiece, endsPiece, pieceEnd, fieldEnd, fieldPieces}
-use Rattle.reader.specs.Answers.{passed, takenAt}
-use Rattle.reader.specs.declared.place.Taken.{Taken}
-use Rattle.reader.proofs.Places.{pieces-turn, field-turn, pieces-last, field-last, past-in, end-in, before-slice}
+use Rattle.text_place.specs.Texts.{firstPiece, endsPiece, pieceEnd, fieldEnd, fieldPieces}
+use Rattle.text_place.specs.Places.{passed, takenAt}
+use Rattle.text_place.specs.declared.place.Taken.{Taken}
+use Rattle.text_place.proofs.Places.{pieces-turn, field-turn, pieces-last, field-last, past-in, end-in, before-slice}
 
 module _ (s : List ℕ) (at₀ line : ℕ) where
   -- an offset in the field that begins at at₀

@@ -12,9 +12,9 @@ use Rattle.listing.specs.Lists.{all}
 use Rattle.listing.specs.Bytes.{isDigit, isFigure, readFigure, readOn}
 use Rattle.listing.specs.Expressions.{bind, when, each, alone, halfRange, readLiteral, readPiece}
 use Rattle.listing.specs.Listing as L
-use Rattle.reader.specs.Answers.{cap, asPiece, pieceAnswer}
+use Rattle.text_piece.specs.Pieces.{cap, asPiece, pieceAnswer}
 use Rattle.reader.specs.Gather.{isThereBy, isValue, nothing, gatherOne, gatherAll}
-use Rattle.reader.specs.declared.piece.Piece.the-variants as PV
+use Rattle.text_piece.specs.declared.piece.Piece.the-variants as PV
 use Rattle.reader.specs.declared.gathering.Gathering.{Gathering}
 use Rattle.reader.proofs.Gather.{capped-below}
 

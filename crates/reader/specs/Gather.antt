@@ -11,11 +11,12 @@ use Rattle.listing.specs.Expressions.{mostValuesHeld, readExpression}
 use Rattle.listing.specs.Form.{nextField}
 use Rattle.listing.specs.Questions.{pieceIsThere}
 use Rattle.listing.specs.Listing as L
-use Rattle.reader.specs.Texts.{fieldEnd, fieldPieces, fieldsLeft}
-use Rattle.reader.specs.Answers.{passed, pieceAnswer}
-use Rattle.reader.specs.declared.place.Place.{Place}
-use Rattle.reader.specs.declared.piece.Piece.{Piece}
-use Rattle.reader.specs.declared.piece.Piece.the-variants as PV
+use Rattle.text_place.specs.Texts.{fieldEnd, fieldPieces, fieldsLeft}
+use Rattle.text_place.specs.Places.{passed}
+use Rattle.text_piece.specs.Pieces.{pieceAnswer}
+use Rattle.text_place.specs.declared.place.Place.{Place}
+use Rattle.text_piece.specs.declared.piece.Piece.{Piece}
+use Rattle.text_piece.specs.declared.piece.Piece.the-variants as PV
 use Rattle.reader.specs.declared.gathering.Gathering.{Gathering}
 use Rattle.reader.specs.declared.field.Pieces.{Pieces}
 use Rattle.reader.specs.declared.field.Pieces.the-variants as SV

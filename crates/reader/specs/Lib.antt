@@ -1,4 +1,2 @@
-pub mod Texts
-pub mod Answers
+pub mod Fields
 pub mod Gather
-pub mod Past

@@ -1,16 +1,16 @@
 // Fields, each read from the place past the tab before it.
 ghost use mathlib.Core.Path.{_≡_};
 ghost use lib.ListN.{length};
-ghost use Rattle.reader.specs.Texts.{Within};
-ghost use Rattle.reader.specs.Answers.{numberAnswer};
+ghost use Rattle.text_place.specs.Texts.{Within};
+ghost use Rattle.reader.specs.Fields.{numberAnswer};
 ghost use Rattle.reader.specs.Gather.{piecesAnswer, expressionAnswer, figuresAnswer};
-use crate::figure::Figure;
-use crate::figure::figure_of;
 use crate::gathering::Gathering;
 use crate::gathering::gathered;
-use crate::piece::piece_of;
-use crate::place::Place;
-use crate::place::take_piece;
+use text_piece::Figure;
+use text_piece::figure_of;
+use text_piece::piece_of;
+use text_place::Place;
+use text_place::take_piece;
 
 // A field of one figure: its number, the byte that closes the field, and the place past it.
 pub enum Number {

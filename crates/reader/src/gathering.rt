@@ -3,7 +3,7 @@ ghost use mathlib.Core.Path.{_≡_};
 ghost use Prim.Native.Nat.{_<_};
 ghost use Rattle.reader.specs.Gather.{pushed, joined, heldAfter, isThereBy, isValue, valueIn, gatherOne};
 use crate::answers::both;
-use crate::piece::Piece;
+use text_piece::Piece;
 
 pub struct Gathering {
     // how many pieces

@@ -4,11 +4,11 @@ ghost use mathlib.Core.Path.{_≡_};
 ghost use Prim.Native.Nat.{_≤_};
 ghost use lib.ListN.{length};
 ghost use lib.Seq.{slice};
-ghost use Rattle.reader.specs.Texts.{Within};
-ghost use Rattle.reader.specs.Answers.{isKind, kindsAnswer, kindsFieldAnswer};
+ghost use Rattle.text_place.specs.Texts.{Within};
+ghost use Rattle.reader.specs.Fields.{isKind, kindsAnswer, kindsFieldAnswer};
 use crate::answers::both;
-use crate::place::Place;
-use crate::place::take_piece;
+use text_place::Place;
+use text_place::take_piece;
 
 // How many, and whether all are by reference.
 pub enum Kinds {

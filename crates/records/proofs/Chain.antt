@@ -16,18 +16,20 @@ use Rattle.listing.specs.Form.{Field, fieldsOf, nextField, noneLeft, onePiece, 
 use Rattle.listing.specs.Questions.{pieceIsThere, isByReference}
 use Rattle.listing.specs.Listing as L
 use Rattle.listing.proofs.Splits.{split-has-part}
-use Rattle.reader.specs.Texts.{firstField, firstLine, endsField, fieldsLeft, fieldEnd, lineEnd, fieldPieces, Within}
-use Rattle.reader.specs.Answers.{cap, passed, asNumber, numberAnswer, asKindsField, kindsFieldAnswer}
+use Rattle.text_place.specs.Texts.{firstField, firstLine, endsField, fieldsLeft, fieldEnd, lineEnd, fieldPieces, Within}
+use Rattle.text_place.specs.Places.{passed}
+use Rattle.text_piece.specs.Pieces.{cap}
+use Rattle.reader.specs.Fields.{asNumber, numberAnswer, asKindsField, kindsFieldAnswer}
 use Rattle.reader.specs.Gather.{nothing, gatherAll, asExpression, expressionAnswer, figuresBy, figuresAnswer}
-use Rattle.reader.specs.declared.place.Place.{Place}
+use Rattle.text_place.specs.declared.place.Place.{Place}
 use Rattle.reader.specs.declared.gathering.Gathering.{Gathering}
 use Rattle.reader.specs.declared.field.Number.the-variants as NV
 use Rattle.reader.specs.declared.field.Expression.the-variants as EV
 use Rattle.reader.specs.declared.field.Pieces.the-variants as SV
 use Rattle.reader.specs.declared.field.Figures.the-variants as GV
 use Rattle.reader.specs.declared.kinds.KindsField.the-variants as KFV
-use Rattle.reader.proofs.Texts.{line-tab, line-field}
-use Rattle.reader.proofs.Places.{left-open, past-in, passed-in, end-in, drop-past}
+use Rattle.text_place.proofs.Texts.{line-tab, line-field}
+use Rattle.text_place.proofs.Places.{left-open, past-in, passed-in, end-in, drop-past}
 use Rattle.reader.proofs.Rows.{Figures, unread, read, figures-of}
 use Rattle.records.specs.Records.{endStop, endNext, asRecord, asRest}
 use Rattle.records.specs.declared.scope.Scope.{Scope}

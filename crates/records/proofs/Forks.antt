@@ -17,14 +17,14 @@ use Rattle.listing.specs.Form.{Field, oneTo, mostChildren, readCall, readFork}
 use Rattle.listing.specs.Limits.{callPieces, instructionPieces}
 use Rattle.listing.specs.Questions.{argumentCount, callIsThere, isThere, mayBeLast}
 use Rattle.listing.specs.Listing as L
-use Rattle.reader.specs.Texts.{fieldsLeft, fieldEnd, fieldPieces, Within}
-use Rattle.reader.specs.Answers.{cap}
+use Rattle.text_place.specs.Texts.{fieldsLeft, fieldEnd, fieldPieces, Within}
+use Rattle.text_piece.specs.Pieces.{cap}
 use Rattle.reader.specs.Gather.{figuresAnswer}
-use Rattle.reader.specs.declared.place.Place.{Place}
+use Rattle.text_place.specs.declared.place.Place.{Place}
 use Rattle.reader.specs.declared.gathering.Gathering.{Gathering}
 use Rattle.reader.specs.declared.field.Figures.the-variants as GV
 use Rattle.reader.proofs.Gather.{capped-below}
-use Rattle.reader.proofs.Places.{left-open}
+use Rattle.text_place.proofs.Places.{left-open}
 use Rattle.records.specs.Records.{standIn, standIns, callBy, endStop, endNext, asRecord}
 use Rattle.records.specs.declared.scope.Scope.{Scope}
 use Rattle.records.specs.declared.record.Record.the-variants as CV

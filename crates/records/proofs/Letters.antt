@@ -11,10 +11,10 @@ use Rattle.listing.specs.Form.{nextField, onePiece, readLetter, readByLetter, r
 use Rattle.listing.specs.Expressions.{alone}
 use Rattle.listing.specs.Listing as L
 use Rattle.listing.proofs.Splits.{split-has-part}
-use Rattle.reader.specs.Texts.{firstPiece, firstField, endsPiece, fieldsLeft, pieceEnd, fieldPieces, Within}
-use Rattle.reader.specs.Answers.{passed}
-use Rattle.reader.specs.declared.place.Place.{Place}
-use Rattle.reader.proofs.Places.{left-open, pieces-turn, pieces-last, field-last, before-slice, end-in}
+use Rattle.text_place.specs.Texts.{firstPiece, firstField, endsPiece, fieldsLeft, pieceEnd, fieldPieces, Within}
+use Rattle.text_place.specs.Places.{passed}
+use Rattle.text_place.specs.declared.place.Place.{Place}
+use Rattle.text_place.proofs.Places.{left-open, pieces-turn, pieces-last, field-last, before-slice, end-in}
 use Rattle.records.specs.Records.{endStop, endNext, asRest, restAnswer, asLine, lineAnswer}
 use Rattle.records.specs.declared.scope.Scope.{Scope}
 use Rattle.records.specs.declared.record.Record.{Record}

@@ -17,11 +17,11 @@ use Rattle.listing.specs.Form.{fieldsOf, readRecord, mayStandOn, readLine}
 use Rattle.listing.specs.Questions.{closedLines, unclosed, readLines, isClosed, formAnswers, place2, recordsOf}
 use Rattle.listing.specs.Listing as L
 use Rattle.listing.proofs.Splits.{split-has-part, split-at, split-free}
-use Rattle.reader.specs.Texts.{before, firstLine, endsLine, lineEnd, Within}
-use Rattle.reader.specs.Answers.{passed}
-use Rattle.reader.specs.declared.place.Place.{Place}
-use Rattle.reader.proofs.Texts.{cut-at, no-cut, before-free}
-use Rattle.reader.proofs.Places.{drop-past, past-in}
+use Rattle.text_place.specs.Texts.{before, firstLine, endsLine, lineEnd, Within}
+use Rattle.text_place.specs.Places.{passed}
+use Rattle.text_place.specs.declared.place.Place.{Place}
+use Rattle.text_place.proofs.Texts.{cut-at, no-cut, before-free}
+use Rattle.text_place.proofs.Places.{drop-past, past-in}
 use Rattle.records.specs.Records.{asRecord, asLine, lineAnswer, standsOn}
 use Rattle.records.specs.Onward.{closedFrom, placeFrom, recordsFrom, Formed}
 use Rattle.records.specs.declared.scope.Scope.{Scope}

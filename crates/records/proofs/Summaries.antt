@@ -9,7 +9,7 @@ use Rattle.listing.specs.Lists.{all}
 use Rattle.listing.specs.Limits.{instructionPieces}
 use Rattle.listing.specs.Questions.{pieceIsThere, isThere, mayBeLast, isByReference}
 use Rattle.listing.specs.Listing as L
-use Rattle.reader.specs.Answers.{cap}
+use Rattle.text_piece.specs.Pieces.{cap}
 use Rattle.reader.specs.declared.gathering.Gathering.{Gathering}
 use Rattle.reader.proofs.Gather.{capped-below}
 use Rattle.records.specs.Records.{asRecord}

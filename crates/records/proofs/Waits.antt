@@ -12,12 +12,12 @@ use Rattle.listing.specs.Bytes.{readFigure}
 use Rattle.listing.specs.Expressions.{bind, when, each}
 use Rattle.listing.specs.Form.{Field, nextField, oneTo, readNames}
 use Rattle.listing.specs.Listing as L
-use Rattle.reader.specs.Texts.{fieldsLeft}
-use Rattle.reader.specs.Answers.{cap}
+use Rattle.text_place.specs.Texts.{fieldsLeft}
+use Rattle.text_piece.specs.Pieces.{cap}
 use Rattle.reader.specs.Gather.{figuresAnswer}
-use Rattle.reader.specs.declared.place.Place.{Place}
+use Rattle.text_place.specs.declared.place.Place.{Place}
 use Rattle.reader.specs.declared.field.Figures.the-variants as GV
-use Rattle.reader.proofs.Places.{left-open}
+use Rattle.text_place.proofs.Places.{left-open}
 use Rattle.records.proofs.Chain.{Got, figures-unread, left-none}
 
 names-next : (fs : List Field) (k : List ℕ → List Field → Option L.Line) → nextField readNames fs k ≡ nextField (each readFigure) fs (λ ns gs. bind (when (oneTo 4 ns) ns) (λ ms. k ms gs))

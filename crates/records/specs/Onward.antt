@@ -9,7 +9,7 @@ use Rattle.listing.specs.Lists.{isEmpty, isSome, present, firstNoFrom}
 use Rattle.listing.specs.Bytes.{Bytes}
 use Rattle.listing.specs.Questions.{closedLines, unclosed, readLines}
 use Rattle.listing.specs.Listing as L
-use Rattle.reader.specs.Texts.{Within}
+use Rattle.text_place.specs.Texts.{Within}
 
 -- there is a line at or before this one, and none without its line feed
 unfoldable pub closedFrom : ℕ → Bytes → Bool

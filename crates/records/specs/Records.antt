@@ -11,9 +11,10 @@ use Rattle.listing.specs.Form.{Field, fieldsOf, readRecord}
 use Rattle.listing.specs.Limits.{instructionPieces}
 use Rattle.listing.specs.Questions.{isThere, mayBeLast, isByReference}
 use Rattle.listing.specs.Listing as L
-use Rattle.reader.specs.Texts.{firstLine, fieldsLeft, lineEnd}
-use Rattle.reader.specs.Answers.{cap, passed}
-use Rattle.reader.specs.declared.place.Place.{Place}
+use Rattle.text_place.specs.Texts.{firstLine, fieldsLeft, lineEnd}
+use Rattle.text_place.specs.Places.{passed}
+use Rattle.text_piece.specs.Pieces.{cap}
+use Rattle.text_place.specs.declared.place.Place.{Place}
 use Rattle.reader.specs.declared.gathering.Gathering.{Gathering}
 use Rattle.records.specs.declared.scope.Scope.{Scope}
 use Rattle.records.specs.declared.record.Record.{Record}

@@ -5,7 +5,7 @@ use crate::line::Line;
 use crate::line::may_stand_on;
 use crate::line::read_line;
 use crate::scope::Scope;
-use reader::Place;
+use text_place::Place;
 
 // The first line out of form, or 0.
 pub fn form_place(s: &[u8]) -> usize

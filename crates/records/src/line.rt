@@ -2,14 +2,14 @@
 ghost use mathlib.Core.Path.{_≡_};
 ghost use Prim.Native.Nat.{_≤_};
 ghost use lib.ListN.{length, take};
-ghost use Rattle.reader.specs.Texts.{Within};
+ghost use Rattle.text_place.specs.Texts.{Within};
 ghost use Rattle.records.specs.Records.{lineAnswer, standIns, standsOn};
 use crate::record::Record;
 use crate::record::Rest;
 use crate::record::read_rest;
 use crate::scope::Scope;
-use reader::Place;
-use reader::take_piece;
+use text_place::Place;
+use text_place::take_piece;
 
 // A line's record, the byte that closes the line, and the place past it.
 pub enum Line {

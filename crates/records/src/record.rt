@@ -3,7 +3,7 @@ ghost use mathlib.Core.Path.{_≡_};
 ghost use mathlib.Core.List.{List};
 ghost use Prim.Native.Nat.{ℕ, _≤_};
 ghost use lib.ListN.{length, take};
-ghost use Rattle.reader.specs.Texts.{Within};
+ghost use Rattle.text_place.specs.Texts.{Within};
 ghost use Rattle.listing.specs.Listing.{Routine};
 ghost use Rattle.listing.specs.Form.{readPorts, readOpens, readAssign, readSchedule, readBranch, readJump, readWait, readFork, readEnd, readByLetter};
 ghost use Rattle.records.specs.Records.{restAnswer, standIns};
@@ -13,12 +13,12 @@ use reader::Expression;
 use reader::Figures;
 use reader::KindsField;
 use reader::Number;
-use reader::Place;
 use reader::both;
 use reader::expression_field;
 use reader::figures_field;
 use reader::kinds_field;
 use reader::number_field;
+use text_place::Place;
 
 // What questions 3 to 5 ask of a record.
 pub enum Record {

@@ -10,7 +10,7 @@ use borrow.Author.Tests.{ne-eqb, ltb-true, ltb-false}
 use Rattle.listing.specs.Form.{mayStandOn}
 use Rattle.listing.specs.Questions.{place2}
 use Rattle.listing.specs.Listing as L
-use Rattle.reader.specs.Texts.{lineEnd}
+use Rattle.text_place.specs.Texts.{lineEnd}
 use Rattle.records.proofs.Lines.{formed-whole, records-end, next-line, place-end}
 use Rattle.records.specs.Onward.{Formed, recordsFrom}
 

@@ -10,7 +10,7 @@ use Rattle.listing.specs.Lists.{isEmpty, firstNoFrom, firstNo}
 use Rattle.listing.specs.Questions.{place2, place5, mayBeLast, lastAnswers, routinesEnd, endingAnswers, listingIn}
 use Rattle.listing.specs.Listing as L
 use Rattle.listing.specs.Listing.{codeOf, routinesOf, listingOf}
-use Rattle.reader.specs.Texts.{lineEnd}
+use Rattle.text_place.specs.Texts.{lineEnd}
 use Rattle.records.specs.Records.{asRecord}
 use Rattle.records.specs.declared.scope.Scope.{Scope}
 use Rattle.records.proofs.Lines.{formed-whole, NextLine, records-whole, records-end}

@@ -13,7 +13,7 @@ use Rattle.listing.specs.Limits.{routinesOn, namesOn}
 use Rattle.listing.specs.Questions.{place2, place3, listingIn}
 use Rattle.listing.specs.Listing as L
 use Rattle.listing.specs.Listing.{codeOf, routinesOf, listingOf}
-use Rattle.reader.specs.Texts.{lineEnd}
+use Rattle.text_place.specs.Texts.{lineEnd}
 use Rattle.records.specs.Records.{asRecord}
 use Rattle.records.specs.declared.scope.Scope.{Scope}
 use Rattle.records.proofs.Lines.{NextLine, records-whole, records-end}

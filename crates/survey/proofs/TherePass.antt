@@ -16,8 +16,8 @@ use Rattle.listing.specs.Limits.{namesOn, instructionsOn}
 use Rattle.listing.specs.Questions.{place2, place3, place4, listingIn, recordsOf, argumentCount, callIsThere, isThere, isByReference, opensAsStated, routinesThere, thereAnswers}
 use Rattle.listing.specs.Listing as L
 use Rattle.listing.specs.Listing.{codeOf, routinesOf, listingOf}
-use Rattle.reader.specs.Texts.{lineEnd}
-use Rattle.reader.specs.Answers.{cap}
+use Rattle.text_place.specs.Texts.{lineEnd}
+use Rattle.text_piece.specs.Pieces.{cap}
 use Rattle.records.specs.Records.{asRecord, standIns}
 use Rattle.records.specs.declared.scope.Scope.{Scope}
 use Rattle.records.proofs.Lines.{NextLine, next-line, records-whole, records-end}

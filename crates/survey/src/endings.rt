@@ -2,11 +2,11 @@
 ghost use mathlib.Core.Path.{_≡_};
 ghost use Rattle.listing.specs.Questions.{place2, place5};
 ghost use Rattle.survey.specs.Endings.{endsBadly, mayEndWith};
-use reader::Place;
 use records::Line;
 use records::Record;
 use records::Scope;
 use records::read_line;
+use text_place::Place;
 
 // Whether a routine ends before this record, and may not.
 fn ends_badly(allowed: bool, r: Record) -> bool

@@ -7,11 +7,11 @@ ghost use Rattle.listing.specs.Listing.{codeOf};
 ghost use Rattle.listing.specs.Questions.{place2, place3, listingIn};
 ghost use Rattle.records.specs.Onward.{Formed, recordsFrom};
 ghost use Rattle.survey.specs.Surveys.{SurveyFits, surveyOf, surveyOpens, surveyOne, isInstruction};
-use reader::Place;
 use records::Line;
 use records::Record;
 use records::Scope;
 use records::read_line;
+use text_place::Place;
 
 // How many arguments each routine takes, 0 behind the last, and the number of routines.
 pub struct Survey {

@@ -10,11 +10,11 @@ ghost use Rattle.survey.specs.Surveys.{isStated, answersHere, movedHere}
 use crate::routines::code_length;
 use crate::routines::few;
 use crate::routines::survey_routines;
-use reader::Place;
 use records::Line;
 use records::Record;
 use records::Scope;
 use records::read_line;
+use text_place::Place;
 
 // Where the pass is: the inputs and outputs, whether main is still to come, and the names and instructions of the routine.
 pub struct Here {

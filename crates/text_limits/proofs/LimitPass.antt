@@ -13,8 +13,8 @@ use Rattle.listing.specs.Bytes.{Bytes}
 use Rattle.listing.specs.Limits.{byteLimit, routineLimit, instructionLimit, nameLimit, pieceLimit, bytesOn, routinesOn, instructionsOn, namesOn, piecesOn, within, limitAnswers}
 use Rattle.listing.specs.Questions.{place2, place3, closedLines}
 use Rattle.listing.specs.Listing as L
-use Rattle.reader.specs.Texts.{firstLine, lineEnd}
-use Rattle.reader.specs.Answers.{cap}
+use Rattle.text_place.specs.Texts.{firstLine, lineEnd}
+use Rattle.text_piece.specs.Pieces.{cap}
 use Rattle.records.specs.Records.{asRecord}
 use Rattle.records.specs.declared.scope.Scope.{Scope}
 use Rattle.records.specs.declared.record.Record.{Record}

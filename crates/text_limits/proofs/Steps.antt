@@ -4,8 +4,8 @@ use mathlib.Core.List.{List}
 use Prim.Native.Nat.{ℕ, _+_, _-_}
 use native.Mathlib.Omega.{arith}
 use Rattle.listing.specs.Listing as L
-use Rattle.reader.specs.Texts.{lineEnd}
-use Rattle.reader.specs.declared.place.Place.{Place}
+use Rattle.text_place.specs.Texts.{lineEnd}
+use Rattle.text_place.specs.declared.place.Place.{Place}
 use Rattle.records.specs.Records.{asRecord, lineAnswer}
 use Rattle.records.specs.declared.scope.Scope.{Scope}
 use Rattle.records.specs.declared.record.Record.{Record}

@@ -16,7 +16,7 @@ use Rattle.listing.specs.Bytes.{isDigit, readOn, isFigure, readFigure}
 use Rattle.listing.specs.Expressions.{bind, when}
 use Rattle.walk.specs.Trace.{readBelow, readSigned}
 use Rattle.listing.proofs.Tests.{and-left, and-right}
-use Rattle.reader.proofs.Figures.{figure-digits, figure-shape, digits-turn, digits-out, number-turn, digits-none, number-none}
+use Rattle.text_piece.proofs.Figures.{figure-digits, figure-shape, digits-turn, digits-out, number-turn, digits-none, number-none}
 use Rattle.trace.specs.Figures.{asBounded, appended, momentAnswer, valueAnswer}
 use Rattle.trace.specs.declared.figure.Bounded.{Bounded}
 use Rattle.trace.specs.declared.figure.Bounded.the-variants.{Value, Bad}

@@ -13,10 +13,10 @@ use Rattle.listing.specs.Bytes.{Bytes}
 use Rattle.listing.specs.Expressions.{bind}
 use Rattle.listing.specs.Form.{Field, nextField, onePiece}
 use Rattle.listing.proofs.Splits.{split-has-part}
-use Rattle.reader.specs.Texts.{firstPiece, firstField, endsPiece, fieldsLeft, pieceEnd, fieldEnd, Within}
-use Rattle.reader.specs.Answers.{passed}
-use Rattle.reader.specs.declared.place.Place.{Place}
-use Rattle.reader.proofs.Places.{left-open, pieces-turn, pieces-last, field-last, before-slice, end-in}
+use Rattle.text_place.specs.Texts.{firstPiece, firstField, endsPiece, fieldsLeft, pieceEnd, fieldEnd, Within}
+use Rattle.text_place.specs.Places.{passed}
+use Rattle.text_place.specs.declared.place.Place.{Place}
+use Rattle.text_place.proofs.Places.{left-open, pieces-turn, pieces-last, field-last, before-slice, end-in}
 use Rattle.records.specs.Records.{endStop, endNext}
 use Rattle.records.proofs.Chain as chain
 use Rattle.trace.specs.Figures.{asBounded}

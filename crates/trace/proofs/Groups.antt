@@ -15,7 +15,7 @@ use Rattle.walk.specs.Instant.{Write}
 use Rattle.walk.specs.Calls.{inputsOf}
 use Rattle.walk.specs.Trace as W
 use Rattle.walk.specs.Trace.{script, withInput, joinInput}
-use Rattle.reader.specs.declared.place.Place.{Place}
+use Rattle.text_place.specs.declared.place.Place.{Place}
 use Rattle.trace.specs.Lines.{lineAnswer}
 use Rattle.trace.specs.Groups.{CallIs, NextIs, NextRead, Behind, keptOf, endedBy, putAt, Put, JoinsOn, Apart}
 use Rattle.trace.specs.declared.line.TraceLine.{TraceLine}

@@ -14,9 +14,9 @@ use Rattle.listing.specs.Bytes.{Bytes, readFigure}
 use Rattle.listing.specs.Expressions.{bind, when, alone}
 use Rattle.listing.specs.Form.{Field, nextField, noneLeft, onePiece, readLetter}
 use Rattle.walk.specs.Trace as W
-use Rattle.reader.specs.Texts.{fieldsLeft}
-use Rattle.reader.specs.declared.place.Place.{Place}
-use Rattle.reader.proofs.Places.{left-open}
+use Rattle.text_place.specs.Texts.{fieldsLeft}
+use Rattle.text_place.specs.declared.place.Place.{Place}
+use Rattle.text_place.proofs.Places.{left-open}
 use Rattle.records.specs.Records.{endStop, endNext}
 use Rattle.trace.specs.Fields.{pieceAnswer}
 use Rattle.trace.specs.Lines.{asTraceLine, restAnswer, lineAnswer}

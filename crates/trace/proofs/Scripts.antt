@@ -14,11 +14,11 @@ use Rattle.listing.specs.Questions.{closedLines, unclosed}
 use Rattle.listing.proofs.Splits.{split-has-part, split-at, split-free}
 use Rattle.walk.specs.Trace as W
 use Rattle.walk.specs.Trace.{script, scriptOf, withLine, readTraceLine}
-use Rattle.reader.specs.Texts.{before, firstLine, endsLine, lineEnd}
-use Rattle.reader.specs.Answers.{passed}
-use Rattle.reader.specs.declared.place.Place.{Place}
-use Rattle.reader.proofs.Texts.{cut-at, no-cut, before-free}
-use Rattle.reader.proofs.Places.{drop-past, past-in}
+use Rattle.text_place.specs.Texts.{before, firstLine, endsLine, lineEnd}
+use Rattle.text_place.specs.Places.{passed}
+use Rattle.text_place.specs.declared.place.Place.{Place}
+use Rattle.text_place.proofs.Texts.{cut-at, no-cut, before-free}
+use Rattle.text_place.proofs.Places.{drop-past, past-in}
 use Rattle.records.proofs.Lines.{closed-more}
 use Rattle.trace.specs.Lines.{asTraceLine, lineAnswer}
 use Rattle.trace.specs.Groups.{JoinsOn}

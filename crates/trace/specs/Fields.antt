@@ -6,9 +6,9 @@ use lib.Dec.{eqb}
 use lib.ListN.{getD, drop}
 use Rattle.listing.specs.Bytes.{Bytes, tab, space}
 use Rattle.listing.specs.Form.{nextField, onePiece}
-use Rattle.reader.specs.Texts.{fieldsLeft, pieceEnd, fieldEnd}
-use Rattle.reader.specs.Answers.{passed}
-use Rattle.reader.specs.declared.place.Place.{Place}
+use Rattle.text_place.specs.Texts.{fieldsLeft, pieceEnd, fieldEnd}
+use Rattle.text_place.specs.Places.{passed}
+use Rattle.text_place.specs.declared.place.Place.{Place}
 use Rattle.trace.specs.declared.field.OnePiece.{OnePiece}
 use Rattle.trace.specs.declared.field.OnePiece.the-variants as OV
 use Rattle.trace.specs.declared.field.Figure.{Figure}

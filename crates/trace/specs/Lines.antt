@@ -6,9 +6,9 @@ use lib.ListN.{getD, drop}
 use Rattle.listing.specs.Bytes.{Bytes}
 use Rattle.listing.specs.Form.{Field}
 use Rattle.walk.specs.Trace as W
-use Rattle.reader.specs.Texts.{firstLine, fieldsLeft, lineEnd}
-use Rattle.reader.specs.Answers.{passed}
-use Rattle.reader.specs.declared.place.Place.{Place}
+use Rattle.text_place.specs.Texts.{firstLine, fieldsLeft, lineEnd}
+use Rattle.text_place.specs.Places.{passed}
+use Rattle.text_place.specs.declared.place.Place.{Place}
 use Rattle.records.specs.Records.{endStop, endNext}
 use Rattle.trace.specs.declared.line.TraceLine.{TraceLine}
 use Rattle.trace.specs.declared.line.TraceLine.the-variants as LV

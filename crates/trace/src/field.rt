@@ -3,14 +3,14 @@ ghost use mathlib.Core.Path.{_≡_};
 ghost use Rattle.listing.specs.Expressions.{wordRange};
 ghost use Rattle.words.specs.Moments.{momentRange};
 ghost use Rattle.walk.specs.Trace.{readBelow, readSigned};
-ghost use Rattle.reader.specs.Texts.{Within};
+ghost use Rattle.text_place.specs.Texts.{Within};
 ghost use Rattle.trace.specs.Fields.{pieceAnswer, figureAnswer};
 use crate::figure::Bounded;
 use crate::figure::input_of;
 use crate::figure::moment_of;
 use crate::figure::value_of;
-use reader::Place;
-use reader::take_piece;
+use text_place::Place;
+use text_place::take_piece;
 
 // A field's one piece, from one offset up to another; the byte that closes the field, and the place past it.
 pub enum OnePiece {

@@ -4,8 +4,8 @@ ghost use Prim.Native.Nat.{_+_, _*_, _<_, _≤_};
 ghost use lib.ListN.{length};
 ghost use lib.Seq.{slice};
 ghost use Rattle.trace.specs.Figures.{momentAnswer, inputAnswer, valueAnswer, appended};
-use reader::is_digit;
-use reader::wide;
+use text_piece::is_digit;
+use text_piece::wide;
 
 // A number of so many bits, or none.
 pub enum Bounded {

@@ -5,7 +5,7 @@ ghost use lib.ListN.{length};
 ghost use Rattle.trace.specs.Groups.{endedBy, Put, JoinsIs, NextRead};
 use crate::line::TraceLine;
 use crate::line::read_trace_line;
-use reader::Place;
+use text_place::Place;
 
 // What is next in a trace.
 pub enum Next {

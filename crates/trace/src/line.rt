@@ -1,7 +1,7 @@
 // A line of the trace, from its letter to the line feed.
 ghost use mathlib.Core.Path.{_≡_};
 ghost use Rattle.walk.specs.Trace.{readInputLine, readLastLine};
-ghost use Rattle.reader.specs.Texts.{Within};
+ghost use Rattle.text_place.specs.Texts.{Within};
 ghost use Rattle.trace.specs.Lines.{restAnswer, lineAnswer};
 use crate::field::Figure;
 use crate::field::OnePiece;
@@ -9,7 +9,7 @@ use crate::field::input_field;
 use crate::field::one_piece;
 use crate::field::time_field;
 use crate::field::value_field;
-use reader::Place;
+use text_place::Place;
 
 // What a line says, the byte that closes it, 0 at the end of the text, and the place past it.
 pub enum TraceLine {

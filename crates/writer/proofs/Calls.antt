@@ -16,9 +16,9 @@ use Rattle.listing.specs.Form.{Field, nextField, readCall, readFork, oneTo, mos
 use Rattle.listing.specs.Questions.{argumentCount, callIsThere, isThere}
 use Rattle.listing.specs.Listing as L
 use Rattle.table.specs.Areas.{wordsOfEach, nameWords, callWords, cellWords, entryWords}
-use Rattle.reader.specs.Texts.{fieldsLeft, fieldEnd, fieldPieces, Within}
-use Rattle.reader.specs.declared.place.Place.{Place}
-use Rattle.reader.proofs.Places.{left-open}
+use Rattle.text_place.specs.Texts.{fieldsLeft, fieldEnd, fieldPieces, Within}
+use Rattle.text_place.specs.declared.place.Place.{Place}
+use Rattle.text_place.proofs.Places.{left-open}
 use Rattle.records.specs.Records.{endNext}
 use Rattle.records.proofs.Chain.{Got, first, got-of, next-shut, left-none}
 use Rattle.writer.specs.Calls.{WritesCall}

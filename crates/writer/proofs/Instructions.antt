@@ -16,8 +16,8 @@ use Rattle.listing.specs.Form.{Field, nextField, noneLeft, readNumber, readName
 use Rattle.listing.specs.Questions.{pieceIsThere, isThere}
 use Rattle.listing.specs.Listing as L
 use Rattle.table.specs.Areas.{wordsOfEach, pieceWords, nameWords, cellWords, entryWords}
-use Rattle.reader.specs.Texts.{fieldsLeft, fieldPieces, Within}
-use Rattle.reader.specs.declared.place.Place.{Place}
+use Rattle.text_place.specs.Texts.{fieldsLeft, fieldPieces, Within}
+use Rattle.text_place.specs.declared.place.Place.{Place}
 use Rattle.records.specs.Records.{endNext}
 use Rattle.records.proofs.Chain.{Got, first, next-shut, expression-length}
 use Rattle.cells.specs.Cells.{cellsOf, cellsAnswer, WritesCells}

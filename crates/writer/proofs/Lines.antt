@@ -12,11 +12,11 @@ use borrow.Author.Tests.{ne-eqb}
 use Rattle.listing.specs.Expressions.{alone}
 use Rattle.listing.specs.Form.{Field, onePiece, readEnd, readLetter, readByLetter, readRecord}
 use Rattle.listing.specs.Listing as L
-use Rattle.reader.specs.Texts.{firstPiece, endsPiece, fieldsLeft, pieceEnd, lineEnd, Within}
-use Rattle.reader.specs.Answers.{passed, takenAt}
-use Rattle.reader.specs.declared.place.Place.{Place}
-use Rattle.reader.specs.declared.place.Taken.{Taken}
-use Rattle.reader.proofs.Places.{before-slice}
+use Rattle.text_place.specs.Texts.{firstPiece, endsPiece, fieldsLeft, pieceEnd, lineEnd, Within}
+use Rattle.text_place.specs.Places.{passed, takenAt}
+use Rattle.text_place.specs.declared.place.Place.{Place}
+use Rattle.text_place.specs.declared.place.Taken.{Taken}
+use Rattle.text_place.proofs.Places.{before-slice}
 use Rattle.records.specs.Records.{endNext}
 use Rattle.openings.specs.Lines.{wordsAfter, Good, lineOf, heldFor, Writes, restAt, WritesRest, lineAt, WritesLine}
 use Rattle.openings.specs.declared.line.WrittenLine.{WrittenLine}

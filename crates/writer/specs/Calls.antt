@@ -5,8 +5,8 @@ use Prim.Native.Nat.{ℕ, _+_, _-_, _≤_}
 use lib.ListN.{length, set}
 use lib.Seq.{sets}
 use Rattle.listing.specs.Bytes.{Bytes}
-use Rattle.reader.specs.Texts.{fieldPieces, Within}
-use Rattle.reader.specs.declared.place.Place.{Place}
+use Rattle.text_place.specs.Texts.{fieldPieces, Within}
+use Rattle.text_place.specs.declared.place.Place.{Place}
 use Rattle.cells.specs.Cells.{cellsOf, cellsAnswer}
 use Rattle.cells.specs.declared.cell.Cells.{Cells}
 

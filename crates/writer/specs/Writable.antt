@@ -3,8 +3,8 @@ use mathlib.Core.List.{List}
 use Prim.Native.Nat.{ℕ, _≤_}
 use lib.ListN.{length}
 use Rattle.table.specs.Areas.{tableSize}
-use Rattle.reader.specs.Texts.{Within}
-use Rattle.reader.specs.declared.place.Place.{Place}
+use Rattle.text_place.specs.Texts.{Within}
+use Rattle.text_place.specs.declared.place.Place.{Place}
 
 -- "listing 49,152 bytes"; and the line is one that reads well
 abbrev pub Writable : List ℕ → Place → ℕ → ℕ → Type 0 → Type 0

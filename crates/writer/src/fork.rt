@@ -2,7 +2,7 @@
 ghost use Prim.Native.Nat.{_≤_};
 ghost use lib.ListN.{length};
 ghost use Rattle.listing.specs.Form.{readFork};
-ghost use Rattle.reader.specs.Texts.{Within};
+ghost use Rattle.text_place.specs.Texts.{Within};
 ghost use Rattle.writer.specs.Calls.{WritesCall};
 ghost use Rattle.writer.specs.Writable.{Writable};
 ghost use Rattle.openings.specs.Lines.{Good, restAt, WritesRest};
@@ -12,8 +12,8 @@ use cells::put::put;
 use cells::put::put_entry;
 use openings::Holds;
 use openings::WrittenLine;
-use reader::Place;
 use table::FORK;
+use text_place::Place;
 
 // The cells of a child field: a head of its number of arguments and its routine, then the arguments' names.
 fn write_call(s: &[u8], t: &mut [u32], place: Place, a: usize) -> Cells

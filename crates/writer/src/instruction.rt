@@ -7,13 +7,13 @@ use cells::put::put_entry;
 use cells::word::word_field;
 use openings::Holds;
 use openings::WrittenLine;
-use reader::Place;
 use table::ASSIGN;
 use table::BRANCH;
 use table::END;
 use table::JUMP;
 use table::SCHEDULE;
 use table::WAIT;
+use text_place::Place;
 
 // Document 01: "`S|n|e` writes expression e to name n."
 pub fn write_assign(

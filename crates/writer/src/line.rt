@@ -12,8 +12,8 @@ use crate::instruction::write_wait;
 use openings::WrittenLine;
 use openings::opens::hold_opens;
 use openings::opens::hold_ports;
-use reader::Place;
-use reader::take_piece;
+use text_place::Place;
+use text_place::take_piece;
 
 // The fields after a line's letter. By question 2 the letter that is left is `E`.
 fn write_rest(

@@ -8,8 +8,8 @@ use native.Mathlib.Numerals.{add-one}
 use lib.ListN.{length, drop, getD}
 use borrow.Author.Tests.{eq-eqb, ne-eqb}
 use borrow.Author.Needs.{needs}
-use Rattle.reader.specs.Texts.{before, endsLine, lineEnd}
-use Rattle.reader.proofs.Texts as texts
+use Rattle.text_place.specs.Texts.{before, endsLine, lineEnd}
+use Rattle.text_place.proofs.Texts as texts
 use Rattle.explain.proofs.line.line_end.Statement.{statement}
 use Rattle.explain.proofs.line.line_end.Tie as tie
 

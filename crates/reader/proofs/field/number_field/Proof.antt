@@ -6,10 +6,11 @@ use lib.ListN.{drop, getD}
 use lib.Seq.{slice}
 use Rattle.reader.proofs.field.number_field.Statement.{statement}
 use Rattle.reader.proofs.field.number_field.Tie as tie
-use Rattle.reader.specs.Texts.{firstPiece, endsPiece, pieceEnd}
-use Rattle.reader.specs.Answers.{passed, takenAt, figureAnswer}
-use Rattle.reader.specs.declared.place.Taken.{Taken}
-use Rattle.reader.proofs.Places as places
+use Rattle.text_place.specs.Texts.{firstPiece, endsPiece, pieceEnd}
+use Rattle.text_place.specs.Places.{passed, takenAt}
+use Rattle.text_piece.specs.Pieces.{figureAnswer}
+use Rattle.text_place.specs.declared.place.Taken.{Taken}
+use Rattle.text_place.proofs.Places as places
 use Rattle.reader.proofs.Numbers as numbers
 use Rattle.reader.specs.declared.field.Number.the-variants as NV
 use borrow.Author.Needs.{needs}

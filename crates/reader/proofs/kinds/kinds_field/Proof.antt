@@ -6,10 +6,11 @@ use lib.ListN.{drop, getD}
 use lib.Seq.{slice}
 use Rattle.reader.proofs.kinds.kinds_field.Statement.{statement}
 use Rattle.reader.proofs.kinds.kinds_field.Tie as tie
-use Rattle.reader.specs.Texts.{firstPiece, endsPiece, pieceEnd}
-use Rattle.reader.specs.Answers.{takenAt, kindsAnswer}
-use Rattle.reader.specs.declared.place.Taken.{Taken}
-use Rattle.reader.proofs.Places as places
+use Rattle.text_place.specs.Texts.{firstPiece, endsPiece, pieceEnd}
+use Rattle.text_place.specs.Places.{takenAt}
+use Rattle.reader.specs.Fields.{kindsAnswer}
+use Rattle.text_place.specs.declared.place.Taken.{Taken}
+use Rattle.text_place.proofs.Places as places
 use Rattle.reader.proofs.Letters as kinds
 use Rattle.reader.specs.declared.kinds.KindsField.the-variants as KFV
 use borrow.Author.Needs.{needs}

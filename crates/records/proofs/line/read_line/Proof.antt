@@ -4,10 +4,10 @@ use mathlib.Core.Path.{_≡_, sym, ap, _∙_}
 use native.Mathlib.Omega.{arith}
 use lib.ListN.{take, getD}
 use Rattle.listing.specs.Form.{readByLetter}
-use Rattle.reader.specs.Texts.{endsPiece, pieceEnd}
-use Rattle.reader.specs.Answers.{passed, takenAt}
-use Rattle.reader.specs.declared.place.Taken.{Taken}
-use Rattle.reader.proofs.Places as places
+use Rattle.text_place.specs.Texts.{endsPiece, pieceEnd}
+use Rattle.text_place.specs.Places.{passed, takenAt}
+use Rattle.text_place.specs.declared.place.Taken.{Taken}
+use Rattle.text_place.proofs.Places as places
 use Rattle.records.specs.Records.{standIns, restAnswer}
 use Rattle.records.proofs.Letters as letters
 use borrow.Author.Needs.{needs}

@@ -4,7 +4,7 @@ use mathlib.Core.Path.{refl, sym, _∙_}
 use Prim.Native.Nat.{_≤_}
 use native.Mathlib.Omega.{arith}
 use lib.ListN.{length}
-use Rattle.reader.specs.Answers.{cap}
+use Rattle.text_piece.specs.Pieces.{cap}
 use Rattle.records.proofs.Chain as chain
 use Prim.Native.Nat.{_-_}
 use lib.ListN.{take, length-take}

@@ -3,9 +3,9 @@ use denote.Ref.{now}
 use mathlib.Core.Path.{_≡_, sym, ap, _∙_}
 use lib.ListN.{getD}
 use borrow.Author.Needs.{needs}
-use Rattle.reader.specs.Texts.{pieceEnd}
-use Rattle.reader.specs.Answers.{takenAt}
-use Rattle.reader.specs.declared.place.Taken.{Taken}
+use Rattle.text_place.specs.Texts.{pieceEnd}
+use Rattle.text_place.specs.Places.{takenAt}
+use Rattle.text_place.specs.declared.place.Taken.{Taken}
 use Rattle.trace.specs.declared.field.OnePiece.the-variants as OV
 use Rattle.trace.proofs.Fields as fields
 use Rattle.trace.proofs.field.one_piece.Statement.{statement}

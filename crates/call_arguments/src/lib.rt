@@ -10,11 +10,11 @@ ghost use Rattle.table.specs.Decode.{tableListing};
 ghost use Rattle.machine.specs.Due.{dueAt};
 ghost use Rattle.call_arguments.specs.Asked.{longEnough, numbersRise};
 use machine::MACHINE_WORDS;
-use machine_words::number;
 use table::INPUTS;
 use table::OUTPUTS;
 use table::TABLE_WORDS;
 use words::Moment;
+use words::number;
 
 const OUTPUT_PLACES: usize = 16;
 

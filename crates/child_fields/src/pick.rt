@@ -1,6 +1,6 @@
 // The child field that made a record, looked for among those that may still come.
 use crate::routines::head_after;
-use machine_words::number;
+use words::number;
 ghost use mathlib.Core.Path.{_≡_};
 ghost use Rattle.table.specs.Areas.{TableLong};
 ghost use Rattle.child_fields.specs.Tables.{HeadsFit};

@@ -1,6 +1,5 @@
 // What a table says of a routine: the variables it owns, the instruction at a place, the heads of its child fields.
 
-use machine_words::number;
 use table::CELLS_AT;
 use table::ENTRIES;
 use table::ENTRY_WORDS;
@@ -11,6 +10,7 @@ use table::LOCALS;
 use table::ROUTINE_WORDS;
 use table::ROUTINES;
 use table::SIZE;
+use words::number;
 ghost use mathlib.Core.Path.{_≡_};
 ghost use Prim.Native.Nat.{ℕ, _+_, _*_, _<_, _≤_};
 ghost use Rattle.table.specs.Areas.{TableLong};

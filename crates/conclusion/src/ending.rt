@@ -10,9 +10,9 @@ ghost use Rattle.conclusion.specs.Conclusions.{Concludes, MayFinish, Fin
 use crate::answers::Answer;
 use crate::answers::Due;
 use crate::answers::Figures;
-use machine_words::number;
 use run::Ran;
 use words::Moment;
+use words::number;
 
 // A moment due is at least 1, so 0 means none.
 fn due_at(soonest: u64) -> Due

@@ -12,7 +12,7 @@ ghost use Rattle.engine_wake.specs.Wakes.{wakes, triggeredFrom, goesFirs
 use machine::FIRST_TRIGGERS;
 use machine::NEXT_TRIGGERS;
 use ready::ReadyList;
-use triggers::number;
+use words::number;
 
 // Slot s put into the ready list, if it sleeps and its lowest priority is `from` or above.
 fn wake_one(m: &[u32], q: ReadyList, s: usize, from: u64) -> ReadyList

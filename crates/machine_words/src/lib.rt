@@ -32,13 +32,6 @@ fn wide(x: u32) -> u64
     x as u64
 }
 
-// A word as a number to count or to address with.
-pub fn number(x: u32) -> usize
-    ensures { λ r. ⌜ (r ≡ x) × (r < 4294967296) ⌝ }
-{
-    x as usize
-}
-
 // The moment in the two words from `at` on, the low half first: bare, since 0 stands for none in a variable's words.
 fn moment_at(m: &[u32], at: usize) -> u64
     requires { ⌜ at + 1 < length (now m) ⌝ }

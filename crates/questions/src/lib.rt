@@ -16,10 +16,10 @@ use call_arguments::due_before;
 use call_arguments::long_enough;
 use call_arguments::numbers_rise;
 use machine::MACHINE_WORDS;
-use machine_words::number;
 use question7::MachineCheck;
 use table::INPUTS;
 use words::Moment;
+use words::number;
 
 // 7 and 8 of a machine.
 pub fn machine_refusal(table: &[u32], machine: &[u32]) -> u32

@@ -22,6 +22,7 @@ pub use whole::Ran;
 pub use whole::run_on;
 pub use whole::run_ready;
 use words::Moment;
+use words::number;
 
 // The instruction whose entry was read, executed. The cases are those of its number in the table.
 fn execute(t: &[u32], m: &mut [u32], present: Moment, running: Running, entry: Entry) -> Stepped
@@ -73,10 +74,4 @@ pub fn step(t: &[u32], m: &mut [u32], present: Moment, running: Running) -> Step
     let place = number(blocks::place(m, me));
     let entry = table_read::fetch(t, routine, place);
     execute(t, m, present, running, entry)
-}
-
-fn number(x: u32) -> usize
-    ensures { λ r. ⌜ r ≡ x ⌝ }
-{
-    x as usize
 }

@@ -14,7 +14,7 @@ use machine::LIVE;
 use machine::ORDER;
 use machine::OWN;
 use machine::PLACE;
-use machine_words::number;
+use words::number;
 ghost use mathlib.Core.Path.{_≡_};
 ghost use Prim.Native.Nat.{_+_, _<_, _≤_};
 ghost use lib.ListN.{length, getD};

@@ -25,15 +25,10 @@ use table::FIRST_ENTRY;
 use table::KIND;
 use table::ROUTINE_WORDS;
 use table::ROUTINES;
+use words::number;
 
 // The number of an instruction's kind in the table: `W`.
 const WAIT: usize = 5;
-
-pub fn number(x: u32) -> usize
-    ensures { λ r. ⌜ (r ≡ x) × (r < 4294967296) ⌝ }
-{
-    x as usize
-}
 
 // A word of the table; there is 0 past its end.
 fn table_word(t: &[u32], address: usize) -> usize

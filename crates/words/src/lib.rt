@@ -10,6 +10,7 @@ pub use moment::Later;
 pub use moment::Moment;
 pub use moment::later_moment;
 pub use word::is_positive;
+pub use word::number;
 pub use word::signed_less;
 pub use word::wrapping_add;
 pub use word::wrapping_multiply;

@@ -1,5 +1,6 @@
 // Arithmetic of words, each of which stands for a signed number. Document 01: "Sums, differences and products wrap at 32
 // bits, two's complement; `<` gives 1 or 0."
+ghost use Prim.Native.Nat.{_<_};
 ghost use mathlib.Core.Path.{_≡_};
 ghost use Rattle.words.specs.Words.{wrappingAdd, wrappingSubtract, wrappingMultiply, bit, signedLess, isPositive};
 
@@ -38,6 +39,13 @@ pub fn signed_less(a: u32, b: u32) -> u32
     let x = wrapping_add(a, HALF);
     let y = wrapping_add(b, HALF);
     if x < y { 1 } else { 0 }
+}
+
+// A word as a number to count or to address with.
+pub fn number(x: u32) -> usize
+    ensures { λ r. ⌜ (r ≡ x) × (r < 4294967296) ⌝ }
+{
+    x as usize
 }
 
 // Whether d's number is at least 1, as a delay has to be.

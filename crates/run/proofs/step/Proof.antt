@@ -23,16 +23,16 @@ fetch-requires : tie.Need-fetch-requires
 fetch-requires c κs =
     let a = c .before .before .before .before .before .before .before .before .args in
     let row = rowsOf (now (a .m)) (a .running .me) in
-    let routine : c .before .before .before .number .result ≡ row .routine = c .before .before .before .number .ensures ∙ c .before .before .before .before .routine .ensures in
-    let place : c .number2 .result ≡ row .place = c .number2 .ensures ∙ c .before .place .ensures in
+    let routine : c .before .before .before .number .result ≡ row .routine = c .before .before .before .number .ensures .0 ∙ c .before .before .before .before .routine .ensures in
+    let place : c .number2 .result ≡ row .place = c .number2 .ensures .0 ∙ c .before .place .ensures in
     (c .before .before .before .before .before .before .before .before .pre .table, rw routine (c .before .before .before .before .before .before .before .before .pre .routine), rw (place, routine) (c .before .before .before .before .before .before .before .before .pre .place))
 
 execute-requires : tie.Need-execute-requires
 execute-requires c κs =
     let a = c .before .before .before .before .before .before .before .before .before .before .args in
     let row = rowsOf (now (a .m)) (a .running .me) in
-    let routine : c .before .before .before .before .before .number .result ≡ row .routine = c .before .before .before .before .before .number .ensures ∙ c .before .before .before .before .before .before .routine .ensures in
-    let place : c .before .before .number2 .result ≡ row .place = c .before .before .number2 .ensures ∙ c .before .before .before .place .ensures in
+    let routine : c .before .before .before .before .before .number .result ≡ row .routine = c .before .before .before .before .before .number .ensures .0 ∙ c .before .before .before .before .before .before .routine .ensures in
+    let place : c .before .before .number2 .result ≡ row .place = c .before .before .number2 .ensures .0 ∙ c .before .before .before .place .ensures in
     (c .before .before .before .before .before .before .before .before .before .before .pre, rw (routine, place) at (c .before .fetch .ensures .1))
 
 same-length : tie.Need-same-length

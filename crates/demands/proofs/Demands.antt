@@ -182,7 +182,7 @@ pub the-pieces-printed-are-the-session : (listing trace : Bytes) (m m′ : Memor
 the-pieces-printed-are-the-session listing trace m m′ n bytes made = Ending.steps-print made
 
 pub every-session-ends : (listing trace : Bytes) (call : Memories → Phase → Called) → KeepsContract listing trace call → (m : Memories) → areLong m ≡ true →
-    (n : ℕ) → stepsAtMost trace ≤ n → AllPrinted listing trace (afterCalls call m n)
+    (n : ℕ) → stepsAtMost ≤ n → AllPrinted listing trace (afterCalls call m n)
 every-session-ends = Ending.a-session-ends
 
 -- "14 At `F`: live routines plus new children at most 64?": where the counter is the true number, 14 asks about this routine, the others and the

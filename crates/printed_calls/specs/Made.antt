@@ -36,18 +36,25 @@ pub data ResultPrinted (result : Result) (now t : ℕ) (numbers values before af
       Begins before (writeLines (eventsAt t (inputsOf (take (result .listed) numbers) (take (result .listed) values)))) after n →
       clock .now ≡ t → dueOf (clock .due) ≡ result .due → ResultPrinted result now t numbers values before after (Went clock n)
 
--- A call with outcome o, at t from the moment `now`: its result and all lent memories are what the engine promises, and its result is printed.
-pub record CallMade (o : Outcome) (now t : ℕ) (table machine numbers values out machine′ numbers′ values′ out′ : List ℕ) (made : Made) : Type 0 where
+-- A call at t from the moment `now`, whose outcome o depends on the two lists of 16 outputs that the engine is lent (they are local to the call): its result and all lent
+-- memories are what the engine promises, and its result is printed.
+pub record CallMade (o : List ℕ → List ℕ → Outcome) (now t : ℕ) (table machine out machine′ out′ : List ℕ) (made : Made) : Type 0 where
+  pub numbers : List ℕ
+  pub values : List ℕ
+  pub numbers′ : List ℕ
+  pub values′ : List ℕ
+  pub numbers-long : 16 ≤ length numbers
+  pub values-long : 16 ≤ length values
   pub result : Result
-  pub promise : Keeps layout table machine numbers values machine′ numbers′ values′ o result
+  pub promise : Keeps layout table machine numbers values machine′ numbers′ values′ (o numbers values) result
   pub words : Words32 machine′
   pub prints : ResultPrinted result now t numbers′ values′ out out′ made
 
 -- The start, "allowance 10,000".
-abbrev pub StartMade : List ℕ → List ℕ → List ℕ → List ℕ → List ℕ → List ℕ → List ℕ → List ℕ → List ℕ → Made → Type 0
-StartMade table machine numbers values = CallMade (startCall layout table machine numbers values sessionAllowance) 0 0 table machine numbers values
+abbrev pub StartMade : List ℕ → List ℕ → List ℕ → List ℕ → List ℕ → Made → Type 0
+StartMade table machine = CallMade (λ (numbers values : List ℕ). startCall layout table machine numbers values sessionAllowance) 0 0 table machine
 
 -- The instant at t with these inputs, after the moment `now`.
-abbrev pub InstantMade : ℕ → ℕ → List ℕ → List ℕ → List ℕ → List ℕ → List ℕ → List ℕ → List ℕ → List ℕ → List ℕ → List ℕ → List ℕ → Made → Type 0
-InstantMade now t inNumbers inValues table machine numbers values =
-    CallMade (instantCall layout table machine t inNumbers inValues numbers values sessionAllowance) now t table machine numbers values
+abbrev pub InstantMade : ℕ → ℕ → List ℕ → List ℕ → List ℕ → List ℕ → List ℕ → List ℕ → List ℕ → Made → Type 0
+InstantMade now t inNumbers inValues table machine =
+    CallMade (λ (numbers values : List ℕ). instantCall layout table machine t inNumbers inValues numbers values sessionAllowance) now t table machine

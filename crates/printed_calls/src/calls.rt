@@ -113,20 +113,22 @@ pub fn print_answer(
     Made::Went(Clock { now: time, due }, n)
 }
 
-// The start.
-pub fn make_start(
-    table: &[u32],
-    machine: &mut [u32],
-    out_numbers: &mut [u32],
-    out_values: &mut [u32],
-    out: &mut [u8],
-) -> Made
-    requires { ⌜ (12288 ≤ length (now table)) × (12288 ≤ length (now machine)) × (length (now «out_numbers») ≡ 16) × (length (now «out_values») ≡ 16) × (1100 ≤ length (now out)) ⌝ }
-    ensures { λ r. ⌜ StartMade (now (table .entry)) (now (machine .entry)) (now («out_numbers» .entry)) (now («out_values» .entry)) (now (out .entry))
-        (now (machine .exit)) (now («out_numbers» .exit)) (now («out_values» .exit)) (now (out .exit)) r ⌝ }
+// The outputs that a call lists: they are local to it, printed and then forgotten.
+fn outputs() -> [u32; 16]
+    ensures { λ r. ⌜ 16 ≡ length r ⌝ }
 {
-    let answer = start(table, machine, out_numbers, out_values, ALLOWANCE);
-    print_answer(answer, 0, 0, out_numbers, out_values, out)
+    [0; 16]
+}
+
+// The start.
+pub fn make_start(table: &[u32], machine: &mut [u32], out: &mut [u8]) -> Made
+    requires { ⌜ (12288 ≤ length (now table)) × (12288 ≤ length (now machine)) × (1100 ≤ length (now out)) ⌝ }
+    ensures { λ r. ⌜ StartMade (now (table .entry)) (now (machine .entry)) (now (out .entry)) (now (machine .exit)) (now (out .exit)) r ⌝ }
+{
+    let mut numbers = outputs();
+    let mut values = outputs();
+    let answer = start(table, machine, &mut numbers, &mut values, ALLOWANCE);
+    print_answer(answer, 0, 0, &numbers, &values, out)
 }
 
 // The instant at a time with so many of these inputs, after the present moment. Here, at the session's boundary, a number is made a moment.
@@ -135,28 +137,27 @@ pub fn make_instant(
     machine: &mut [u32],
     present: u64,
     time: u64,
-    numbers: &[u32],
-    values: &[u32],
+    in_numbers: &[u32],
+    in_values: &[u32],
     count: usize,
-    out_numbers: &mut [u32],
-    out_values: &mut [u32],
     out: &mut [u8],
 ) -> Made
-    requires { ⌜ (12288 ≤ length (now table)) × (12288 ≤ length (now machine)) × (count ≤ length (now numbers)) × (count ≤ length (now values))
-        × (length (now «out_numbers») ≡ 16) × (length (now «out_values») ≡ 16) × (1100 ≤ length (now out)) ⌝ }
-    ensures { λ r. ⌜ InstantMade present time (take count (now (numbers .entry))) (take count (now (values .entry)))
-        (now (table .entry)) (now (machine .entry)) (now («out_numbers» .entry)) (now («out_values» .entry)) (now (out .entry))
-        (now (machine .exit)) (now («out_numbers» .exit)) (now («out_values» .exit)) (now (out .exit)) r ⌝ }
+    requires { ⌜ (12288 ≤ length (now table)) × (12288 ≤ length (now machine)) × (count ≤ length (now «in_numbers»)) × (count ≤ length (now «in_values»))
+        × (1100 ≤ length (now out)) ⌝ }
+    ensures { λ r. ⌜ InstantMade present time (take count (now («in_numbers» .entry))) (take count (now («in_values» .entry)))
+        (now (table .entry)) (now (machine .entry)) (now (out .entry)) (now (machine .exit)) (now (out .exit)) r ⌝ }
 {
+    let mut numbers = outputs();
+    let mut values = outputs();
     let answer = instant(
         table,
         machine,
         Moment(time),
-        &numbers[..count],
-        &values[..count],
-        out_numbers,
-        out_values,
+        &in_numbers[..count],
+        &in_values[..count],
+        &mut numbers,
+        &mut values,
         ALLOWANCE,
     );
-    print_answer(answer, present, time, out_numbers, out_values, out)
+    print_answer(answer, present, time, &numbers, &values, out)
 }

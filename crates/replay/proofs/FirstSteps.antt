@@ -1,10 +1,10 @@
--- The steps that make no engine call: loading, and reading on in the trace. Letters: l the listing, s the state, e an equation.
+-- The step that makes no engine call: loading. Letters: l the listing, e an equation.
 use mathlib.Core.Path.{_≡_, refl, sym, ap, subst, _∙_}
-use mathlib.Core.Bool.{Bool, true}
+use mathlib.Core.Bool.{true}
 use mathlib.Core.List.{List, [], _∷_, _++_}
 use Prim.Native.Nat.{ℕ, _≤_, _<_}
 use native.Mathlib.Omega.{arith}
-use lib.ListN.{length, take, drop}
+use lib.ListN.{length, take}
 use borrow.Author.Tests.{lt-ltb, le-ltb, le-leb}
 use Rattle.listing.specs.Bytes.{Bytes}
 use Rattle.listing.specs.Limits.{byteLimit}
@@ -13,24 +13,19 @@ use Rattle.listing.specs.Questions.{listingIn}
 use Rattle.listing.specs.Load.{Loading, loading}
 use Rattle.listing.specs.Load as Load
 use Rattle.walk.specs.Calls.{laterWords}
-use Rattle.walk.specs.Trace.{script, lastAt, broken}
 use Rattle.walk.specs.Promises.{LoadPromise, TableAfter, untouched, holds}
-use Rattle.walk.specs.Session.{printed, writeLines, endOf, endLine, play, session, sessionOf, beforeLoading, onLoading}
+use Rattle.walk.specs.Session.{printed, writeLines, endOf, endLine, session, sessionOf, beforeLoading, onLoading}
 use Rattle.layout.specs.Layout.{layout}
 use Rattle.loader.specs.Outcome.{outcomeOf}
 use Rattle.loader.specs.declared.answer.Loaded.{Loaded}
 use Rattle.loader.specs.declared.answer.Loaded.the-variants as Loaded
-use Rattle.trace.specs.Groups.{CallIs, NextRead}
-use Rattle.trace.specs.declared.group.Next.{Next}
-use Rattle.trace.specs.declared.group.Next.the-variants as Next
-use Rattle.replay.specs.Standing.{Stands, opening, starting, reading, toward, until, Left}
+use Rattle.replay.specs.Standing.{Stands, opening, starting, Left}
 use Rattle.replay.specs.After.{EndsWith, silent}
-use Rattle.replay.specs.Phases.{Loads, FromOpening, FromReading}
+use Rattle.replay.specs.Phases.{Loads, FromOpening}
 use Rattle.replay.specs.Phases as phases
 use Rattle.replay.specs.Advancing.{Steps}
-use Rattle.printed_calls.specs.declared.calls.Clock.{Clock}
 use Rattle.replay.specs.declared.phase.Phase.{Phase}
-use Rattle.replay.specs.declared.phase.Phase.the-variants.{Opening, Starting, Reading, Toward, Until, Over}
+use Rattle.replay.specs.declared.phase.Phase.the-variants.{Opening, Starting}
 use Rattle.replay.specs.declared.phase.Step.{Step}
 use Rattle.replay.proofs.Stepping.{ends-steps}
 
@@ -39,110 +34,46 @@ take-none [] = refl
 take-none (x ∷ xs) = refl
 
 -- Nothing was printed: all is still to be printed.
-still-left : (listing trace table machine numbers values : List ℕ) (phase : Phase) (bytes : Bytes) (out : List ℕ) → Stands listing trace table machine numbers values phase bytes →
-    Left listing trace table machine numbers values phase bytes (take 0 out)
-still-left listing trace table machine numbers values phase bytes out h = record { rest = bytes; parts = ap (λ (piece : Bytes). piece ++ bytes) (sym (take-none out)); stands = h }
-
--- ── the trace from an offset on ───────────────────────────────────────────────────────────────────
-module _ (listing trace table machine numbers values out : List ℕ) (clock : Clock) (at : ℕ) where
-  past-end-steps : length trace < at →
-      Steps listing trace table machine numbers values (Reading clock at) table machine numbers values out (record { phase = Over; printed = 0 })
-  past-end-steps past = record { room = omega arith; prints = go }
-    where
-      go : (bytes : Bytes) → Stands listing trace table machine numbers values (Reading clock at) bytes → Left listing trace table machine numbers values Over bytes (take 0 out)
-      go bytes (reading short runs inside e) = absurd (let y : ⊥ = omega arith in y)
-
-module _ (listing trace table machine numbers values numbers′ values′ out : List ℕ) (clock : Clock) (at : ℕ) where
-  call-read-steps : (time count next : ℕ) → CallIs trace at numbers′ values′ time count next →
-      Steps listing trace table machine numbers values (Reading clock at) table machine numbers′ values′ out (record { phase = Toward clock time count next; printed = 0 })
-  call-read-steps time count next reads = record { room = omega arith; prints = go }
-    where
-      go : (bytes : Bytes) → Stands listing trace table machine numbers values (Reading clock at) bytes →
-          Left listing trace table machine numbers′ values′ (Toward clock time count next) bytes (take 0 out)
-      go bytes (reading {l = l} {s = s} short runs within e) =
-          still-left listing trace table machine numbers′ values′ (Toward clock time count next) bytes out (toward short runs (reads .inputs) (reads .kept) (reads .few) (reads .inside) (e ∙ rw (reads .is)))
-
-  last-read-steps : (time : ℕ) (nothingAfter : Bool) → script (drop at trace) ≡ lastAt time nothingAfter →
-      Steps listing trace table machine numbers values (Reading clock at) table machine numbers′ values′ out (record { phase = Until clock time nothingAfter; printed = 0 })
-  last-read-steps time nothingAfter is = record { room = omega arith; prints = go }
-    where
-      go : (bytes : Bytes) → Stands listing trace table machine numbers values (Reading clock at) bytes →
-          Left listing trace table machine numbers′ values′ (Until clock time nothingAfter) bytes (take 0 out)
-      go bytes (reading {l = l} {s = s} short runs within e) =
-          still-left listing trace table machine numbers′ values′ (Until clock time nothingAfter) bytes out (until short runs (e ∙ rw is))
-
-  broken-is : script (drop at trace) ≡ broken → (bytes : Bytes) → Stands listing trace table machine numbers values (Reading clock at) bytes → bytes ≡ endLine 2 (clock .now)
-  unfolding printed writeLines endOf play
-  broken-is is bytes (reading {l = l} {s = s} short runs within e) = e ∙ rw (is, runs .present)
-
--- What was read.
-module _ (trace numbers values out : List ℕ) (clock : Clock) (at : ℕ) (numbers′ values′ : List ℕ) (read : Next) (is : NextRead trace at numbers values numbers′ values′ read) where
-  read-as : (x : Next) → read ≡ x → NextRead trace at numbers values numbers′ values′ x
-  read-as x e = subst (λ (y : Next). NextRead trace at numbers values numbers′ values′ y) e is
-
-  pub read-call : (time count next : ℕ) → read ≡ Next.Call time count next → FromReading trace numbers values out clock at numbers′ values′ out (silent (Toward clock time count next))
-  read-call time count next e =
-      let r = read-as (Next.Call time count next) e in
-      phases.FromReading.call {time = time} {count = count} {next = next} (r .is) (r .numbers-stay .size) (r .values-stay .size) (r .numbers-stay .behind) (r .values-stay .behind) refl refl
-
-  pub read-last : (time : ℕ) (nothingAfter : Bool) → read ≡ Next.Last time nothingAfter →
-      FromReading trace numbers values out clock at numbers′ values′ out (silent (Until clock time nothingAfter))
-  read-last time nothingAfter e =
-      let r = read-as (Next.Last time nothingAfter) e in
-      phases.FromReading.last {time = time} {nothingAfter = nothingAfter} (r .is) (r .numbers-stay .behind) (r .values-stay .behind) refl refl
-
-  pub read-broken : (out′ : List ℕ) (step : Step) → read ≡ Next.Broken → EndsWith out 2 (clock .now) out′ step → FromReading trace numbers values out clock at numbers′ values′ out′ step
-  read-broken out′ step e ends = let r = read-as Next.Broken e in phases.FromReading.breaks (r .is) (r .numbers-stay .behind) (r .values-stay .behind) ends
-
--- The whole step.
-module _ (listing trace table machine numbers values out numbers′ values′ out′ : List ℕ) (clock : Clock) (at : ℕ) (step : Step) where
-  pub reading-steps : FromReading trace numbers values out clock at numbers′ values′ out′ step →
-      Steps listing trace table machine numbers values (Reading clock at) table machine numbers′ values′ out′ step
-  reading-steps (phases.FromReading.past-end past n v o s) = rw (n, v, s) (past-end-steps listing trace table machine numbers values out′ clock at past)
-  reading-steps (phases.FromReading.call {time} {count} {next} reads ln lv bn bv o s) =
-      rw s (call-read-steps listing trace table machine numbers values numbers′ values′ out′ clock at time count next reads)
-  reading-steps (phases.FromReading.last {time} {nothingAfter} is n v o s) =
-      rw s (last-read-steps listing trace table machine numbers values numbers′ values′ out′ clock at time nothingAfter is)
-  reading-steps (phases.FromReading.breaks is n v e) =
-      ends-steps listing trace table machine numbers values (Reading clock at) table machine numbers′ values′ out out′ 2 (clock .now) step e
-      (broken-is listing trace table machine numbers values numbers′ values′ out′ clock at is)
+still-left : (listing trace table machine : List ℕ) (phase : Phase) (bytes : Bytes) (out : List ℕ) → Stands listing trace table machine phase bytes →
+    Left listing trace table machine phase bytes (take 0 out)
+still-left listing trace table machine phase bytes out h = record { rest = bytes; parts = ap (λ (piece : Bytes). piece ++ bytes) (sym (take-none out)); stands = h }
 
 -- ── loading ───────────────────────────────────────────────────────────────────────────────────────
-module _ (listing trace table machine numbers values : List ℕ) where
-  long-listing-is : byteLimit < length listing → (bytes : Bytes) → Stands listing trace table machine numbers values Opening bytes → bytes ≡ endLine 3 0
+module _ (listing trace table machine : List ℕ) where
+  long-listing-is : byteLimit < length listing → (bytes : Bytes) → Stands listing trace table machine Opening bytes → bytes ≡ endLine 3 0
   unfolding session sessionOf beforeLoading printed writeLines endOf
   long-listing-is h bytes (opening e) = e ∙ rw (lt-ltb byteLimit (length listing) h)
 
-  long-trace-is : length listing ≤ byteLimit → byteLimit < length trace → (bytes : Bytes) → Stands listing trace table machine numbers values Opening bytes → bytes ≡ endLine 2 0
+  long-trace-is : length listing ≤ byteLimit → byteLimit < length trace → (bytes : Bytes) → Stands listing trace table machine Opening bytes → bytes ≡ endLine 2 0
   unfolding session sessionOf beforeLoading printed writeLines endOf
   long-trace-is short h bytes (opening e) = e ∙ rw (le-ltb byteLimit (length listing) short, lt-ltb byteLimit (length trace) h)
 
-module _ (listing trace table table′ machine numbers values out out′ : List ℕ) (step : Step) (listing-short : length listing ≤ byteLimit) (trace-short : length trace ≤ byteLimit)
+module _ (listing trace table table′ machine out out′ : List ℕ) (step : Step) (listing-short : length listing ≤ byteLimit) (trace-short : length trace ≤ byteLimit)
     (long : 12288 ≤ length table) where
   loads-true : (answer : Loading) → LoadPromise layout listing table table′ answer → answer ≡ loading true listing
   loads-true answer promise = promise .0 ∙ ap (λ b. loading b listing) (le-leb 12288 (length table) long)
 
   refused-is : (number place : ℕ) → LoadPromise layout listing table table′ (Load.refused number place) → (bytes : Bytes) →
-      Stands listing trace table machine numbers values Opening bytes → bytes ≡ endLine number 0
+      Stands listing trace table machine Opening bytes → bytes ≡ endLine number 0
   unfolding session sessionOf beforeLoading onLoading printed writeLines endOf
   refused-is number place promise bytes (opening e) =
       e ∙ rw (le-ltb byteLimit (length listing) listing-short, le-ltb byteLimit (length trace) trace-short, sym (loads-true (Load.refused number place) promise))
 
-  loaded-left : (l : Listing) → LoadPromise layout listing table table′ (Load.loaded l) → (bytes : Bytes) → Stands listing trace table machine numbers values Opening bytes →
-      Left listing trace table′ machine numbers values Starting bytes (take 0 out′)
+  loaded-left : (l : Listing) → LoadPromise layout listing table table′ (Load.loaded l) → (bytes : Bytes) → Stands listing trace table machine Opening bytes →
+      Left listing trace table′ machine Starting bytes (take 0 out′)
   unfolding session sessionOf beforeLoading onLoading
   loaded-left l promise bytes (opening f) = go (promise .1)
     where
-      go : TableAfter layout table table′ (Load.loaded l) → Left listing trace table′ machine numbers values Starting bytes (take 0 out′)
+      go : TableAfter layout table table′ (Load.loaded l) → Left listing trace table′ machine Starting bytes (take 0 out′)
       go (holds reads size later) =
-          still-left listing trace table′ machine numbers values Starting bytes out′
+          still-left listing trace table′ machine Starting bytes out′
           (starting (record { short-listing = listing-short; short-trace = trace-short }) reads
           (f ∙ rw (le-ltb byteLimit (length listing) listing-short, le-ltb byteLimit (length trace) trace-short, sym (loads-true (Load.loaded l) promise))))
 
   load-steps : (answer : Loading) → LoadPromise layout listing table table′ answer → Loads out out′ step answer →
-      Steps listing trace table machine numbers values Opening table′ machine numbers values out′ step
+      Steps listing trace table machine Opening table′ machine out′ step
   load-steps _ promise (phases.Loads.refused {number} {place} e) =
-      ends-steps listing trace table machine numbers values Opening table′ machine numbers values out out′ number 0 step e (refused-is number place promise)
+      ends-steps listing trace table machine Opening table′ machine out out′ number 0 step e (refused-is number place promise)
   load-steps _ promise (phases.Loads.loaded {l} o s) = rw s (record { room = omega arith; prints = loaded-left l promise })
 
 -- What the loader answered.
@@ -160,14 +91,14 @@ module _ (listing trace table out table′ : List ℕ) (answer : Loaded) (listin
   done-opens e = phases.FromOpening.loads {answer = Load.loaded (listingIn listing)} listing-short trace-short (told Loaded.Done e) (phases.Loads.loaded refl refl)
 
 -- The whole step.
-pub opening-steps : (listing trace table machine numbers values out table′ out′ : List ℕ) (step : Step) → 12288 ≤ length table →
-    FromOpening listing trace table out table′ out′ step → Steps listing trace table machine numbers values Opening table′ machine numbers values out′ step
-opening-steps listing trace table machine numbers values out table′ out′ step long (phases.FromOpening.long-listing h t e) =
-    ends-steps listing trace table machine numbers values Opening table′ machine numbers values out out′ 3 0 step e (long-listing-is listing trace table machine numbers values h)
-opening-steps listing trace table machine numbers values out table′ out′ step long (phases.FromOpening.long-trace short h t e) =
-    ends-steps listing trace table machine numbers values Opening table′ machine numbers values out out′ 2 0 step e (long-trace-is listing trace table machine numbers values short h)
-opening-steps listing trace table machine numbers values out table′ out′ step long (phases.FromOpening.loads {answer} a b promise after) =
-    load-steps listing trace table table′ machine numbers values out out′ step a b long answer promise after
+pub opening-steps : (listing trace table machine out table′ out′ : List ℕ) (step : Step) → 12288 ≤ length table →
+    FromOpening listing trace table out table′ out′ step → Steps listing trace table machine Opening table′ machine out′ step
+opening-steps listing trace table machine out table′ out′ step long (phases.FromOpening.long-listing h t e) =
+    ends-steps listing trace table machine Opening table′ machine out out′ 3 0 step e (long-listing-is listing trace table machine h)
+opening-steps listing trace table machine out table′ out′ step long (phases.FromOpening.long-trace short h t e) =
+    ends-steps listing trace table machine Opening table′ machine out out′ 2 0 step e (long-trace-is listing trace table machine short h)
+opening-steps listing trace table machine out table′ out′ step long (phases.FromOpening.loads {answer} a b promise after) =
+    load-steps listing trace table table′ machine out out′ step a b long answer promise after
 
 -- "Words past 12,288 are never touched."
 table-past : (listing table table′ : List ℕ) (answer : Loading) → LoadPromise layout listing table table′ answer → laterWords table′ ≡ laterWords table

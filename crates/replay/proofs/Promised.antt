@@ -58,33 +58,31 @@ pub record InstantPrinted (table before machine out : List ℕ) (present t : ℕ
   pub prints : (l : Listing) (s : State) (clock : Clock) → Runs table before clock l s → clock .now ≡ present →
       CallPrinted table machine out l (callFrom l t inputs s) made
 
-module _ (table before numbersBefore valuesBefore printedBefore machine numbers values out : List ℕ) (made : Made)
-    (t-long : 12288 ≤ length table) (m-long : 12288 ≤ length before) (n-long : 16 ≤ length numbersBefore) (v-long : 16 ≤ length valuesBefore) where
-  pub start-printed : StartMade table before numbersBefore valuesBefore printedBefore machine numbers values out made → StartPrinted table machine out made
+module _ (table before printedBefore machine out : List ℕ) (made : Made) (t-long : 12288 ≤ length table) (m-long : 12288 ≤ length before) where
+  pub start-printed : StartMade table before printedBefore machine out made → StartPrinted table machine out made
   start-printed c =
       record {
-        room = printed-room (c .result) 0 0 numbers values printedBefore out made (c .prints);
+        room = printed-room (c .result) 0 0 (c .numbers′) (c .values′) printedBefore out made (c .prints);
         prints = λ l reads.
-            let same = start-is layout table before numbersBefore valuesBefore l t-long m-long n-long v-long reads sessionAllowance in
-            call-printed table before machine numbersBefore valuesBefore numbers values printedBefore out l (c .result) 0 0 made reads (c .words) (startOn l sessionAllowance)
-            (subst (λ (o : Outcome). Keeps layout table before numbersBefore valuesBefore machine numbers values o (c .result)) same (c .promise))
+            let same = start-is layout table before (c .numbers) (c .values) l t-long m-long (c .numbers-long) (c .values-long) reads sessionAllowance in
+            call-printed table before machine (c .numbers) (c .values) (c .numbers′) (c .values′) printedBefore out l (c .result) 0 0 made reads (c .words) (startOn l sessionAllowance)
+            (subst (λ (o : Outcome). Keeps layout table before (c .numbers) (c .values) machine (c .numbers′) (c .values′) o (c .result)) same (c .promise))
             (start-numbered l sessionAllowance) (start-moves l sessionAllowance) (c .prints);
       }
 
   pub instant-printed : (present t : ℕ) (inNumbers inValues : List ℕ) → length inNumbers ≡ length inValues →
-      InstantMade present t inNumbers inValues table before numbersBefore valuesBefore printedBefore machine numbers values out made →
-      InstantPrinted table before machine out present t (inputsOf inNumbers inValues) made
+      InstantMade present t inNumbers inValues table before printedBefore machine out made → InstantPrinted table before machine out present t (inputsOf inNumbers inValues) made
   unfolding callFrom
   instant-printed present t inNumbers inValues e c =
       record {
-        room = printed-room (c .result) present t numbers values printedBefore out made (c .prints);
+        room = printed-room (c .result) present t (c .numbers′) (c .values′) printedBefore out made (c .prints);
         prints = λ l s clock standing at.
-            let same = instant-is layout table before numbersBefore valuesBefore l t-long m-long n-long v-long (standing .of-table) s t inNumbers inValues sessionAllowance e (standing .of-machine) in
+            let same = instant-is layout table before (c .numbers) (c .values) l t-long m-long (c .numbers-long) (c .values-long) (standing .of-table) s t inNumbers inValues sessionAllowance e (standing .of-machine) in
             let inputs = inputsOf inNumbers inValues in
-            let printed : ResultPrinted (c .result) (s .now) t numbers values printedBefore out made =
-            subst (λ (n : ℕ). ResultPrinted (c .result) n t numbers values printedBefore out made) (sym at ∙ standing .present) (c .prints) in
-            call-printed table before machine numbersBefore valuesBefore numbers values printedBefore out l (c .result) (s .now) t made (standing .of-table) (c .words)
+            let printed : ResultPrinted (c .result) (s .now) t (c .numbers′) (c .values′) printedBefore out made =
+            subst (λ (n : ℕ). ResultPrinted (c .result) n t (c .numbers′) (c .values′) printedBefore out made) (sym at ∙ standing .present) (c .prints) in
+            call-printed table before machine (c .numbers) (c .values) (c .numbers′) (c .values′) printedBefore out l (c .result) (s .now) t made (standing .of-table) (c .words)
             (instantFrom l s t inputs sessionAllowance)
-            (subst (λ (o : Outcome). Keeps layout table before numbersBefore valuesBefore machine numbers values o (c .result)) same (c .promise))
+            (subst (λ (o : Outcome). Keeps layout table before (c .numbers) (c .values) machine (c .numbers′) (c .values′) o (c .result)) same (c .promise))
             (instant-numbered l s t inputs sessionAllowance (is-state standing)) (instant-moves l s t inputs sessionAllowance) printed;
       }

@@ -1,6 +1,6 @@
 -- From what a step's call made and printed to the step: what it printed is the first of what was to be printed.
 -- Letters: l the listing, s the state, p what came of a call, e and f equations.
-use mathlib.Core.Path.{_≡_, refl, sym, ap, _∙_}
+use mathlib.Core.Path.{_≡_, refl, sym, ap, subst, _∙_}
 use mathlib.Core.Bool.{Bool, true, false}
 use mathlib.Core.List.{List, [], _∷_, _++_}
 use Prim.Native.Nat.{ℕ, suc, _≤_, _<_}
@@ -9,17 +9,19 @@ use lib.ListN.{length, take, drop}
 use Rattle.listing.specs.Bytes.{Bytes}
 use Rattle.listing.specs.Listing.{Listing}
 use Rattle.walk.specs.State.{State}
+use Rattle.walk.specs.Instant.{Write}
 use Rattle.walk.specs.Calls.{dueBefore, inputsOf, startOn}
-use Rattle.walk.specs.Trace.{script, callAt, lastAt}
+use Rattle.walk.specs.Trace.{Script, script, lastAt}
 use Rattle.walk.specs.Session.{Played, andThen, played, callFrom, printed, writeLines, endOf, endLine, endCode, play, playAll, sessionAllowance}
 use Rattle.conclusion.specs.Answers.{dueOf}
-use Rattle.replay.specs.Standing.{Runs, Stands, starting, reading, toward, until, over, Left}
+use Rattle.trace.specs.Groups.{CallIs}
+use Rattle.replay.specs.Standing.{Runs, Stands, starting, reading, over, Left}
 use Rattle.printed_calls.specs.Made.{Soon, due-at, none-due}
 use Rattle.replay.specs.After.{stepAfter, EndsWith}
 use Rattle.replay.specs.Advancing.{Steps}
 use Rattle.printed_calls.specs.declared.calls.Clock.{Clock}
 use Rattle.replay.specs.declared.phase.Phase.{Phase}
-use Rattle.replay.specs.declared.phase.Phase.the-variants.{Starting, Reading, Toward, Until, Over}
+use Rattle.replay.specs.declared.phase.Phase.the-variants.{Starting, Reading, Over}
 use Rattle.replay.specs.declared.phase.Step.{Step}
 use Rattle.printed_calls.specs.declared.calls.Made.{Made}
 use Rattle.printed_calls.specs.declared.calls.Made.the-variants.{Ended, Went}
@@ -36,100 +38,94 @@ append-nothing [] = refl
 append-nothing (x ∷ xs) = rw (append-nothing xs)
 
 -- ── a step that ends the session ──────────────────────────────────────────────────────────────────
-module _ (listing trace table machine numbers values : List ℕ) where
-  over-left : (phase : Phase) (bytes piece : Bytes) → phase ≡ Over → bytes ≡ piece → Left listing trace table machine numbers values phase bytes piece
+module _ (listing trace table machine : List ℕ) where
+  over-left : (phase : Phase) (bytes piece : Bytes) → phase ≡ Over → bytes ≡ piece → Left listing trace table machine phase bytes piece
   over-left phase bytes piece e f = record { rest = []; parts = f ∙ sym (append-nothing piece); stands = rw e over }
 
-pub ends-steps : (listing trace table machine numbers values : List ℕ) (phase : Phase) (table′ machine′ numbers′ values′ before out : List ℕ) (code present : ℕ) (step : Step) →
-    EndsWith before code present out step → ((bytes : Bytes) → Stands listing trace table machine numbers values phase bytes → bytes ≡ endLine code present) →
-    Steps listing trace table machine numbers values phase table′ machine′ numbers′ values′ out step
-ends-steps listing trace table machine numbers values phase table′ machine′ numbers′ values′ before out code present step e all =
+pub ends-steps : (listing trace table machine : List ℕ) (phase : Phase) (table′ machine′ before out : List ℕ) (code present : ℕ) (step : Step) →
+    EndsWith before code present out step → ((bytes : Bytes) → Stands listing trace table machine phase bytes → bytes ≡ endLine code present) →
+    Steps listing trace table machine phase table′ machine′ out step
+ends-steps listing trace table machine phase table′ machine′ before out code present step e all =
     record {
       room = begins-room (e .prints);
-      prints = λ bytes h. over-left listing trace table′ machine′ numbers′ values′ (step .phase) bytes (take (step .printed) out) (e .over) (all bytes h ∙ sym (begins-take (e .prints)));
+      prints = λ bytes h. over-left listing trace table′ machine′ (step .phase) bytes (take (step .printed) out) (e .over) (all bytes h ∙ sym (begins-take (e .prints)));
     }
 
 -- ── a step that made a call ───────────────────────────────────────────────────────────────────────
-step-room : (made : Made) (phase : Clock → Phase) (out : List ℕ) → bytesOf made ≤ length out → stepAfter made phase .printed ≤ length out
-step-room (Ended n) phase out h = h
-step-room (Went clock n) phase out h = h
+step-room : (made : Made) (at : ℕ) (out : List ℕ) → bytesOf made ≤ length out → stepAfter made at .printed ≤ length out
+step-room (Ended n) at out h = h
+step-room (Went clock n) at out h = h
 
-module _ (listing trace table machine numbers values out : List ℕ) (l : Listing) (p : Played) (phase : Clock → Phase) (next : State → Played)
-    (stands : (clock : Clock) (u : State) → Runs table machine clock l u → Stands listing trace table machine numbers values (phase clock) (printed (next u))) where
+module _ (listing trace table machine out : List ℕ) (l : Listing) (p : Played) (at : ℕ) (next : State → Played)
+    (stands : (clock : Clock) (u : State) → Runs table machine clock l u → Stands listing trace table machine (Reading clock at) (printed (next u))) where
   call-left : (made : Made) (bytes : Bytes) → CallPrinted table machine out l p made → bytes ≡ printed (andThen p next) →
-      Left listing trace table machine numbers values (stepAfter made phase .phase) bytes (take (stepAfter made phase .printed) out)
-  call-left _ bytes (call.ended {n} is) e = over-left listing trace table machine numbers values Over bytes (take n out) refl (e ∙ is next)
+      Left listing trace table machine (stepAfter made at .phase) bytes (take (stepAfter made at .printed) out)
+  call-left _ bytes (call.ended {n} is) e = over-left listing trace table machine Over bytes (take n out) refl (e ∙ is next)
   call-left _ bytes (call.went {n} {clock} u runs is) e = record { rest = printed (next u); parts = e ∙ is next; stands = stands clock u runs }
 
 -- The start.
-pub starting-steps : (listing trace table machine numbers values machine′ out : List ℕ) (made : Made) → StartPrinted table machine′ out made →
-    Steps listing trace table machine numbers values Starting table machine′ numbers values out (stepAfter made (λ (clock : Clock). Reading clock 0))
+pub starting-steps : (listing trace table machine machine′ out : List ℕ) (made : Made) → StartPrinted table machine′ out made →
+    Steps listing trace table machine Starting table machine′ out (stepAfter made 0)
 unfolding playAll
-starting-steps listing trace table machine numbers values machine′ out made m = record { room = step-room made _ out (m .room); prints = go }
+starting-steps listing trace table machine machine′ out made m = record { room = step-room made 0 out (m .room); prints = go }
   where
-    go : (bytes : Bytes) → Stands listing trace table machine numbers values Starting bytes →
-        Left listing trace table machine′ numbers values (stepAfter made (λ (clock : Clock). Reading clock 0) .phase) bytes (take (stepAfter made (λ (clock : Clock). Reading clock 0) .printed) out)
+    go : (bytes : Bytes) → Stands listing trace table machine Starting bytes → Left listing trace table machine′ (stepAfter made 0 .phase) bytes (take (stepAfter made 0 .printed) out)
     go bytes (starting {l = l} short reads e) =
-        call-left listing trace table machine′ numbers values out l (played 0 0 (startOn l sessionAllowance)) (λ (clock : Clock). Reading clock 0) (play l (script trace))
+        call-left listing trace table machine′ out l (played 0 0 (startOn l sessionAllowance)) 0 (play l (script trace))
         (λ clock u runs. reading short runs (omega arith) refl) made bytes (m .prints l reads) e
 
--- The due instants before a call, and the call.
-module _ (listing trace table machine numbers values machine′ out : List ℕ) (clock : Clock) (time count next : ℕ) (fits : time < 18446744073709551616) where
-  pub due-toward-steps : (m : ℕ) (made : Made) → Soon (dueOf (clock .due)) time (At m) → InstantPrinted table machine machine′ out (clock .now) m [] made →
-      Steps listing trace table machine numbers values (Toward clock time count next) table machine′ numbers values out
-      (stepAfter made (λ (c : Clock). Toward c time count next))
-  due-toward-steps m made (due-at at before) i = record { room = step-room made _ out (i .room); prints = go }
+-- From a machine that runs.
+module _ (listing trace table machine machine′ out : List ℕ) (clock : Clock) (at : ℕ) where
+  -- An instant that is the first of what the script asks for, and what it asks for then is read at an offset.
+  instant-steps : (t : ℕ) (inputs : List Write) (next : ℕ) (made : Made) → InstantPrinted table machine machine′ out (clock .now) t inputs made → (at ≤ length trace → next ≤ length trace) →
+      ((l : Listing) (s : State) → Runs table machine clock l s → play l (script (drop at trace)) s ≡ andThen (callFrom l t inputs s) (play l (script (drop next trace)))) →
+      Steps listing trace table machine (Reading clock at) table machine′ out (stepAfter made next)
+  instant-steps t inputs next made i within first = record { room = step-room made next out (i .room); prints = go }
     where
-      go : (bytes : Bytes) → Stands listing trace table machine numbers values (Toward clock time count next) bytes →
-          Left listing trace table machine′ numbers values (stepAfter made (λ (c : Clock). Toward c time count next) .phase) bytes
-          (take (stepAfter made (λ (c : Clock). Toward c time count next) .printed) out)
-      go bytes (toward {l = l} {s = s} short runs ws same few inside e) =
-          call-left listing trace table machine′ numbers values out l (callFrom l m [] s) (λ (c : Clock). Toward c time count next)
-          (play l (callAt time ws (script (drop next trace)))) (λ c u runs′. toward short runs′ ws same few inside refl) made bytes (i .prints l s clock runs refl)
-          (e ∙ ap printed (due-toward l s (lawful runs) (is-state runs) time ws (script (drop next trace)) fits m (sym (runs .due) ∙ at) before))
+      go : (bytes : Bytes) → Stands listing trace table machine (Reading clock at) bytes →
+          Left listing trace table machine′ (stepAfter made next .phase) bytes (take (stepAfter made next .printed) out)
+      go bytes (reading {l = l} {s = s} short runs inside e) =
+          call-left listing trace table machine′ out l (callFrom l t inputs s) next (play l (script (drop next trace))) (λ c u runs′. reading short runs′ (within inside) refl)
+          made bytes (i .prints l s clock runs refl) (e ∙ ap printed (first l s runs))
 
-  pub call-toward-steps : (made : Made) → Soon (dueOf (clock .due)) time Never →
-      InstantPrinted table machine machine′ out (clock .now) time (inputsOf (take count numbers) (take count values)) made →
-      Steps listing trace table machine numbers values (Toward clock time count next) table machine′ numbers values out (stepAfter made (λ (c : Clock). Reading c next))
-  call-toward-steps made (none-due none) i = record { room = step-room made _ out (i .room); prints = go }
-    where
-      go : (bytes : Bytes) → Stands listing trace table machine numbers values (Toward clock time count next) bytes →
-          Left listing trace table machine′ numbers values (stepAfter made (λ (c : Clock). Reading c next) .phase) bytes
-          (take (stepAfter made (λ (c : Clock). Reading c next) .printed) out)
-      go bytes (toward {l = l} {s = s} short runs ws same few inside e) =
-          call-left listing trace table machine′ numbers values out l (callFrom l time (inputsOf (take count numbers) (take count values)) s) (λ (c : Clock). Reading c next)
-          (play l (script (drop next trace))) (λ c u runs′. reading short runs′ inside refl) made bytes (i .prints l s clock runs refl)
-          (e ∙ ap printed (call-toward l s (lawful runs) (is-state runs) time ws (script (drop next trace)) fits (inputsOf (take count numbers) (take count values)) same
-          (ap (λ x. dueBefore x time) (sym (runs .due)) ∙ none)))
+  -- The due instants before a call, and the call.
+  module _ (numbers values : List ℕ) (time count next : ℕ) (fits : time < 18446744073709551616) (is : CallIs trace at numbers values time count next) where
+    pub due-call-steps : (m : ℕ) (made : Made) → Soon (dueOf (clock .due)) time (At m) → InstantPrinted table machine machine′ out (clock .now) m [] made →
+        Steps listing trace table machine (Reading clock at) table machine′ out (stepAfter made at)
+    due-call-steps m made (due-at due before) i =
+        instant-steps m [] at made i (λ inside. inside)
+        (λ l s runs.
+        subst (λ (x : Script). play l x s ≡ andThen (callFrom l m [] s) (play l x)) (sym (is .is))
+        (due-toward l s (lawful runs) (is-state runs) time (is .inputs) (script (drop next trace)) fits m (sym (runs .due) ∙ due) before))
 
-  -- More inputs than are ever lent.
-  pub too-many-steps : 17 < count → Steps listing trace table machine numbers values (Toward clock time count next) table machine numbers values out (record { phase = Over; printed = 0 })
-  too-many-steps many = record { room = omega arith; prints = go }
-    where
-      go : (bytes : Bytes) → Stands listing trace table machine numbers values (Toward clock time count next) bytes → Left listing trace table machine numbers values Over bytes (take 0 out)
-      go bytes (toward short runs ws same few inside e) = absurd (let y : ⊥ = omega arith in y)
+    pub call-steps : (made : Made) → Soon (dueOf (clock .due)) time Never →
+        InstantPrinted table machine machine′ out (clock .now) time (inputsOf (take count numbers) (take count values)) made →
+        Steps listing trace table machine (Reading clock at) table machine′ out (stepAfter made next)
+    call-steps made (none-due none) i =
+        instant-steps time (inputsOf (take count numbers) (take count values)) next made i (λ inside. is .inside)
+        (λ l s runs.
+        ap (λ (x : Script). play l x s) (is .is) ∙
+        call-toward l s (lawful runs) (is-state runs) time (is .inputs) (script (drop next trace)) fits (inputsOf (take count numbers) (take count values)) (is .kept)
+        (ap (λ x. dueBefore x time) (sym (runs .due)) ∙ none))
 
--- The due instants up to the last line's time, and the end.
-module _ (listing trace table machine numbers values machine′ out : List ℕ) (clock : Clock) (time : ℕ) (nothingAfter : Bool) (fits : time < 18446744073709551616) where
-  pub due-until-steps : (m : ℕ) (made : Made) → Soon (dueOf (clock .due)) (suc time) (At m) → InstantPrinted table machine machine′ out (clock .now) m [] made →
-      Steps listing trace table machine numbers values (Until clock time nothingAfter) table machine′ numbers values out
-      (stepAfter made (λ (c : Clock). Until c time nothingAfter))
-  due-until-steps m made (due-at at before) i = record { room = step-room made _ out (i .room); prints = go }
-    where
-      go : (bytes : Bytes) → Stands listing trace table machine numbers values (Until clock time nothingAfter) bytes →
-          Left listing trace table machine′ numbers values (stepAfter made (λ (c : Clock). Until c time nothingAfter) .phase) bytes
-          (take (stepAfter made (λ (c : Clock). Until c time nothingAfter) .printed) out)
-      go bytes (until {l = l} {s = s} short runs e) =
-          call-left listing trace table machine′ numbers values out l (callFrom l m [] s) (λ (c : Clock). Until c time nothingAfter)
-          (play l (lastAt time nothingAfter)) (λ c u runs′. until short runs′ refl) made bytes (i .prints l s clock runs refl)
-          (e ∙ ap printed (due-until l s (lawful runs) (is-state runs) time nothingAfter fits m (sym (runs .due) ∙ at) before))
+  -- The due instants up to the last line's time, and the end.
+  module _ (time : ℕ) (nothingAfter : Bool) (fits : time < 18446744073709551616) (is : script (drop at trace) ≡ lastAt time nothingAfter) where
+    pub due-end-steps : (m : ℕ) (made : Made) → Soon (dueOf (clock .due)) (suc time) (At m) → InstantPrinted table machine machine′ out (clock .now) m [] made →
+        Steps listing trace table machine (Reading clock at) table machine′ out (stepAfter made at)
+    due-end-steps m made (due-at due before) i =
+        instant-steps m [] at made i (λ inside. inside)
+        (λ l s runs.
+        subst (λ (x : Script). play l x s ≡ andThen (callFrom l m [] s) (play l x)) (sym is)
+        (due-until l s (lawful runs) (is-state runs) time nothingAfter fits m (sym (runs .due) ∙ due) before))
 
-  pub end-until-is : (code : ℕ) → ((l : Listing) → code ≡ endCode l nothingAfter) → Soon (dueOf (clock .due)) (suc time) Never →
-      (bytes : Bytes) → Stands listing trace table machine numbers values (Until clock time nothingAfter) bytes → bytes ≡ endLine code (clock .now)
-  unfolding printed writeLines endOf
-  end-until-is code codes (none-due none) bytes (until {l = l} {s = s} short runs e) =
-      e ∙ ap printed (end-until l s (lawful runs) (is-state runs) time nothingAfter fits (ap (λ x. dueBefore x (suc time)) (sym (runs .due)) ∙ none)) ∙
-      rw (codes l, runs .present)
+    pub end-is : (code : ℕ) → ((l : Listing) → code ≡ endCode l nothingAfter) → Soon (dueOf (clock .due)) (suc time) Never →
+        (bytes : Bytes) → Stands listing trace table machine (Reading clock at) bytes → bytes ≡ endLine code (clock .now)
+    unfolding printed writeLines endOf
+    end-is code codes (none-due none) bytes (reading {l = l} {s = s} short runs inside e) =
+        e ∙
+        (ap (λ (x : Script). printed (play l x s)) is ∙
+        (ap printed (end-until l s (lawful runs) (is-state runs) time nothingAfter fits (ap (λ x. dueBefore x (suc time)) (sym (runs .due)) ∙ none)) ∙
+        rw (codes l, runs .present)))
 
 pub clean-end : (b : Bool) → b ≡ true → (l : Listing) → 0 ≡ endCode l b
 unfolding endCode

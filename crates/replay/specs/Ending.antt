@@ -11,7 +11,7 @@ use Rattle.printed_calls.specs.declared.calls.Clock.{Clock}
 use Rattle.replay.specs.Phases.{Memories}
 use Rattle.replay.specs.Advancing.{longEnough, Advances}
 use Rattle.replay.specs.declared.phase.Phase.{Phase}
-use Rattle.replay.specs.declared.phase.Phase.the-variants.{Opening, Starting, Reading, Toward, Until, Over}
+use Rattle.replay.specs.declared.phase.Phase.the-variants.{Opening, Starting, Reading, Over}
 use Rattle.replay.specs.declared.phase.Advanced.{Advanced}
 use Rattle.replay.specs.declared.phase.Advanced.the-variants.{Went, TooShort}
 
@@ -20,42 +20,33 @@ abbrev pub isOver : Phase → Bool
 isOver Opening = false
 isOver Starting = false
 isOver (Reading clock at) = false
-isOver (Toward clock time count next) = false
-isOver (Until clock time nothingAfter) = false
 isOver Over = true
 
--- How many steps can still be made from a phase. "a moment has 64 bits": an instant is later than the one before it, so it takes one of the moments that are
--- left; reading a call takes some of the trace's bytes that are left.
-abbrev pub stepsLeft : Bytes → Phase → ℕ
-stepsLeft trace Opening = momentRange + length trace + 4
-stepsLeft trace Starting = momentRange + length trace + 3
-stepsLeft trace (Reading clock at) = (momentRange - clock .now) + (length trace - at) + 2
-stepsLeft trace (Toward clock time count next) = (momentRange - clock .now) + (length trace - next) + 2
-stepsLeft trace (Until clock time nothingAfter) = (momentRange - clock .now) + 1
-stepsLeft trace Over = 0
+-- How many steps can still be made from a phase. "a moment has 64 bits": each step from the start on makes an instant, which is later than the one before it and
+-- so takes one of the moments that are left, or ends the session.
+abbrev pub stepsLeft : Phase → ℕ
+stepsLeft Opening = momentRange + 3
+stepsLeft Starting = momentRange + 2
+stepsLeft (Reading clock at) = (momentRange - clock .now) + 1
+stepsLeft Over = 0
 
--- So many steps at most has a session with this trace.
-abbrev pub stepsAtMost : Bytes → ℕ
-stepsAtMost trace = stepsLeft trace Opening
+-- So many steps at most has a session.
+abbrev pub stepsAtMost : ℕ
+stepsAtMost = stepsLeft Opening
 
 -- ── calls of `advance` ────────────────────────────────────────────────────────────────────────────
 abbrev pub areLong : Memories → Bool
-areLong m = longEnough (m .table) (m .machine) (m .numbers) (m .values) (m .outNumbers) (m .outValues) (m .out)
+areLong m = longEnough (m .table) (m .machine) (m .out)
 
 -- Memories as long as before.
 pub record AsLong (m m′ : Memories) : Type 0 where
   pub table-is : length (m′ .table) ≡ length (m .table)
   pub machine-is : length (m′ .machine) ≡ length (m .machine)
-  pub numbers-are : length (m′ .numbers) ≡ length (m .numbers)
-  pub values-are : length (m′ .values) ≡ length (m .values)
-  pub out-numbers-are : length (m′ .outNumbers) ≡ length (m .outNumbers)
-  pub out-values-are : length (m′ .outValues) ≡ length (m .outValues)
   pub out-is : length (m′ .out) ≡ length (m .out)
 
 -- A call of `advance`, from memories m to memories m′: its contract; and a slice that is lent keeps its length.
 pub record Calls (listing trace : Bytes) (m : Memories) (phase : Phase) (m′ : Memories) (answer : Advanced) : Type 0 where
-  pub advances : Advances listing trace (m .table) (m .machine) (m .numbers) (m .values) (m .outNumbers) (m .outValues) (m .out) phase
-      (m′ .table) (m′ .machine) (m′ .numbers) (m′ .values) (m′ .outNumbers) (m′ .outValues) (m′ .out) answer
+  pub advances : Advances listing trace (m .table) (m .machine) (m .out) phase (m′ .table) (m′ .machine) (m′ .out) answer
   pub as-long : AsLong m m′
 
 -- So many steps were made from the opening with memories m, to a phase with memories m′, and printed these bytes: each is made from what the one before left,

@@ -20,7 +20,7 @@ use Rattle.trace.specs.Groups.{CallIs}
 use Rattle.printed_calls.specs.Made.{Soon, StartMade, InstantMade}
 use Rattle.replay.specs.After.{stepAfter, EndsWith, silent}
 use Rattle.replay.specs.declared.phase.Phase.{Phase}
-use Rattle.replay.specs.declared.phase.Phase.the-variants.{Opening, Starting, Reading, Toward, Until, Over}
+use Rattle.replay.specs.declared.phase.Phase.the-variants.{Opening, Starting, Reading, Over}
 use Rattle.printed_calls.specs.declared.calls.Clock.{Clock}
 use Rattle.replay.specs.declared.phase.Step.{Step}
 use Rattle.printed_calls.specs.declared.calls.Made.{Made}
@@ -38,78 +38,49 @@ pub data FromOpening (listing trace : Bytes) (table out table′ out′ : List �
       FromOpening listing trace table out table′ out′ step
 
 -- The start.
-pub record FromStarting (table machine outNumbers outValues out machine′ outNumbers′ outValues′ out′ : List ℕ) (step : Step) : Type 0 where
+pub record FromStarting (table machine out machine′ out′ : List ℕ) (step : Step) : Type 0 where
   pub made : Made
-  pub call : StartMade table machine outNumbers outValues out machine′ outNumbers′ outValues′ out′ made
-  pub is : step ≡ stepAfter made (λ (c : Clock). Reading c 0)
+  pub call : StartMade table machine out machine′ out′ made
+  pub is : step ≡ stepAfter made 0
 
--- What is next in the trace from an offset on. A call's inputs are put into the two lists, and the words behind them stay.
-pub data FromReading (trace : Bytes) (numbers values out : List ℕ) (clock : Clock) (at : ℕ) (numbers′ values′ out′ : List ℕ) (step : Step) : Type 0 where
-  past-end : length trace < at → numbers′ ≡ numbers → values′ ≡ values → out′ ≡ out → step ≡ silent Over → FromReading trace numbers values out clock at numbers′ values′ out′ step
-  call : {time count next : ℕ} → CallIs trace at numbers′ values′ time count next → length numbers′ ≡ length numbers → length values′ ≡ length values →
-      drop count numbers′ ≡ drop count numbers → drop count values′ ≡ drop count values → out′ ≡ out → step ≡ silent (Toward clock time count next) →
-      FromReading trace numbers values out clock at numbers′ values′ out′ step
-  last : {time : ℕ} {nothingAfter : Bool} → script (drop at trace) ≡ lastAt time nothingAfter → numbers′ ≡ numbers → values′ ≡ values → out′ ≡ out →
-      step ≡ silent (Until clock time nothingAfter) → FromReading trace numbers values out clock at numbers′ values′ out′ step
+-- "The program makes every due instant between, joining one with inputs of its time": one due before the call that is read at an offset, and the call is read
+-- again; or the call, and the trace goes on at the next offset.
+pub data TowardCall (table machine out : List ℕ) (clock : Clock) (time : ℕ) (inNumbers inValues : List ℕ) (at next : ℕ) (machine′ out′ : List ℕ) (step : Step) : Type 0 where
+  due : {m : ℕ} {made : Made} → Soon (dueOf (clock .due)) time (At m) → InstantMade (clock .now) m [] [] table machine out machine′ out′ made → step ≡ stepAfter made at →
+      TowardCall table machine out clock time inNumbers inValues at next machine′ out′ step
+  joins : {made : Made} → Soon (dueOf (clock .due)) time Never → InstantMade (clock .now) time inNumbers inValues table machine out machine′ out′ made →
+      step ≡ stepAfter made next → TowardCall table machine out clock time inNumbers inValues at next machine′ out′ step
+
+-- "and those due up to Q's time": one of them, and the last line is read again; or the end.
+pub data UntilEnd (table machine out : List ℕ) (clock : Clock) (time : ℕ) (nothingAfter : Bool) (at : ℕ) (machine′ out′ : List ℕ) (step : Step) : Type 0 where
+  due : {m : ℕ} {made : Made} → Soon (dueOf (clock .due)) (suc time) (At m) → InstantMade (clock .now) m [] [] table machine out machine′ out′ made →
+      step ≡ stepAfter made at → UntilEnd table machine out clock time nothingAfter at machine′ out′ step
+  ends : {code : ℕ} → Soon (dueOf (clock .due)) (suc time) Never → ((l : Listing) → code ≡ endCode l nothingAfter) → machine′ ≡ machine →
+      EndsWith out code (clock .now) out′ step → UntilEnd table machine out clock time nothingAfter at machine′ out′ step
+
+-- What is next in the trace from an offset on. A call's inputs are read into two lists of 17 places, which are local to the step. (A time has 64 bits.)
+pub data FromReading (trace table machine out : List ℕ) (clock : Clock) (at : ℕ) (machine′ out′ : List ℕ) (step : Step) : Type 0 where
+  past-end : length trace < at → machine′ ≡ machine → out′ ≡ out → step ≡ silent Over → FromReading trace table machine out clock at machine′ out′ step
+  call : {numbers values : List ℕ} {time count next : ℕ} → CallIs trace at numbers values time count next → 17 ≤ length numbers → 17 ≤ length values → time < momentRange →
+      TowardCall table machine out clock time (take count numbers) (take count values) at next machine′ out′ step → FromReading trace table machine out clock at machine′ out′ step
+  last : {time : ℕ} {nothingAfter : Bool} → script (drop at trace) ≡ lastAt time nothingAfter → time < momentRange →
+      UntilEnd table machine out clock time nothingAfter at machine′ out′ step → FromReading trace table machine out clock at machine′ out′ step
   -- "A line out of form when it is reached .. has code 2"
-  breaks : script (drop at trace) ≡ broken → numbers′ ≡ numbers → values′ ≡ values → EndsWith out 2 (clock .now) out′ step →
-      FromReading trace numbers values out clock at numbers′ values′ out′ step
+  breaks : script (drop at trace) ≡ broken → machine′ ≡ machine → EndsWith out 2 (clock .now) out′ step → FromReading trace table machine out clock at machine′ out′ step
 
--- "The program makes every due instant between, joining one with inputs of its time": one due before the call, or the call.
-pub data FromToward (table machine numbers values outNumbers outValues out : List ℕ) (clock : Clock) (time count next : ℕ) (machine′ outNumbers′ outValues′ out′ : List ℕ)
-    (step : Step) : Type 0 where
-  due : {m : ℕ} {made : Made} → Soon (dueOf (clock .due)) time (At m) →
-      InstantMade (clock .now) m [] [] table machine outNumbers outValues out machine′ outNumbers′ outValues′ out′ made →
-      step ≡ stepAfter made (λ (c : Clock). Toward c time count next) →
-      FromToward table machine numbers values outNumbers outValues out clock time count next machine′ outNumbers′ outValues′ out′ step
-  joins : {made : Made} → Soon (dueOf (clock .due)) time Never → count ≤ 17 →
-      InstantMade (clock .now) time (take count numbers) (take count values) table machine outNumbers outValues out machine′ outNumbers′ outValues′ out′ made →
-      step ≡ stepAfter made (λ (c : Clock). Reading c next) →
-      FromToward table machine numbers values outNumbers outValues out clock time count next machine′ outNumbers′ outValues′ out′ step
-  -- more inputs than are ever lent
-  too-many : Soon (dueOf (clock .due)) time Never → 17 < count → machine′ ≡ machine → outNumbers′ ≡ outNumbers → outValues′ ≡ outValues → out′ ≡ out → step ≡ silent Over →
-      FromToward table machine numbers values outNumbers outValues out clock time count next machine′ outNumbers′ outValues′ out′ step
-
--- "and those due up to Q's time": one of them, or the end.
-pub data FromUntil (table machine outNumbers outValues out : List ℕ) (clock : Clock) (time : ℕ) (nothingAfter : Bool) (machine′ outNumbers′ outValues′ out′ : List ℕ)
-    (step : Step) : Type 0 where
-  due : {m : ℕ} {made : Made} → Soon (dueOf (clock .due)) (suc time) (At m) →
-      InstantMade (clock .now) m [] [] table machine outNumbers outValues out machine′ outNumbers′ outValues′ out′ made →
-      step ≡ stepAfter made (λ (c : Clock). Until c time nothingAfter) →
-      FromUntil table machine outNumbers outValues out clock time nothingAfter machine′ outNumbers′ outValues′ out′ step
-  ends : {code : ℕ} → Soon (dueOf (clock .due)) (suc time) Never → ((l : Listing) → code ≡ endCode l nothingAfter) →
-      machine′ ≡ machine → outNumbers′ ≡ outNumbers → outValues′ ≡ outValues → EndsWith out code (clock .now) out′ step →
-      FromUntil table machine outNumbers outValues out clock time nothingAfter machine′ outNumbers′ outValues′ out′ step
-
--- The lent memories: table, machine, the two lists of inputs, the two lists of outputs, and the bytes to print in.
+-- The lent memories: table, machine, and the bytes to print in.
 pub record Memories : Type 0 where
   pub table : List ℕ
   pub machine : List ℕ
-  pub numbers : List ℕ
-  pub values : List ℕ
-  pub outNumbers : List ℕ
-  pub outValues : List ℕ
   pub out : List ℕ
 
-abbrev pub memories : List ℕ → List ℕ → List ℕ → List ℕ → List ℕ → List ℕ → List ℕ → Memories
-memories table machine numbers values outNumbers outValues out =
-    record { table = table; machine = machine; numbers = numbers; values = values; outNumbers = outNumbers; outValues = outValues; out = out }
+abbrev pub memories : List ℕ → List ℕ → List ℕ → Memories
+memories table machine out = record { table = table; machine = machine; out = out }
 
--- The step from any phase, from memories m to memories m′. (A time has 64 bits.)
+-- The step from any phase, from memories m to memories m′.
 pub data Does (listing trace : Bytes) (m m′ : Memories) (step : Step) : Phase → Type 0 where
-  from-opening : FromOpening listing trace (m .table) (m .out) (m′ .table) (m′ .out) step →
-      m′ .machine ≡ m .machine → m′ .numbers ≡ m .numbers → m′ .values ≡ m .values → m′ .outNumbers ≡ m .outNumbers → m′ .outValues ≡ m .outValues →
-      Does listing trace m m′ step Opening
-  from-starting : FromStarting (m .table) (m .machine) (m .outNumbers) (m .outValues) (m .out) (m′ .machine) (m′ .outNumbers) (m′ .outValues) (m′ .out) step →
-      m′ .table ≡ m .table → m′ .numbers ≡ m .numbers → m′ .values ≡ m .values → Does listing trace m m′ step Starting
-  from-reading : {clock : Clock} {at : ℕ} → FromReading trace (m .numbers) (m .values) (m .out) clock at (m′ .numbers) (m′ .values) (m′ .out) step →
-      m′ .table ≡ m .table → m′ .machine ≡ m .machine → m′ .outNumbers ≡ m .outNumbers → m′ .outValues ≡ m .outValues →
+  from-opening : FromOpening listing trace (m .table) (m .out) (m′ .table) (m′ .out) step → m′ .machine ≡ m .machine → Does listing trace m m′ step Opening
+  from-starting : FromStarting (m .table) (m .machine) (m .out) (m′ .machine) (m′ .out) step → m′ .table ≡ m .table → Does listing trace m m′ step Starting
+  from-reading : {clock : Clock} {at : ℕ} → FromReading trace (m .table) (m .machine) (m .out) clock at (m′ .machine) (m′ .out) step → m′ .table ≡ m .table →
       Does listing trace m m′ step (Reading clock at)
-  from-toward : {clock : Clock} {time count next : ℕ} → time < momentRange →
-      FromToward (m .table) (m .machine) (m .numbers) (m .values) (m .outNumbers) (m .outValues) (m .out) clock time count next
-      (m′ .machine) (m′ .outNumbers) (m′ .outValues) (m′ .out) step →
-      m′ .table ≡ m .table → m′ .numbers ≡ m .numbers → m′ .values ≡ m .values → Does listing trace m m′ step (Toward clock time count next)
-  from-until : {clock : Clock} {time : ℕ} {nothingAfter : Bool} → time < momentRange →
-      FromUntil (m .table) (m .machine) (m .outNumbers) (m .outValues) (m .out) clock time nothingAfter (m′ .machine) (m′ .outNumbers) (m′ .outValues) (m′ .out) step →
-      m′ .table ≡ m .table → m′ .numbers ≡ m .numbers → m′ .values ≡ m .values → Does listing trace m m′ step (Until clock time nothingAfter)
   when-over : m′ ≡ m → step ≡ silent Over → Does listing trace m m′ step Over

@@ -1,23 +1,22 @@
 -- What a session still has to print, for each phase and for what the memories stand for (document 01, "The session").
 use mathlib.Core.Path.{_≡_}
-use mathlib.Core.Bool.{Bool}
 use mathlib.Core.List.{List, [], _++_}
 use mathlib.Core.Option.{some}
-use Prim.Native.Nat.{ℕ, _≤_, _<_}
-use lib.ListN.{length, take, drop}
+use Prim.Native.Nat.{ℕ, _≤_}
+use lib.ListN.{length, drop}
 use Rattle.listing.specs.Bytes.{Bytes}
 use Rattle.listing.specs.Limits.{byteLimit}
 use Rattle.listing.specs.Listing.{Listing}
 use Rattle.walk.specs.State.{State}
-use Rattle.walk.specs.Instant.{Write, nextDue}
-use Rattle.walk.specs.Calls.{Words32, running, firstWords, inputsOf}
-use Rattle.walk.specs.Trace.{script, callAt, lastAt}
+use Rattle.walk.specs.Instant.{nextDue}
+use Rattle.walk.specs.Calls.{Words32, running, firstWords}
+use Rattle.walk.specs.Trace.{script}
 use Rattle.walk.specs.Session.{play, playAll, printed, session}
 use Rattle.layout.specs.Layout.{layout}
 use Rattle.conclusion.specs.Answers.{dueOf}
 use Rattle.printed_calls.specs.declared.calls.Clock.{Clock}
 use Rattle.replay.specs.declared.phase.Phase.{Phase}
-use Rattle.replay.specs.declared.phase.Phase.the-variants.{Opening, Starting, Reading, Toward, Until, Over}
+use Rattle.replay.specs.declared.phase.Phase.the-variants.{Opening, Starting, Reading, Over}
 
 -- The table stands for the listing and the machine for a state, and the clock tells its moment and its next moment due.
 pub record Runs (table machine : List ℕ) (clock : Clock) (l : Listing) (s : State) : Type 0 where
@@ -33,22 +32,16 @@ pub record Short (listing trace : Bytes) : Type 0 where
   pub short-trace : length trace ≤ byteLimit
 
 -- From this phase, with these memories, these bytes are still to be printed.
-pub data Stands (listing trace table machine numbers values : List ℕ) : Phase → Bytes → Type 0 where
-  opening : {bytes : Bytes} → bytes ≡ session listing trace → Stands listing trace table machine numbers values Opening bytes
+pub data Stands (listing trace table machine : List ℕ) : Phase → Bytes → Type 0 where
+  opening : {bytes : Bytes} → bytes ≡ session listing trace → Stands listing trace table machine Opening bytes
   starting : {bytes : Bytes} {l : Listing} → Short listing trace → layout .readTable (firstWords table) ≡ some l →
-      bytes ≡ printed (playAll l (script trace)) → Stands listing trace table machine numbers values Starting bytes
+      bytes ≡ printed (playAll l (script trace)) → Stands listing trace table machine Starting bytes
   reading : {bytes : Bytes} {clock : Clock} {at : ℕ} {l : Listing} {s : State} → Short listing trace → Runs table machine clock l s → at ≤ length trace →
-      bytes ≡ printed (play l (script (drop at trace)) s) → Stands listing trace table machine numbers values (Reading clock at) bytes
-  -- of a call's inputs the first 17 are lent: no listing has more than 16
-  toward : {bytes : Bytes} {clock : Clock} {time count next : ℕ} {l : Listing} {s : State} → Short listing trace → Runs table machine clock l s →
-      (ws : List Write) → take 17 ws ≡ inputsOf (take count numbers) (take count values) → count ≤ 17 → next ≤ length trace →
-      bytes ≡ printed (play l (callAt time ws (script (drop next trace))) s) → Stands listing trace table machine numbers values (Toward clock time count next) bytes
-  until : {bytes : Bytes} {clock : Clock} {time : ℕ} {nothingAfter : Bool} {l : Listing} {s : State} → Short listing trace → Runs table machine clock l s →
-      bytes ≡ printed (play l (lastAt time nothingAfter) s) → Stands listing trace table machine numbers values (Until clock time nothingAfter) bytes
-  over : Stands listing trace table machine numbers values Over []
+      bytes ≡ printed (play l (script (drop at trace)) s) → Stands listing trace table machine (Reading clock at) bytes
+  over : Stands listing trace table machine Over []
 
 -- Of these bytes a piece was printed, and from the phase and the memories that are left the rest is still to be printed.
-pub record Left (listing trace table machine numbers values : List ℕ) (phase : Phase) (bytes piece : Bytes) : Type 0 where
+pub record Left (listing trace table machine : List ℕ) (phase : Phase) (bytes piece : Bytes) : Type 0 where
   pub rest : Bytes
   pub parts : bytes ≡ piece ++ rest
-  pub stands : Stands listing trace table machine numbers values phase rest
+  pub stands : Stands listing trace table machine phase rest

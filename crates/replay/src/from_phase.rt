@@ -1,20 +1,16 @@
-// The steps of a session, one from each phase.
+// The first steps of a session: loading and the start; and the `X` line.
 ghost use mathlib.Core.Path.{_≡_};
 ghost use Prim.Native.Nat.{_≤_};
 ghost use lib.ListN.{length};
 ghost use Rattle.replay.specs.After.{EndsWith};
-ghost use Rattle.replay.specs.Phases.{FromOpening, FromStarting, FromReading};
+ghost use Rattle.replay.specs.Phases.{FromOpening, FromStarting};
 use crate::after::step_after;
 use crate::phase::Phase;
 use crate::phase::Step;
-use crate::phase::Then;
 use load::load;
 use loader::Loaded;
-use printed_calls::calls::Clock;
 use printed_calls::calls::make_start;
 use printing::put_end_line;
-use trace::Next;
-use trace::next_call;
 
 // "listing 49,152 bytes"
 const BYTES: usize = 49152;
@@ -53,51 +49,10 @@ pub fn from_opening(listing: &[u8], trace: &[u8], table: &mut [u32], out: &mut [
 }
 
 // The start, "allowance 10,000".
-pub fn from_starting(
-    table: &[u32],
-    machine: &mut [u32],
-    out_numbers: &mut [u32],
-    out_values: &mut [u32],
-    out: &mut [u8],
-) -> Step
-    requires { ⌜ (12288 ≤ length (now table)) × (12288 ≤ length (now machine)) × (length (now «out_numbers») ≡ 16) × (length (now «out_values») ≡ 16) × (1100 ≤ length (now out)) ⌝ }
-    ensures { λ r. ⌜ FromStarting (now (table .entry)) (now (machine .entry)) (now («out_numbers» .entry)) (now («out_values» .entry)) (now (out .entry))
-        (now (machine .exit)) (now («out_numbers» .exit)) (now («out_values» .exit)) (now (out .exit)) r ⌝ }
+pub fn from_starting(table: &[u32], machine: &mut [u32], out: &mut [u8]) -> Step
+    requires { ⌜ (12288 ≤ length (now table)) × (12288 ≤ length (now machine)) × (1100 ≤ length (now out)) ⌝ }
+    ensures { λ r. ⌜ FromStarting (now (table .entry)) (now (machine .entry)) (now (out .entry)) (now (machine .exit)) (now (out .exit)) r ⌝ }
 {
-    let made = make_start(table, machine, out_numbers, out_values, out);
-    step_after(made, Then::Read(0))
-}
-
-// The trace is read from an offset on: the next call, the last line, or "A line out of form when it is reached".
-pub fn from_reading(
-    trace: &[u8],
-    numbers: &mut [u32],
-    values: &mut [u32],
-    out: &mut [u8],
-    clock: Clock,
-    at: usize,
-) -> Step
-    requires { ⌜ (17 ≤ length (now numbers)) × (17 ≤ length (now values)) × (1100 ≤ length (now out)) ⌝ }
-    ensures { λ r. ⌜ FromReading (now (trace .entry)) (now (numbers .entry)) (now (values .entry)) (now (out .entry)) clock at
-        (now (numbers .exit)) (now (values .exit)) (now (out .exit)) r ⌝ }
-{
-    if at > trace.len() {
-        return Step {
-            phase: Phase::Over,
-            printed: 0,
-        };
-    }
-    let present = clock.now;
-    let next = next_call(trace, at, numbers, values);
-    match next {
-        Next::Call(time, count, after) => Step {
-            phase: Phase::Toward(clock, time, count, after),
-            printed: 0,
-        },
-        Next::Last(time, nothing_after) => Step {
-            phase: Phase::Until(clock, time, nothing_after),
-            printed: 0,
-        },
-        Next::Broken => end_with(out, 2, present),
-    }
+    let made = make_start(table, machine, out);
+    step_after(made, 0)
 }

@@ -3,7 +3,7 @@ pub mod advancing;
 pub mod after;
 pub mod from_phase;
 pub mod phase;
-pub mod toward;
+pub mod reading;
 
 pub use advancing::advance;
 pub use phase::Advanced;

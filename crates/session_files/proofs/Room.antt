@@ -9,7 +9,7 @@ use Rattle.replay.specs.declared.phase.Phase.{Phase}
 use Rattle.replay.specs.declared.phase.Advanced.{Advanced}
 use Rattle.replay.specs.declared.phase.Advanced.the-variants.{Went, TooShort}
 
-pub went-room : {listing trace table machine numbers values outNumbers outValues out table′ machine′ numbers′ values′ outNumbers′ outValues′ out′ : List ℕ} {phase next : Phase} {n : ℕ} {r : Advanced} →
-    Advances listing trace table machine numbers values outNumbers outValues out phase table′ machine′ numbers′ values′ outNumbers′ outValues′ out′ r → r ≡ Went next n → n ≤ length out′
+pub went-room : {listing trace table machine out table′ machine′ out′ : List ℕ} {phase next : Phase} {n : ℕ} {r : Advanced} →
+    Advances listing trace table machine out phase table′ machine′ out′ r → r ≡ Went next n → n ≤ length out′
 went-room (too-short short same) e = let z : _≡_ {A = ℕ} 0 1 = cc in absurd (let y : ⊥ = omega arith in y)
 went-room {n = n} (went {n = m} long moves) e = let same : m ≡ n = cc in let room = moves .steps .room in omega arith

@@ -19,32 +19,32 @@ use Rattle.session_files.specs.Turning.{Turned, Ran, ended, not-written}
 use Rattle.session_files.specs.declared.Stepped.{Stepped}
 use Rattle.session_files.specs.declared.Ending.the-variants.{Ended, NotWritten}
 
-module _ {listing trace table machine numbers values outNumbers outValues out table′ machine′ numbers′ values′ outNumbers′ outValues′ out′ : List ℕ} {phase : Phase} {r : Advanced}
-    (a : Advances listing trace table machine numbers values outNumbers outValues out phase table′ machine′ numbers′ values′ outNumbers′ outValues′ out′ r) where
+module _ {listing trace table machine out table′ machine′ out′ : List ℕ} {phase : Phase} {r : Advanced}
+    (a : Advances listing trace table machine out phase table′ machine′ out′ r) where
   pub turned : {next : Phase} {n : ℕ} (b : Bool) → r ≡ Went next n →
-      AsLong (memories table machine numbers values outNumbers outValues out) (memories table′ machine′ numbers′ values′ outNumbers′ outValues′ out′) →
-      Turned listing trace (memories table machine numbers values outNumbers outValues out) phase (memories table′ machine′ numbers′ values′ outNumbers′ outValues′ out′)
+      AsLong (memories table machine out) (memories table′ machine′ out′) →
+      Turned listing trace (memories table machine out) phase (memories table′ machine′ out′)
       (record { next = next; «is_written» = b })
   turned {n = n} b e long =
       record {
         printed = n;
         calls = record {
-          advances = subst (λ (x : Advanced). Advances listing trace table machine numbers values outNumbers outValues out phase table′ machine′ numbers′ values′ outNumbers′ outValues′ out′ x) e a;
+          advances = subst (λ (x : Advanced). Advances listing trace table machine out phase table′ machine′ out′ x) e a;
           as-long = long;
         };
       }
 
 -- Memories that are long enough are not too short.
-pub not-short : {listing trace table machine numbers values outNumbers outValues out table′ machine′ numbers′ values′ outNumbers′ outValues′ out′ : List ℕ} {phase : Phase} {A : Type 0} →
-    Advances listing trace table machine numbers values outNumbers outValues out phase table′ machine′ numbers′ values′ outNumbers′ outValues′ out′ TooShort →
-    longEnough table machine numbers values outNumbers outValues out ≡ true → A
+pub not-short : {listing trace table machine out table′ machine′ out′ : List ℕ} {phase : Phase} {A : Type 0} →
+    Advances listing trace table machine out phase table′ machine′ out′ TooShort →
+    longEnough table machine out ≡ true → A
 not-short (too-short short same) e = absurd (let z : _≡_ {A = ℕ} 0 1 = cc in let y : ⊥ = omega arith in y)
 
 -- Memories of these lengths are long enough.
-pub lent-long : {table machine numbers values outNumbers outValues out : ℕ} → 12288 ≡ table → 12288 ≡ machine → 17 ≡ numbers → 17 ≡ values → 16 ≡ outNumbers → 16 ≡ outValues →
-    1100 ≡ out → lengthsSuffice table machine numbers values outNumbers outValues out ≡ true
+pub lent-long : {table machine out : ℕ} → 12288 ≡ table → 12288 ≡ machine →
+    1100 ≡ out → lengthsSuffice table machine out ≡ true
 unfolding lengthsSuffice
-lent-long a b c d e f g = rw (sym a, sym b, sym c, sym d, sym e, sym f, sym g)
+lent-long a b c = rw (sym a, sym b, sym c)
 
 -- Between two turns: so many steps have been made.
 pub record Going (listing trace : Bytes) (m m′ : Memories) (phase : Phase) : Type 0 where
@@ -68,5 +68,5 @@ module _ {listing trace : Bytes} {m m′ : Memories} {phase : Phase} (g : Going 
     pub run-stops : Ran listing trace m m″ NotWritten
     run-stops = not-written (one-more (g .made) on (turn .calls))
 
-    pub fewer : stepsLeft trace (r .next) < stepsLeft trace phase
+    pub fewer : stepsLeft (r .next) < stepsLeft phase
     fewer = step-falls (g .made) on (turn .calls)

@@ -26,20 +26,6 @@ fn memory() -> [u32; 12288]
     [0; 12288]
 }
 
-// The inputs of a call.
-fn inputs() -> [u32; 17]
-    ensures { λ r. ⌜ 17 ≡ length r ⌝ }
-{
-    [0; 17]
-}
-
-// The outputs that a call lists.
-fn outputs() -> [u32; 16]
-    ensures { λ r. ⌜ 16 ≡ length r ⌝ }
-{
-    [0; 16]
-}
-
 // What one step prints.
 fn piece() -> [u8; 1100]
     ensures { λ r. ⌜ 1100 ≡ length r ⌝ }
@@ -107,8 +93,6 @@ fn is_over(phase: Phase) -> bool
         Phase::Opening => false,
         Phase::Starting => false,
         Phase::Reading(_, _) => false,
-        Phase::Toward(_, _, _, _) => false,
-        Phase::Until(_, _, _) => false,
         Phase::Over => true,
     }
 }
@@ -126,30 +110,15 @@ fn turn(
     trace: &[u8],
     table: &mut [u32],
     machine: &mut [u32],
-    numbers: &mut [u32],
-    values: &mut [u32],
-    out_numbers: &mut [u32],
-    out_values: &mut [u32],
     out: &mut [u8],
     phase: Phase,
 ) -> Stepped
-    requires { ⌜ longEnough (now table) (now machine) (now numbers) (now values) (now «out_numbers») (now «out_values») (now out) ≡ true ⌝ }
+    requires { ⌜ longEnough (now table) (now machine) (now out) ≡ true ⌝ }
     ensures { λ r. ⌜ Turned (now (listing .entry)) (now (trace .entry))
-        (memories (now (table .entry)) (now (machine .entry)) (now (numbers .entry)) (now (values .entry)) (now («out_numbers» .entry)) (now («out_values» .entry)) (now (out .entry))) phase
-        (memories (now (table .exit)) (now (machine .exit)) (now (numbers .exit)) (now (values .exit)) (now («out_numbers» .exit)) (now («out_values» .exit)) (now (out .exit))) r ⌝ }
+        (memories (now (table .entry)) (now (machine .entry)) (now (out .entry))) phase
+        (memories (now (table .exit)) (now (machine .exit)) (now (out .exit))) r ⌝ }
 {
-    let answer = replay::advance(
-        listing,
-        trace,
-        table,
-        machine,
-        numbers,
-        values,
-        out_numbers,
-        out_values,
-        out,
-        phase,
-    );
+    let answer = replay::advance(listing, trace, table, machine, out, phase);
     match answer {
         Advanced::Went(next, printed) => {
             let is_written = io::write_all(fd, &out[..printed]);
@@ -180,32 +149,16 @@ fn run(
     trace: &[u8],
     table: &mut [u32],
     machine: &mut [u32],
-    numbers: &mut [u32],
-    values: &mut [u32],
-    out_numbers: &mut [u32],
-    out_values: &mut [u32],
     out: &mut [u8],
 ) -> Ending
-    requires { ⌜ longEnough (now table) (now machine) (now numbers) (now values) (now «out_numbers») (now «out_values») (now out) ≡ true ⌝ }
+    requires { ⌜ longEnough (now table) (now machine) (now out) ≡ true ⌝ }
     ensures { λ r. ⌜ Ran (now (listing .entry)) (now (trace .entry))
-        (memories (now (table .entry)) (now (machine .entry)) (now (numbers .entry)) (now (values .entry)) (now («out_numbers» .entry)) (now («out_values» .entry)) (now (out .entry)))
-        (memories (now (table .exit)) (now (machine .exit)) (now (numbers .exit)) (now (values .exit)) (now («out_numbers» .exit)) (now («out_values» .exit)) (now (out .exit))) r ⌝ }
+        (memories (now (table .entry)) (now (machine .entry)) (now (out .entry)))
+        (memories (now (table .exit)) (now (machine .exit)) (now (out .exit))) r ⌝ }
 {
     let mut phase = Phase::Opening;
     while !is_over(phase) {
-        let made = turn(
-            fd,
-            listing,
-            trace,
-            table,
-            machine,
-            numbers,
-            values,
-            out_numbers,
-            out_values,
-            out,
-            phase,
-        );
+        let made = turn(fd, listing, trace, table, machine, out, phase);
         if !made.is_written {
             return Ending::NotWritten;
         }
@@ -221,23 +174,8 @@ fn play(fd: i32, listing: &[u8], trace: &[u8]) -> Ending
 {
     let mut table = memory();
     let mut machine = memory();
-    let mut numbers = inputs();
-    let mut values = inputs();
-    let mut out_numbers = outputs();
-    let mut out_values = outputs();
     let mut out = piece();
-    run(
-        fd,
-        listing,
-        trace,
-        &mut table,
-        &mut machine,
-        &mut numbers,
-        &mut values,
-        &mut out_numbers,
-        &mut out_values,
-        &mut out,
-    )
+    run(fd, listing, trace, &mut table, &mut machine, &mut out)
 }
 
 // The session of the files that two arguments name, printed to a descriptor; having said why, if it is not.

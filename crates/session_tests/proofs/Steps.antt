@@ -28,27 +28,27 @@ use Rattle.session_tests.specs.declared.playing.Taken.the-variants as TV
 
 -- ── one step ──────────────────────────────────────────────────────────────────────────────────────
 -- the call that `advance` promises
-pub call-of : {listing trace table machine ins news numbers values out : List ℕ} {phase : Phase} {table′ machine′ ins′ news′ numbers′ values′ out′ : List ℕ} {a : Advanced} {next : Phase}
-    {n : ℕ} → Advances listing trace table machine ins news numbers values out phase table′ machine′ ins′ news′ numbers′ values′ out′ a → a ≡ Went next n
-    → AsLong (memories table machine ins news numbers values out) (memories table′ machine′ ins′ news′ numbers′ values′ out′)
-    → Calls listing trace (memories table machine ins news numbers values out) phase (memories table′ machine′ ins′ news′ numbers′ values′ out′) (Went next n)
-call-of {listing} {trace} {table} {machine} {ins} {news} {numbers} {values} {out} {phase} {table′} {machine′} {ins′} {news′} {numbers′} {values′} {out′} k e long =
+pub call-of : {listing trace table machine out : List ℕ} {phase : Phase} {table′ machine′ out′ : List ℕ} {a : Advanced} {next : Phase}
+    {n : ℕ} → Advances listing trace table machine out phase table′ machine′ out′ a → a ≡ Went next n
+    → AsLong (memories table machine out) (memories table′ machine′ out′)
+    → Calls listing trace (memories table machine out) phase (memories table′ machine′ out′) (Went next n)
+call-of {listing} {trace} {table} {machine} {out} {phase} {table′} {machine′} {out′} k e long =
     record {
-      advances = subst (λ (x : Advanced). Advances listing trace table machine ins news numbers values out phase table′ machine′ ins′ news′ numbers′ values′ out′ x) e k;
+      advances = subst (λ (x : Advanced). Advances listing trace table machine out phase table′ machine′ out′ x) e k;
       as-long = long;
     }
 
 -- memories that are long enough are not too short
-pub not-short : {listing trace table machine ins news numbers values out : List ℕ} {phase : Phase} {table′ machine′ ins′ news′ numbers′ values′ out′ : List ℕ} {A : Type 0}
-    → Advances listing trace table machine ins news numbers values out phase table′ machine′ ins′ news′ numbers′ values′ out′ TooShort
-    → longEnough table machine ins news numbers values out ≡ true → A
+pub not-short : {listing trace table machine out : List ℕ} {phase : Phase} {table′ machine′ out′ : List ℕ} {A : Type 0}
+    → Advances listing trace table machine out phase table′ machine′ out′ TooShort
+    → longEnough table machine out ≡ true → A
 not-short (too-short short same) e = absurd (let z : _≡_ {A = ℕ} 0 1 = cc in let y : ⊥ = omega arith in y)
 
 -- memories of these lengths are long enough
-pub lent-long : {table machine ins news numbers values out : ℕ} → 12288 ≡ table → 12288 ≡ machine → 17 ≡ ins → 17 ≡ news → 16 ≡ numbers → 16 ≡ values → 1100 ≡ out
-    → lengthsSuffice table machine ins news numbers values out ≡ true
+pub lent-long : {table machine out : ℕ} → 12288 ≡ table → 12288 ≡ machine → 1100 ≡ out
+    → lengthsSuffice table machine out ≡ true
 unfolding lengthsSuffice
-lent-long a b c d e f g = rw (sym a, sym b, sym c, sym d, sym e, sym f, sym g)
+lent-long a b c = rw (sym a, sym b, sym c)
 
 -- the part of the print that was compared
 pub part-is : (print : List ℕ) (at n : ℕ) → take (at + n - at) (drop at print) ≡ take n (drop at print)
@@ -118,8 +118,8 @@ module _ {listing trace print : List ℕ} {m m′ : Memories} {phase : Phase} {a
     room-of : {next : Phase} {n : ℕ} → Calls listing trace m′ phase m″ (Went next n) → n ≤ length (m″ .out)
     room-of call = by (call .advances)
       where
-        by : {table machine ins news numbers values out table′ machine′ ins′ news′ numbers′ values′ out′ : List ℕ} {next : Phase} {n : ℕ} →
-            Advances listing trace table machine ins news numbers values out phase table′ machine′ ins′ news′ numbers′ values′ out′ (Went next n) → n ≤ length out′
+        by : {table machine out table′ machine′ out′ : List ℕ} {next : Phase} {n : ℕ} →
+            Advances listing trace table machine out phase table′ machine′ out′ (Went next n) → n ≤ length out′
         by (went long moves) = moves .steps .room
 
     module _ {t : Taken} (k : Takes listing trace print m′ phase at m″ t) where
@@ -129,10 +129,10 @@ module _ {listing trace print : List ℕ} {m m′ : Memories} {phase : Phase} {a
           go : {next : Phase} {to : ℕ} → Takes listing trace print m′ phase at m″ (TV.On next to) → Playing listing trace print m m″ next to
           go (on call h a) = went-on call h a
 
-      pub taken-less : {next : Phase} {to : ℕ} → t ≡ TV.On next to → stepsLeft trace next < stepsLeft trace phase
+      pub taken-less : {next : Phase} {to : ℕ} → t ≡ TV.On next to → stepsLeft next < stepsLeft phase
       taken-less e = go (subst (λ (x : Taken). Takes listing trace print m′ phase at m″ x) e k)
         where
-          go : {next : Phase} {to : ℕ} → Takes listing trace print m′ phase at m″ (TV.On next to) → stepsLeft trace next < stepsLeft trace phase
+          go : {next : Phase} {to : ℕ} → Takes listing trace print m′ phase at m″ (TV.On next to) → stepsLeft next < stepsLeft phase
           go (on call h a) = step-falls (p .made) going call
 
       pub taken-wrong : t ≡ TV.Failed → Tells false (print ≡ session listing trace)

@@ -49,21 +49,11 @@ fn case_at(s: &[u8], at: usize) -> Case
 }
 
 // Plays the case, and says so if it fails.
-fn run_case(
-    s: &[u8],
-    case: Case,
-    table: &mut [u32],
-    machine: &mut [u32],
-    ins: &mut [u32],
-    news: &mut [u32],
-    numbers: &mut [u32],
-    values: &mut [u32],
-    out: &mut [u8],
-) -> bool
-    requires { ⌜ Inside (now s) case × (longEnough (now table) (now machine) (now ins) (now news) (now numbers) (now values) (now out) ≡ true) ⌝ }
+fn run_case(s: &[u8], case: Case, table: &mut [u32], machine: &mut [u32], out: &mut [u8]) -> bool
+    requires { ⌜ Inside (now s) case × (longEnough (now table) (now machine) (now out) ≡ true) ⌝ }
     ensures { λ r. ⌜ Tells r (Agrees (now (s .entry)) case)
-        × AsLong (memories (now (table .entry)) (now (machine .entry)) (now (ins .entry)) (now (news .entry)) (now (numbers .entry)) (now (values .entry)) (now (out .entry)))
-        (memories (now (table .exit)) (now (machine .exit)) (now (ins .exit)) (now (news .exit)) (now (numbers .exit)) (now (values .exit)) (now (out .exit))) ⌝ }
+        × AsLong (memories (now (table .entry)) (now (machine .entry)) (now (out .entry)))
+        (memories (now (table .exit)) (now (machine .exit)) (now (out .exit))) ⌝ }
 {
     let listing = case.listing;
     let listing_to = case.listing_to;
@@ -77,10 +67,6 @@ fn run_case(
         &s[print..print_to],
         table,
         machine,
-        ins,
-        news,
-        numbers,
-        values,
         out,
     );
     if !right {
@@ -98,20 +84,11 @@ pub struct Tally {
 }
 
 // All cases of a file: their number, then each of them.
-fn run_file(
-    s: &[u8],
-    table: &mut [u32],
-    machine: &mut [u32],
-    ins: &mut [u32],
-    news: &mut [u32],
-    numbers: &mut [u32],
-    values: &mut [u32],
-    out: &mut [u8],
-) -> Tally
-    requires { ⌜ longEnough (now table) (now machine) (now ins) (now news) (now numbers) (now values) (now out) ≡ true ⌝ }
+fn run_file(s: &[u8], table: &mut [u32], machine: &mut [u32], out: &mut [u8]) -> Tally
+    requires { ⌜ longEnough (now table) (now machine) (now out) ≡ true ⌝ }
     ensures { λ r. ⌜ Ran (now (s .entry)) r
-        × AsLong (memories (now (table .entry)) (now (machine .entry)) (now (ins .entry)) (now (news .entry)) (now (numbers .entry)) (now (values .entry)) (now (out .entry)))
-        (memories (now (table .exit)) (now (machine .exit)) (now (ins .exit)) (now (news .exit)) (now (numbers .exit)) (now (values .exit)) (now (out .exit))) ⌝ }
+        × AsLong (memories (now (table .entry)) (now (machine .entry)) (now (out .entry)))
+        (memories (now (table .exit)) (now (machine .exit)) (now (out .exit))) ⌝ }
 {
     let count = word_at(s, 0) as u64;
     let mut at = past(s, 0, 4);
@@ -119,7 +96,7 @@ fn run_file(
     let mut failed: u64 = 0;
     while done < count {
         let case = case_at(s, at);
-        if !run_case(s, case, table, machine, ins, news, numbers, values, out) {
+        if !run_case(s, case, table, machine, out) {
             failed += 1;
         }
         at = case.print_to;
@@ -138,20 +115,6 @@ fn memory() -> [u32; 12288]
     [0; 12288]
 }
 
-// The inputs of a call.
-fn inputs() -> [u32; 17]
-    ensures { λ r. ⌜ 17 ≡ length r ⌝ }
-{
-    [0; 17]
-}
-
-// The outputs that a call lists.
-fn outputs() -> [u32; 16]
-    ensures { λ r. ⌜ 16 ≡ length r ⌝ }
-{
-    [0; 16]
-}
-
 // What one step prints.
 fn piece() -> [u8; 1100]
     ensures { λ r. ⌜ 1100 ≡ length r ⌝ }
@@ -164,20 +127,7 @@ fn main() {
     let length = read_file(b"sessions.dat", &mut file);
     let mut table = memory();
     let mut machine = memory();
-    let mut ins = inputs();
-    let mut news = inputs();
-    let mut numbers = outputs();
-    let mut values = outputs();
     let mut out = piece();
-    let tally = run_file(
-        &file[..length],
-        &mut table,
-        &mut machine,
-        &mut ins,
-        &mut news,
-        &mut numbers,
-        &mut values,
-        &mut out,
-    );
+    let tally = run_file(&file[..length], &mut table, &mut machine, &mut out);
     sum_up(b"sessions: ", tally.cases, tally.failed);
 }

@@ -49,31 +49,16 @@ fn take_step(
     print: &[u8],
     table: &mut [u32],
     machine: &mut [u32],
-    ins: &mut [u32],
-    news: &mut [u32],
-    numbers: &mut [u32],
-    values: &mut [u32],
     out: &mut [u8],
     phase: Phase,
     at: usize,
 ) -> Taken
-    requires { ⌜ longEnough (now table) (now machine) (now ins) (now news) (now numbers) (now values) (now out) ≡ true ⌝ }
+    requires { ⌜ longEnough (now table) (now machine) (now out) ≡ true ⌝ }
     ensures { λ r. ⌜ Takes (now (listing .entry)) (now (trace .entry)) (now (print .entry))
-        (memories (now (table .entry)) (now (machine .entry)) (now (ins .entry)) (now (news .entry)) (now (numbers .entry)) (now (values .entry)) (now (out .entry))) phase at
-        (memories (now (table .exit)) (now (machine .exit)) (now (ins .exit)) (now (news .exit)) (now (numbers .exit)) (now (values .exit)) (now (out .exit))) r ⌝ }
+        (memories (now (table .entry)) (now (machine .entry)) (now (out .entry))) phase at
+        (memories (now (table .exit)) (now (machine .exit)) (now (out .exit))) r ⌝ }
 {
-    match advance(
-        listing,
-        trace,
-        table,
-        machine,
-        ins,
-        news,
-        numbers,
-        values,
-        out,
-        phase,
-    ) {
+    match advance(listing, trace, table, machine, out, phase) {
         // never: the memories are long enough
         Advanced::TooShort => Taken::Failed,
         Advanced::Went(next, n) => match follows(print, at, out, n) {
@@ -90,8 +75,6 @@ fn is_over(phase: Phase) -> bool
         Phase::Opening => false,
         Phase::Starting => false,
         Phase::Reading(_, _) => false,
-        Phase::Toward(_, _, _, _) => false,
-        Phase::Until(_, _, _) => false,
         Phase::Over => true,
     }
 }
@@ -103,34 +86,18 @@ pub fn plays(
     print: &[u8],
     table: &mut [u32],
     machine: &mut [u32],
-    ins: &mut [u32],
-    news: &mut [u32],
-    numbers: &mut [u32],
-    values: &mut [u32],
     out: &mut [u8],
 ) -> bool
-    requires { ⌜ longEnough (now table) (now machine) (now ins) (now news) (now numbers) (now values) (now out) ≡ true ⌝ }
+    requires { ⌜ longEnough (now table) (now machine) (now out) ≡ true ⌝ }
     ensures { λ r. ⌜ Tells r (now (print .entry) ≡ session (now (listing .entry)) (now (trace .entry)))
-        × AsLong (memories (now (table .entry)) (now (machine .entry)) (now (ins .entry)) (now (news .entry)) (now (numbers .entry)) (now (values .entry)) (now (out .entry)))
-        (memories (now (table .exit)) (now (machine .exit)) (now (ins .exit)) (now (news .exit)) (now (numbers .exit)) (now (values .exit)) (now (out .exit))) ⌝ }
+        × AsLong (memories (now (table .entry)) (now (machine .entry)) (now (out .entry)))
+        (memories (now (table .exit)) (now (machine .exit)) (now (out .exit))) ⌝ }
 {
     let mut phase = Phase::Opening;
     let mut at: usize = 0;
     while !is_over(phase) {
-        let Taken::On(next, to) = take_step(
-            listing,
-            trace,
-            print,
-            table,
-            machine,
-            ins,
-            news,
-            numbers,
-            values,
-            out,
-            phase,
-            at,
-        ) else {
+        let Taken::On(next, to) = take_step(listing, trace, print, table, machine, out, phase, at)
+        else {
             return false;
         };
         phase = next;

@@ -10,18 +10,6 @@ memory-requires c κs = search needs
 memory-requires-2 : tie.Need-memory-requires-2
 memory-requires-2 c κs = search needs
 
-inputs-requires : tie.Need-inputs-requires
-inputs-requires c κs = search needs
-
-inputs-requires-2 : tie.Need-inputs-requires-2
-inputs-requires-2 c κs = search needs
-
-outputs-requires : tie.Need-outputs-requires
-outputs-requires c κs = search needs
-
-outputs-requires-2 : tie.Need-outputs-requires-2
-outputs-requires-2 c κs = search needs
-
 piece-requires : tie.Need-piece-requires
 piece-requires c κs = search needs
 
@@ -34,22 +22,8 @@ slice-aggregate-run-2 c = search needs
 slice-aggregate-run-3 : tie.Need-slice-aggregate-run-3
 slice-aggregate-run-3 c = search needs
 
-slice-aggregate-run-4 : tie.Need-slice-aggregate-run-4
-slice-aggregate-run-4 c = search needs
-
-slice-aggregate-run-5 : tie.Need-slice-aggregate-run-5
-slice-aggregate-run-5 c = search needs
-
-slice-aggregate-run-6 : tie.Need-slice-aggregate-run-6
-slice-aggregate-run-6 c = search needs
-
-slice-aggregate-run-7 : tie.Need-slice-aggregate-run-7
-slice-aggregate-run-7 c = search needs
-
 run-requires : tie.Need-run-requires
-run-requires c κs =
-    lent-long (c .before .before .before .before .before .before .before .before .before .before .before .before .before .memory .ensures) (c .before .before .before .before .before .before .before .before .before .before .before .before .memory2 .ensures) (c .before .before .before .before .before .before .before .before .before .before .before .inputs .ensures)
-    (c .before .before .before .before .before .before .before .before .before .before .inputs2 .ensures) (c .before .before .before .before .before .before .before .before .before .outputs .ensures) (c .before .before .before .before .before .before .before .before .outputs2 .ensures) (c .before .before .before .before .before .before .before .piece .ensures)
+run-requires c κs = lent-long (c .before .before .before .before .before .memory .ensures) (c .before .before .before .before .memory2 .ensures) (c .before .before .before .piece .ensures)
 
 returns : tie.Need-returns
 returns c = search needs
@@ -60,17 +34,9 @@ play-spec =
     (tie.spec
     memory-requires
     memory-requires-2
-    inputs-requires
-    inputs-requires-2
-    outputs-requires
-    outputs-requires-2
     piece-requires
     slice-aggregate-run
     slice-aggregate-run-2
     slice-aggregate-run-3
-    slice-aggregate-run-4
-    slice-aggregate-run-5
-    slice-aggregate-run-6
-    slice-aggregate-run-7
     run-requires
     returns)

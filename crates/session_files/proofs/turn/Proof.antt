@@ -14,10 +14,10 @@ enum-known-answer : tie.Need-enum-known-answer
 enum-known-answer c = search needs
 
 slice-reshare-prefix-write-all : tie.Need-slice-reshare-prefix-write-all
-slice-reshare-prefix-write-all c = went-room (c .before .before .before .before .before .before .before .before .before .before .before .before .before .before .before .before .before .advance .ensures) (c .before .answer .given .1)
+slice-reshare-prefix-write-all c = went-room (c .before .before .before .before .before .before .before .before .before .advance .ensures) (c .before .answer .given .1)
 
 slice-aggregate-write-all : tie.Need-slice-aggregate-write-all
-slice-aggregate-write-all c = sym (length-take-le _ _ (went-room (c .before .before .before .before .before .before .before .before .before .before .before .before .before .before .before .before .before .before .advance .ensures) (c .before .before .answer .given .1)))
+slice-aggregate-write-all c = sym (length-take-le _ _ (went-room (c .before .before .before .before .before .before .before .before .before .before .advance .ensures) (c .before .before .answer .given .1)))
 
 write-all-requires : tie.Need-write-all-requires
 write-all-requires c κs = search needs
@@ -26,56 +26,30 @@ enum-told : tie.Need-enum-told
 enum-told c = search needs
 
 same-length : tie.Need-same-length
-same-length c = c .before .before .before .before .before .before .before .before .before .before .before .before .before .before .before .before .before .before .table .given
+same-length c = c .before .before .before .before .before .before .before .before .before .before .table .given
 
 same-length-2 : tie.Need-same-length-2
-same-length-2 c = c .before .before .before .before .before .before .before .before .before .before .before .before .before .before .before .before .machine .given
+same-length-2 c = c .before .before .before .before .before .before .before .before .machine .given
 
 same-length-3 : tie.Need-same-length-3
-same-length-3 c = c .before .before .before .before .before .before .before .before .before .before .before .before .before .before .numbers .given
-
-same-length-4 : tie.Need-same-length-4
-same-length-4 c = c .before .before .before .before .before .before .before .before .before .before .before .before .values .given
-
-same-length-5 : tie.Need-same-length-5
-same-length-5 c = c .before .before .before .before .before .before .before .before .before .before .out-numbers .given
-
-same-length-6 : tie.Need-same-length-6
-same-length-6 c = c .before .before .before .before .before .before .before .before .out-values .given
-
-same-length-7 : tie.Need-same-length-7
-same-length-7 c = c .before .before .before .before .before .before .out .given
+same-length-3 c = c .before .before .before .before .before .before .out .given
 
 returns : tie.Need-returns
 returns c =
-    turned (c .before .before .before .before .before .before .before .before .before .before .before .before .before .before .before .before .before .before .before .advance .ensures) (c .write-all .result) (c .before .before .before .answer .given .1)
-    (record { table-is = same-length c; machine-is = same-length-2 c; numbers-are = same-length-3 c; values-are = same-length-4 c; out-numbers-are = same-length-5 c; out-values-are = same-length-6 c; out-is = same-length-7 c })
+    turned (c .before .before .before .before .before .before .before .before .before .before .before .advance .ensures) (c .write-all .result) (c .before .before .before .answer .given .1)
+    (record { table-is = same-length c; machine-is = same-length-2 c; out-is = same-length-3 c })
 
-same-length-8 : tie.Need-same-length-8
-same-length-8 c = c .before .before .before .before .before .before .before .before .before .before .before .before .before .before .before .table .given
+same-length-4 : tie.Need-same-length-4
+same-length-4 c = c .before .before .before .before .before .before .before .table .given
 
-same-length-9 : tie.Need-same-length-9
-same-length-9 c = c .before .before .before .before .before .before .before .before .before .before .before .before .before .machine .given
+same-length-5 : tie.Need-same-length-5
+same-length-5 c = c .before .before .before .before .before .machine .given
 
-same-length-10 : tie.Need-same-length-10
-same-length-10 c = c .before .before .before .before .before .before .before .before .before .before .before .numbers .given
-
-same-length-11 : tie.Need-same-length-11
-same-length-11 c = c .before .before .before .before .before .before .before .before .before .values .given
-
-same-length-12 : tie.Need-same-length-12
-same-length-12 c = c .before .before .before .before .before .before .before .out-numbers .given
-
-same-length-13 : tie.Need-same-length-13
-same-length-13 c = c .before .before .before .before .before .out-values .given
-
-same-length-14 : tie.Need-same-length-14
-same-length-14 c = c .before .before .before .out .given
+same-length-6 : tie.Need-same-length-6
+same-length-6 c = c .before .before .before .out .given
 
 returns-2 : tie.Need-returns-2
-returns-2 c =
-    not-short (rw (c .enum-told .given .1) at (c .before .before .before .before .before .before .before .before .before .before .before .before .before .before .before .before .advance .ensures))
-    (c .before .before .before .before .before .before .before .before .before .before .before .before .before .before .before .before .before .before .before .before .before .before .before .before .before .before .before .before .before .before .before .before .before .pre)
+returns-2 c = not-short (rw (c .enum-told .given .1) at (c .before .before .before .before .before .before .before .before .advance .ensures)) (c .before .before .before .before .before .before .before .before .before .before .before .before .before .before .before .before .before .pre)
 
 pub turn-spec : {M : Type 1} → statement M
 turn-spec =
@@ -90,16 +64,8 @@ turn-spec =
     same-length
     same-length-2
     same-length-3
+    returns
     same-length-4
     same-length-5
     same-length-6
-    same-length-7
-    returns
-    same-length-8
-    same-length-9
-    same-length-10
-    same-length-11
-    same-length-12
-    same-length-13
-    same-length-14
     returns-2)

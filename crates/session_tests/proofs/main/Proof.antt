@@ -22,18 +22,6 @@ memory-requires c κs = search needs
 memory-requires-2 : tie.Need-memory-requires-2
 memory-requires-2 c κs = search needs
 
-inputs-requires : tie.Need-inputs-requires
-inputs-requires c κs = search needs
-
-inputs-requires-2 : tie.Need-inputs-requires-2
-inputs-requires-2 c κs = search needs
-
-outputs-requires : tie.Need-outputs-requires
-outputs-requires c κs = search needs
-
-outputs-requires-2 : tie.Need-outputs-requires-2
-outputs-requires-2 c κs = search needs
-
 piece-requires : tie.Need-piece-requires
 piece-requires c κs = search needs
 
@@ -52,22 +40,8 @@ slice-aggregate-run-file-3 c = search needs
 slice-aggregate-run-file-4 : tie.Need-slice-aggregate-run-file-4
 slice-aggregate-run-file-4 c = search needs
 
-slice-aggregate-run-file-5 : tie.Need-slice-aggregate-run-file-5
-slice-aggregate-run-file-5 c = search needs
-
-slice-aggregate-run-file-6 : tie.Need-slice-aggregate-run-file-6
-slice-aggregate-run-file-6 c = search needs
-
-slice-aggregate-run-file-7 : tie.Need-slice-aggregate-run-file-7
-slice-aggregate-run-file-7 c = search needs
-
-slice-aggregate-run-file-8 : tie.Need-slice-aggregate-run-file-8
-slice-aggregate-run-file-8 c = search needs
-
 run-file-requires : tie.Need-run-file-requires
-run-file-requires c κs =
-    lent-long (c .before .before .before .before .before .before .before .before .before .before .before .before .before .before .memory .ensures) (c .before .before .before .before .before .before .before .before .before .before .before .before .before .memory2 .ensures) (c .before .before .before .before .before .before .before .before .before .before .before .before .inputs .ensures)
-    (c .before .before .before .before .before .before .before .before .before .before .before .inputs2 .ensures) (c .before .before .before .before .before .before .before .before .before .before .outputs .ensures) (c .before .before .before .before .before .before .before .before .before .outputs2 .ensures) (c .before .before .before .before .before .before .before .before .piece .ensures)
+run-file-requires c κs = lent-long (c .before .before .before .before .before .before .memory .ensures) (c .before .before .before .before .before .memory2 .ensures) (c .before .before .before .before .piece .ensures)
 
 slice-aggregate-sum-up : tie.Need-slice-aggregate-sum-up
 slice-aggregate-sum-up c = search needs
@@ -88,20 +62,12 @@ main-spec =
     read-file-requires
     memory-requires
     memory-requires-2
-    inputs-requires
-    inputs-requires-2
-    outputs-requires
-    outputs-requires-2
     piece-requires
     array-share-prefix-file
     slice-aggregate-run-file
     slice-aggregate-run-file-2
     slice-aggregate-run-file-3
     slice-aggregate-run-file-4
-    slice-aggregate-run-file-5
-    slice-aggregate-run-file-6
-    slice-aggregate-run-file-7
-    slice-aggregate-run-file-8
     run-file-requires
     slice-aggregate-sum-up
     sum-up-requires

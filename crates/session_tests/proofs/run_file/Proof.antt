@@ -15,33 +15,28 @@ use Rattle.session_tests.proofs.run_file.Statement.{statement}
 use Rattle.session_tests.proofs.run_file.Tie as tie
 
 abbrev Inv-loop : tie.InvT-loop
-Inv-loop s table₀ machine₀ ins₀ news₀ numbers₀ values₀ out₀ count at₀ done₀ failed₀ table machine ins news numbers values out at done failed =
-    (count ≡ wordAt s 0) × (count < 4294967296) × (done ≤ count) × (failed ≤ done) × AsLong (memories table₀ machine₀ ins₀ news₀ numbers₀ values₀ out₀) (memories table machine ins news numbers values out) × Rest s (onward s 0 4) count at done failed
+Inv-loop s table₀ machine₀ out₀ count at₀ done₀ failed₀ table machine out at done failed = (count ≡ wordAt s 0) × (count < 4294967296) × (done ≤ count) × (failed ≤ done) × AsLong (memories table₀ machine₀ out₀) (memories table machine out) × Rest s (onward s 0 4) count at done failed
 
 abbrev μ-loop : tie.MeasureT-loop
-μ-loop s table₀ machine₀ ins₀ news₀ numbers₀ values₀ out₀ count at₀ done₀ failed₀ table machine ins news numbers values out at done failed = count - done
+μ-loop s table₀ machine₀ out₀ count at₀ done₀ failed₀ table machine out at done failed = count - done
 
 word-at-requires : tie.Need-word-at-requires Inv-loop μ-loop
-word-at-requires c κs =
-    tt
+word-at-requires c κs = tt
 
 cast-count : tie.Need-cast-count Inv-loop μ-loop
 cast-count c = search needs
 
 past-requires : tie.Need-past-requires Inv-loop μ-loop
-past-requires c κs =
-    tt
+past-requires c κs = tt
 
 loop-holds : tie.Need-loop-holds Inv-loop μ-loop
-loop-holds c =
-    (c .before .word-at .ensures, omega arith, omega arith, omega arith, record { table-is = refl; machine-is = refl; numbers-are = refl; values-are = refl; out-numbers-are = refl; out-values-are = refl; out-is = refl }, begun (c .past .ensures))
+loop-holds c = (c .before .word-at .ensures, omega arith, omega arith, omega arith, record { table-is = refl; machine-is = refl; out-is = refl }, begun (c .past .ensures))
 
 case-at-requires : tie.Need-case-at-requires Inv-loop μ-loop
-case-at-requires c κs =
-    tt
+case-at-requires c κs = tt
 
 run-case-requires : tie.Need-run-case-requires Inv-loop μ-loop
-run-case-requires c κs = (c .before .before .before .before .before .before .before .case-at .ensures .1, still-long (c .before .before .before .before .before .before .before .before .before .loop .inv .4) (c .before .before .before .before .before .before .before .before .before .before .before .before .before .before .before .before .before .before .before .before .pre))
+run-case-requires c κs = (c .before .before .before .case-at .ensures .1, still-long (c .before .before .before .before .before .loop .inv .4) (c .before .before .before .before .before .before .before .before .before .before .before .before .pre))
 
 add-failed : tie.Need-add-failed Inv-loop μ-loop
 add-failed c = omega arith
@@ -54,47 +49,28 @@ loop-less c = omega arith
 
 loop-again : tie.Need-loop-again Inv-loop μ-loop
 loop-again c =
-    let i = c .before .before .before .before .before .before .before .before .before .before .before .before .before .before .before .before .before .before .before .before .before .before .before .before .before .loop .inv in
-    let r = c .before .before .before .before .before .before .before .before .before .before .before .before .before .before .before .run-case .ensures in
-    let case = c .before .before .before .before .before .before .before .before .before .before .before .before .before .before .before .before .before .before .before .before .before .before .before .case-at in (
+    let i = c .before .before .before .before .before .before .before .before .before .before .before .before .before .loop .inv in
+    let r = c .before .before .before .before .before .before .before .run-case .ensures in
+    let case = c .before .before .before .before .before .before .before .before .before .before .before .case-at in (
       i .0,
       i .1,
       omega arith,
       ⊎-elim (λ w. omega arith) (λ w. omega arith) (c .if1 .came),
-      record { table-is = r .1 .table-is ∙ i .4 .table-is; machine-is = r .1 .machine-is ∙ i .4 .machine-is; numbers-are = r .1 .numbers-are ∙ i .4 .numbers-are; values-are = r .1 .values-are ∙ i .4 .values-are; out-numbers-are = r .1 .out-numbers-are ∙ i .4 .out-numbers-are; out-values-are = r .1 .out-values-are ∙ i .4 .out-values-are; out-is = r .1 .out-is ∙ i .4 .out-is },
+      record { table-is = r .1 .table-is ∙ i .4 .table-is; machine-is = r .1 .machine-is ∙ i .4 .machine-is; out-is = r .1 .out-is ∙ i .4 .out-is },
       ⊎-elim
-          (λ w. one-fails (case .result) (case .ensures .0) (c .before .before .before .before .before .before .before .before .before .before .before .before .before .before .before .before .before .before .before .before .before .before .before .before .loop-test .taken) (i .5) (λ a. never (sym (not-true _ (w .0 .taken)) ∙ r .0 .whenever a)) (w .1))
-          (λ w. one-agrees (case .result) (case .ensures .0) (c .before .before .before .before .before .before .before .before .before .before .before .before .before .before .before .before .before .before .before .before .before .before .before .before .loop-test .taken) (i .5) (r .0 .means (not-false _ (w .0 .left))) (w .1))
+          (λ w. one-fails (case .result) (case .ensures .0) (c .before .before .before .before .before .before .before .before .before .before .before .before .loop-test .taken) (i .5) (λ a. never (sym (not-true _ (w .0 .taken)) ∙ r .0 .whenever a)) (w .1))
+          (λ w. one-agrees (case .result) (case .ensures .0) (c .before .before .before .before .before .before .before .before .before .before .before .before .loop-test .taken) (i .5) (r .0 .means (not-false _ (w .0 .left))) (w .1))
           (c .if1 .came),
     )
 
 same-length : tie.Need-same-length Inv-loop μ-loop
-same-length c =
-    c .before .loop .inv .4 .table-is
+same-length c = c .before .loop .inv .4 .table-is
 
 same-length-2 : tie.Need-same-length-2 Inv-loop μ-loop
-same-length-2 c =
-    c .before .loop .inv .4 .machine-is
+same-length-2 c = c .before .loop .inv .4 .machine-is
 
 same-length-3 : tie.Need-same-length-3 Inv-loop μ-loop
-same-length-3 c =
-    c .before .loop .inv .4 .numbers-are
-
-same-length-4 : tie.Need-same-length-4 Inv-loop μ-loop
-same-length-4 c =
-    c .before .loop .inv .4 .values-are
-
-same-length-5 : tie.Need-same-length-5 Inv-loop μ-loop
-same-length-5 c =
-    c .before .loop .inv .4 .out-numbers-are
-
-same-length-6 : tie.Need-same-length-6 Inv-loop μ-loop
-same-length-6 c =
-    c .before .loop .inv .4 .out-values-are
-
-same-length-7 : tie.Need-same-length-7 Inv-loop μ-loop
-same-length-7 c =
-    c .before .loop .inv .4 .out-is
+same-length-3 c = c .before .loop .inv .4 .out-is
 
 returns : tie.Need-returns Inv-loop μ-loop
 returns c =
@@ -121,8 +97,4 @@ run-file-spec =
     same-length
     same-length-2
     same-length-3
-    same-length-4
-    same-length-5
-    same-length-6
-    same-length-7
     returns)

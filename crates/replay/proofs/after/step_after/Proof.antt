@@ -1,7 +1,7 @@
 -- `replay::after::step_after` meets its contract.
 use mathlib.Core.Path.{sym, ap}
 use Rattle.printed_calls.specs.declared.calls.Made.{Made}
-use Rattle.replay.specs.After.{stepAfter, onward}
+use Rattle.replay.specs.After.{stepAfter}
 use borrow.Author.Needs.{needs}
 use Rattle.replay.proofs.after.step_after.Statement.{statement}
 use Rattle.replay.proofs.after.step_after.Tie as tie
@@ -12,15 +12,11 @@ enum-known-made c = search needs
 enum-known-made-2 : tie.Need-enum-known-made-2
 enum-known-made-2 c = search needs
 
-go-on-requires : tie.Need-go-on-requires
-go-on-requires c κs = search needs
-
 returns : tie.Need-returns
-returns c = sym (ap (λ (x : Made). stepAfter x (onward (c .before .before .before .args .then))) (c .before .made .given .1))
+returns c = sym (ap (λ (x : Made). stepAfter x (c .before .before .before .args .at)) (c .before .made .given .1))
 
 returns-2 : tie.Need-returns-2
-returns-2 c =
-    rw (c .go-on .ensures) (sym (ap (λ (x : Made). stepAfter x (onward (c .before .before .before .before .args .then))) (c .before .before .made2 .given .1)))
+returns-2 c = sym (ap (λ (x : Made). stepAfter x (c .before .before .before .args .at)) (c .before .made2 .given .1))
 
 pub step-after-spec : {M : Type 1} → statement M
 step-after-spec =
@@ -28,6 +24,5 @@ step-after-spec =
     (tie.spec
     enum-known-made
     enum-known-made-2
-    go-on-requires
     returns
     returns-2)

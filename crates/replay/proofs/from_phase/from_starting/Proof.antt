@@ -10,20 +10,14 @@ step-after-requires : tie.Need-step-after-requires
 step-after-requires c κs = search needs
 
 same-length : tie.Need-same-length
-same-length c = c .before .before .before .before .before .before .before .before .machine .given
+same-length c = c .before .before .before .before .machine .given
 
 same-length-2 : tie.Need-same-length-2
-same-length-2 c = c .before .before .before .before .before .before .out-numbers .given
-
-same-length-3 : tie.Need-same-length-3
-same-length-3 c = c .before .before .before .before .out-values .given
-
-same-length-4 : tie.Need-same-length-4
-same-length-4 c = c .before .before .out .given
+same-length-2 c = c .before .before .out .given
 
 returns : tie.Need-returns
 returns c =
-    let m = c .before .before .before .before .before .before .before .before .before .make-start in record { made = m .result; call = m .ensures; is = c .step-after .ensures }
+    let m = c .before .before .before .before .before .make-start in record { made = m .result; call = m .ensures; is = c .step-after .ensures }
 
 pub from-starting-spec : {M : Type 1} → statement M
 from-starting-spec =
@@ -33,6 +27,4 @@ from-starting-spec =
     step-after-requires
     same-length
     same-length-2
-    same-length-3
-    same-length-4
     returns)

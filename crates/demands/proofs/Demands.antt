@@ -20,9 +20,9 @@ use Rattle.listing.proofs.Determine.{loads-exactly-if}
 use Rattle.listing.proofs.ShortText.{length-needs-no-test}
 use Rattle.walk.specs.State.{Node, liveInForest, State, Running, Turn, ok}
 use Rattle.walk.specs.Question7.{IsState, LiveChildren}
-use Rattle.walk.specs.State.{Variable, Forest}
-use Rattle.walk.specs.Walk.{childCount, Runner, forkWith, execute, visit, visitForest}
-use Rattle.walk.specs.Instant.{Write, Done, start, instant}
+use Rattle.walk.specs.State.{Variable, Forest, Frame}
+use Rattle.walk.specs.Walk.{childCount, forks, asking, Runner, carryOut, execute, visit, visitForest}
+use Rattle.walk.specs.Instant.{Write, Done, start, instant, startTurn, instantTurn}
 use Rattle.walk.specs.Calls.{Words32, Machine, memoryWords, firstWords, Outcome, startCall, instantCall}
 use Rattle.walk.specs.Comparison.{Compared, alikeCall}
 use Rattle.walk.specs.Runs.{callOnFound}
@@ -31,7 +31,7 @@ use Rattle.walk.specs.Session.{session}
 use Rattle.walk.specs.Paper.{outcomes, starred, expected}
 use Rattle.walk.proofs.Paper as Paper
 use Rattle.walk_laws.specs.Causes.{StartCause, InstantCause, ComparedCause}
-use Rattle.walk_laws.specs.LiveCount.{turnAtStart, turnAtInstant, TrueCount}
+use Rattle.walk_laws.specs.LiveCount.{TrueCount}
 use Rattle.walk_laws.specs.Wakings.{waitingInNode, waitingInForest}
 use Rattle.walk_laws.proofs.Causes.{start-exactly-if}
 use Rattle.walk_laws.proofs.ComparedCauses.{comparison-exactly-if}
@@ -187,9 +187,9 @@ every-session-ends = Ending.a-session-ends
 
 -- "14 At `F`: live routines plus new children at most 64?": where the counter is the true number, 14 asks about this routine, the others and the
 -- new children; it is the true number at the beginning, and if it is so before a part's visit, so it is after it, whatever ended or forked meanwhile.
-pub question-14-asks-the-true-number : (listing : Listing) (now : ℕ) (go : Runner) (level r place : ℕ) (names : List ℕ) (base : ℕ) (cs : List Call) (s : Running)
-    (others : ℕ) → s .live ≡ suc others → execute listing now go (fork cs) level r place names base s ≡
-    forkWith listing now go level r place names base cs (leb (suc others + childCount cs) 64) (leb level 9) s
+pub question-14-asks-the-true-number : (listing : Listing) (now : ℕ) (go : Runner) (me : Frame) (cs : List Call) (s : Running)
+    (others : ℕ) → s .live ≡ suc others → execute listing now go (fork cs) me s ≡
+    carryOut listing now go (asking 14 (leb (suc others + childCount cs) 64) (asking 15 (leb (me .level) 9) (forks cs))) me s
 question-14-asks-the-true-number = LiveCount.fork-asks-true-count
 
 pub live-count-stays-true : (listing : Listing) (now : ℕ) {rest : List Variable → Bool} {level base : ℕ} {names : List ℕ} {cs : List Call} {f : Forest} →
@@ -197,11 +197,11 @@ pub live-count-stays-true : (listing : Listing) (now : ℕ) {rest : List Variabl
     (turn : Turn) → visitForest listing now f level s ≡ ok turn → (turn .running) .live ≡ others + liveInForest (turn .tree)
 live-count-stays-true listing now k s others e turn went = LiveCount.count-true-after-visit listing now k s others e turn went
 
-pub live-count-after-start : (listing : Listing) (allowance : ℕ) (d : Done) → start listing allowance ≡ ok d → TrueCount (turnAtStart listing allowance) d
+pub live-count-after-start : (listing : Listing) (allowance : ℕ) (d : Done) → start listing allowance ≡ ok d → TrueCount (startTurn listing allowance) d
 live-count-after-start = LiveCount.count-true-after-start
 
 pub live-count-after-instant : (listing : Listing) (s : State) (t : ℕ) (inputs : List Write) (allowance : ℕ) (d : Done) → IsState listing s →
-    instant listing s t inputs allowance ≡ ok d → TrueCount (turnAtInstant listing s t inputs allowance) d
+    instant listing s t inputs allowance ≡ ok d → TrueCount (instantTurn listing s t inputs allowance) d
 live-count-after-instant = LiveCount.count-true-after-instant
 
 -- "A waiting routine is woken at most once in an instant": a visit passes at most one wait for each routine that waits in the part visited; of

@@ -27,8 +27,8 @@ unfoldable pub startOf : Run → Done
 unfolding State.fresh State._⊕_ State._>>=_ State.liveInNode Memory.variableAt Memory.writeAt Memory.scheduleAt Memory.addressOf
     Memory.addressesOf Memory.anyWritten Memory.operate Memory.evaluatePiece Memory.evaluatePieces Memory.top Memory.evaluate
     Memory.consecutive Memory.bindNames Memory.ownVariables Walk.noRoutine Walk.routineAt Walk.instructionAt Walk.newRoutine
-    Walk.newRoutines Walk.childCount Walk.withMemory Walk.enter Walk.sleep Walk.leave Walk.inTurn Walk.begin Walk.join Walk.forkWith
-    Walk.scheduleWith Walk.branchWith Walk.execute Walk.step Walk.run Walk.passedWait Walk.wake Walk.resume Walk.visit Instant.madeIfDue
+    Walk.newRoutines Walk.childCount Walk.enter Walk.sleep Walk.leave Walk.inTurn Walk.begin Walk.join Walk.asking
+    Walk.branchPlace Walk.move Walk.carryOut Walk.execute Walk.step Walk.run Walk.passedWait Walk.wake Walk.resume Walk.visit Instant.madeIfDue
     Instant.dueWrite Instant.dueWrites Instant.applyInputs Instant.unmarked Instant.earlierOf Instant.earlier Instant.dueOf
     Instant.dueOfVariables Instant.nextDue Instant.listedIf Instant.writtenFrom Instant.writtenOutputs Instant.finish Instant.environmentSize
     Instant.mainCall Instant.environmentNames Instant.start Instant.instant Instant.dueInNode Instant.unmarkedNode Instant.dueOfNode

@@ -9,9 +9,9 @@ use native.Mathlib.Omega.{arith}
 use lib.ListN.{length, take, drop, length-append}
 use lib.Seq.{take-all, take-at}
 use Rattle.listing.specs.Listing.{Listing, Call, fork, end}
-use Rattle.walk.specs.State.{Variable, Node, node, Forest, empty, more, _⊕_, liveInForest, State, Running, Turn, Result, ok, _>>=_}
-use Rattle.walk.specs.Walk.{instructionAt, withMemory, enter, inTurn, resume, visit, visitForest}
-use Rattle.walk.specs.Instant.{dueWrites, dueInForest, Write, applyInputs, unmarked, unmarkedForest, dueOfVariables, dueOfNode, dueOfForest, nextDue, writtenFrom, writtenOutputs, Done, finish, environmentSize, instant}
+use Rattle.walk.specs.State.{Variable, Node, node, Forest, empty, more, _⊕_, State, Running, Turn, Result, ok, _>>=_, frame}
+use Rattle.walk.specs.Walk.{instructionAt, enter, inTurn, resume, visit, visitForest}
+use Rattle.walk.specs.Instant.{dueWrites, dueInForest, Write, applyInputs, unmarked, unmarkedForest, dueOfVariables, dueOfNode, dueOfForest, nextDue, writtenFrom, writtenOutputs, Done, finish, environmentSize, instant, atInstant}
 use Rattle.walk.specs.Calls.{inputsRise}
 use Rattle.walk.specs.Events.{eventsAt}
 use Rattle.halves.specs.Halves.{onlyOf}
@@ -39,8 +39,7 @@ finished listing t allowance x d e =
 
 -- What is running when the visit begins.
 unfoldable runningAt : State → ℕ → List Write → ℕ → Running
-runningAt s t ws allowance =
-    record { memory = applyInputs ws (dueWrites t (s .environment)); left = allowance; live = liveInForest (dueInForest (s .tree) t); woken = 0 }
+runningAt s t ws allowance = atInstant s t ws allowance
 
 -- Main's visit: its children's, and then its own turn.
 record MainVisited (listing : Listing) (t : ℕ) (names : List ℕ) (own : List Variable) (f : Forest) (r : Running) (x : Turn) : Type 0 where
@@ -50,7 +49,7 @@ record MainVisited (listing : Listing) (t : ℕ) (names : List ℕ) (own : List 
 
 module _ (listing : Listing) (t : ℕ) (growers : List Call) (at-fork : instructionAt listing 0 0 ≡ fork growers)
     (then-ends : instructionAt listing 0 1 ≡ end) where
-  main-turn : (names : List ℕ) (base : ℕ) (y x : Turn) → resume listing t (instructionAt listing 0 0) 0 0 0 names base (y .tree) (y .running) ≡ ok x →
+  main-turn : (names : List ℕ) (base : ℕ) (y x : Turn) → resume listing t (instructionAt listing 0 0) (frame 0 0 0 names base) (y .tree) (y .running) ≡ ok x →
       MainRests names base y x
   unfolding resume
   main-turn names base y x e = main-rests listing t names base then-ends _ y x (rw at-fork at e)
@@ -200,11 +199,11 @@ module _ (g : Grower) (listing : Listing) where
         entered = enter (dueWrites t own) r
 
         entered-long : length (entered .memory) ≡ floor g
-        unfolding entered enter withMemory
+        unfolding entered enter
         entered-long = length-append (r .memory) (dueWrites t own) ∙ ap₂ _+_ memory-long (length-dueWrites t own) ∙ l
 
         entered-later : NotBefore (suc t) (dueOfVariables (entered .memory))
-        unfolding entered enter withMemory
+        unfolding entered enter
         entered-later = append-not-before (suc t) (r .memory) (dueWrites t own) memory-later (due-writes-leave-later t own (main-late .0))
 
         visit-of : Node → Running → Result Turn
@@ -237,7 +236,7 @@ module _ (g : Grower) (listing : Listing) where
         lives-turned : (x y : Turn) (all : Children g listing t visit-of (dueInForest (p .tree) t) (entered .memory) y) →
             MainRests names (size g) y x → Leaves listing t x d →
             Turned g t (ownWrites (args g) ws) p (partAfter g (all .b)) (onlyOf (g .field) (eventsAt t (d .listed)))
-        unfolding entered enter withMemory seen nextOf visit-of
+        unfolding entered enter seen nextOf visit-of
         lives-turned x y all rests left = record {
           listing = listing;
           has = setting .has;

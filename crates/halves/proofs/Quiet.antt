@@ -11,7 +11,7 @@ use lib.Seq.{take-append-seam, drop-append-seam, getD-append-add}
 use Rattle.listing.specs.Listing.{Listing}
 use Rattle.walk.specs.State.{Variable, fresh, Node, Forest, empty, more, _⊕_, Running, ok, _>>=_}
 use Rattle.walk.specs.Memory.{variableAt, addressOf, anyWritten}
-use Rattle.walk.specs.Walk.{instructionAt, withMemory, enter, sleep, join, wake, resume, visit, visitForest}
+use Rattle.walk.specs.Walk.{instructionAt, enter, sleep, join, wake, resume, visit, visitForest}
 use Rattle.walk.specs.Instant.{dueInNode, dueInForest, unmarked, unmarkedNode, unmarkedForest}
 use Rattle.halves.proofs.Reach as Reach
 use Rattle.halves.proofs.Reach.{Zone}
@@ -53,7 +53,7 @@ module _ (zone : Zone) (code : Code) where
     its-instruction r place i = rw (has r i)
 
     mutual
-      unfolding visit visitForest enter withMemory _>>=_ resume wake sleep join _⊕_ unmarkedForest
+      unfolding visit visitForest enter _>>=_ resume wake sleep join _⊕_ unmarkedForest
 
       quiet-visit : (n : Node) (level : ℕ) (s : Running) → Asleep zone code n → Unwritten (s .memory) →
           visit listing now (unmarkedNode n) level s ≡ ok (record { running = s; tree = more (unmarkedNode n) empty })

@@ -9,8 +9,8 @@ use native.Mathlib.Omega.{arith}
 use lib.ListN.{length, take, drop, length-drop, take-append-drop}
 use lib.Seq.{length-take-le}
 use Rattle.listing.specs.Listing.{Listing, end}
-use Rattle.walk.specs.State.{Variable, Node, node, Forest, empty, more, _⊕_, State, Running, Turn, Result, ok}
-use Rattle.walk.specs.Walk.{instructionAt, withMemory, sleep, leave, join, execute, step, run}
+use Rattle.walk.specs.State.{Variable, Node, node, Forest, empty, more, _⊕_, State, Running, Turn, Result, ok, withLeft, frame}
+use Rattle.walk.specs.Walk.{instructionAt, sleep, leave, join, move, carryOut, execute, step, run}
 use Rattle.walk.specs.Instant.{unmarked, unmarkedForest, dueOfVariables, writtenFrom, writtenOutputs}
 use Rattle.walk.specs.Events.{eventsAt}
 use Rattle.halves.specs.Halves.{onlyOf}
@@ -36,30 +36,30 @@ pub record MainRests (names : List ℕ) (base : ℕ) (y x : Turn) : Type 0 where
 
 module _ (listing : Listing) (t : ℕ) (names : List ℕ) (base : ℕ) (then-ends : instructionAt listing 0 1 ≡ end) where
   last-step : (bound : ℕ) (s : Running) (x : Turn) (left : ℕ) →
-      step listing t (λ (u : Running). execute listing t (run listing t bound) (instructionAt listing 0 1) 0 0 1 names base u) left s ≡ ok x →
+      step (λ (u : Running). execute listing t (run listing t bound) (instructionAt listing 0 1) (frame 0 0 1 names base) u) left s ≡ ok x →
       MainRests names base (record { running = s; tree = empty }) x
-  unfolding step leave execute mainOver
+  unfolding step leave execute move carryOut mainOver
   last-step bound s x zero e = stop-is-not-ok e
   last-step bound s x (suc left) e =
-      let u : Running = record { memory = s .memory; left = left; live = s .live; woken = s .woken } in
-      let leaves : leave base u ≡ ok x = rw then-ends at e in
+      let u : Running = withLeft s left in
+      let leaves : leave (frame 0 0 1 names base) u ≡ ok x = rw then-ends at e in
       let same = ok-same _ x leaves in
       record { memory = sym (ap (λ (a : Turn). (a .running) .memory) same); tree = sym (ap (λ (a : Turn). a .tree) same) }
 
-  main-ends : (bound : ℕ) (s : Running) (x : Turn) → run listing t bound 0 0 1 names base s ≡ ok x →
+  main-ends : (bound : ℕ) (s : Running) (x : Turn) → run listing t bound (frame 0 0 1 names base) s ≡ ok x →
       MainRests names base (record { running = s; tree = empty }) x
   unfolding run
   main-ends zero s x e = stop-is-not-ok e
   main-ends (suc bound) s x e = last-step bound s x (s .left) e
 
-  main-joins : (bound : ℕ) (f : Forest) (s : Running) (x : Turn) → join (run listing t bound) 0 0 0 names base f s ≡ ok x →
+  main-joins : (bound : ℕ) (f : Forest) (s : Running) (x : Turn) → join (run listing t bound) (frame 0 0 0 names base) f s ≡ ok x →
       MainRests names base (record { running = s; tree = f }) x
-  unfolding join sleep withMemory mainOver
+  unfolding join sleep mainOver
   main-joins bound empty s x e = main-ends bound s x e
   main-joins bound (more n f) s x e =
       let same = ok-same _ x e in record { memory = sym (ap (λ (a : Turn). (a .running) .memory) same); tree = sym (ap (λ (a : Turn). a .tree) same) }
 
-  pub main-rests : (bound : ℕ) (y x : Turn) → join (run listing t bound) 0 0 0 names base (y .tree) (y .running) ≡ ok x → MainRests names base y x
+  pub main-rests : (bound : ℕ) (y x : Turn) → join (run listing t bound) (frame 0 0 0 names base) (y .tree) (y .running) ≡ ok x → MainRests names base y x
   main-rests bound y x e = main-joins bound (y .tree) (y .running) x e
 
 -- ── the part in its state ─────────────────────────────────────────────────────────────────────────

@@ -9,10 +9,10 @@ use native.Mathlib.Omega.{arith}
 use lib.Dec.{leb}
 use lib.ListN.{length, replicate, length-replicate, length-append}
 use Rattle.listing.specs.Listing.{Listing, Call, Kind, byReference, fork, end}
-use Rattle.walk.specs.State.{Variable, fresh, node, Forest, empty, more, _⊕_, State, Running, Turn, Result, ok}
+use Rattle.walk.specs.State.{Variable, fresh, node, Forest, empty, more, _⊕_, State, Running, Turn, ok, withMemory, withLeft, withLive, frame}
 use Rattle.walk.specs.Memory.{addressOf, addressesOf, consecutive, bindNames, ownVariables}
-use Rattle.walk.specs.Walk.{routineAt, instructionAt, newRoutine, newRoutines, childCount, withMemory, enter, inTurn, begin, forkWith, execute, step, run}
-use Rattle.walk.specs.Instant.{earlier, dueOf, dueOfVariables, Done, environmentSize, mainCall, environmentNames, start}
+use Rattle.walk.specs.Walk.{routineAt, instructionAt, newRoutine, newRoutines, childCount, enter, forks, asking, move, Runner, inTurn, begin, carryOut, execute, step, run}
+use Rattle.walk.specs.Instant.{earlier, dueOf, dueOfVariables, Done, environmentSize, mainCall, environmentNames, start, atStart}
 use Rattle.walk.specs.Events.{eventsAt}
 use Rattle.halves.specs.Halves.{among, onlyOf, its-own}
 use Rattle.walk_laws.proofs.Results.{stop-is-not-ok}
@@ -41,13 +41,14 @@ record Forks (listing : Listing) (growers : List Call) (names : List ℕ) (base 
 
 module _ (listing : Listing) (growers : List Call) (names : List ℕ) (base : ℕ) (at-fork : instructionAt listing 0 0 ≡ fork growers)
     (then-ends : instructionAt listing 0 1 ≡ end) where
-  forks-with : (bound : ℕ) (x y : Bool) (s : Running) (z : Turn) → forkWith listing 0 (run listing 0 bound) 0 0 0 names base growers x y s ≡ ok z →
+  forks-with : (bound : ℕ) (x y : Bool) (s : Running) (z : Turn) →
+      carryOut listing 0 (run listing 0 bound) (asking 14 x (asking 15 y (forks growers))) (frame 0 0 0 names base) s ≡ ok z →
       Forks listing growers names base (s .memory) z
-  unfolding forkWith
+  unfolding asking carryOut
   forks-with bound false y s z e = stop-is-not-ok e
   forks-with bound true false s z e = stop-is-not-ok e
   forks-with bound true true s z e =
-      let u : Running = record { memory = s .memory; left = s .left; live = s .live + childCount growers; woken = s .woken } in
+      let u : Running = withLive s (s .live + childCount growers) in
       let q = in-sequence (inTurn (begin (run listing 0 bound) 1) (newRoutines listing (s .memory) names growers) u) _ z e in
       record {
         bound = bound;
@@ -59,17 +60,18 @@ module _ (listing : Listing) (growers : List Call) (names : List ℕ) (base : �
       }
 
   first-step : (bound : ℕ) (s : Running) (x : Turn) (left : ℕ) →
-      step listing 0 (λ (u : Running). execute listing 0 (run listing 0 bound) (instructionAt listing 0 0) 0 0 0 names base u) left s ≡ ok x →
+      step (λ (u : Running). execute listing 0 (run listing 0 bound) (instructionAt listing 0 0) (frame 0 0 0 names base) u) left s ≡ ok x →
       Forks listing growers names base (s .memory) x
-  unfolding step execute
+  unfolding step execute move
   first-step bound s x zero e = stop-is-not-ok e
   first-step bound s x (suc left) e =
-      let u : Running = record { memory = s .memory; left = left; live = s .live; woken = s .woken } in
-      let forks : forkWith listing 0 (run listing 0 bound) 0 0 0 names base growers (leb (s .live + childCount growers) 64) (leb 0 9) u ≡
-      ok x = rw at-fork at e in
-      forks-with bound _ _ u x forks
+      let u : Running = withLeft s left in
+      let goes : carryOut listing 0 (run listing 0 bound) (asking 14 (leb (s .live + childCount growers) 64) (asking 15 (leb 0 9) (forks growers)))
+      (frame 0 0 0 names base) u ≡ ok x = rw at-fork at e in
+      forks-with bound _ _ u x goes
 
-  main-forks : (bound : ℕ) (s : Running) (x : Turn) → run listing 0 bound 0 0 0 names base s ≡ ok x → Forks listing growers names base (s .memory) x
+  main-forks : (bound : ℕ) (s : Running) (x : Turn) → run listing 0 bound (frame 0 0 0 names base) s ≡ ok x →
+      Forks listing growers names base (s .memory) x
   unfolding run
   main-forks zero s x e = stop-is-not-ok e
   main-forks (suc bound) s x e = first-step bound s x (s .left) e
@@ -98,12 +100,12 @@ record Starts (listing : Listing) (growers : List Call) (size locals : ℕ) (d :
   forks : Forks listing growers (consecutive (size + locals) 0) size (newMemory size locals) x
   leaves : Leaves listing 0 x d
 
-begin-main : (listing : Listing) (go : ℕ → ℕ → ℕ → List ℕ → ℕ → Running → Result Turn) (kinds : List Kind) (passed : List ℕ) (size locals : ℕ)
+begin-main : (listing : Listing) (go : Runner) (kinds : List Kind) (passed : List ℕ) (size locals : ℕ)
     (s : Running) → kinds ≡ replicate size byReference →
     passed ≡ addressesOf (consecutive size 0) (consecutive size 0) → s .memory ≡ replicate size (fresh 0) →
     begin go 0 (node 0 0 (bindNames kinds passed locals (length (s .memory))) (ownVariables kinds passed locals (s .memory)) empty) s ≡
-    go 0 0 0 (consecutive (size + locals) 0) size (withMemory s (newMemory size locals))
-unfolding begin enter withMemory newMemory
+    go (frame 0 0 0 (consecutive (size + locals) 0) size) (withMemory s (newMemory size locals))
+unfolding begin enter newMemory
 begin-main listing go kinds passed size locals s k p m =
     rw (
       k,
@@ -119,10 +121,10 @@ starts : (listing : Listing) (growers : List Call) (allowance : ℕ) (d : Done) 
     instructionAt listing 0 1 ≡ end →
     (routineAt listing 0) .kinds ≡ replicate (environmentSize listing) byReference → start listing allowance ≡ ok d →
     Starts listing growers (environmentSize listing) ((routineAt listing 0) .locals) d
-unfolding start newRoutine mainCall environmentNames withMemory
+unfolding start newRoutine mainCall environmentNames
 starts listing growers allowance d at-fork then-ends kinds e =
     let size = environmentSize listing in
-    let r : Running = record { memory = replicate size (fresh 0); left = allowance; live = 1; woken = 0 } in
+    let r : Running = atStart listing allowance in
     let q = in-sequence (begin (run listing 0 allowance) 0 (newRoutine listing (replicate size (fresh 0)) (environmentNames listing)
     (mainCall listing)) r) _ d e in
     let began = begin-main listing (run listing 0 allowance) ((routineAt listing 0) .kinds) _ size ((routineAt listing 0) .locals) r kinds refl refl in

@@ -1,7 +1,7 @@
 -- Two runs of one subtree, on two listings that have its routines in common and on two memories that show it the same: what they
 -- have in common when both go through. First its pieces: falling asleep, ending, children in turn, and the join.
--- Letters: zone and now as in `Reach`; code says which routines may be met, and has a listing with them; level, r, place, names and
--- base place a routine; s and s′ are running, o and o′ outcomes, a and a′ the turns in them.
+-- Letters: zone and now as in `Reach`; code says which routines may be met, and has a listing with them; `me` is the frame of
+-- a routine; s and s′ are running, o and o′ outcomes, a and a′ the turns in them.
 use mathlib.Core.Path.{_≡_, refl, ap, ap₂, _∙_}
 use mathlib.Core.List.{List, [], _∷_}
 use Prim.Native.Nat.{ℕ, suc, _≤_}
@@ -9,8 +9,8 @@ use native.Mathlib.Omega.{arith}
 use lib.ListN.{length, length-append}
 use lib.Seq.{length-take-le}
 use Rattle.listing.specs.Listing.{Listing, Call, wait, fork}
-use Rattle.walk.specs.State.{Variable, Node, node, Forest, empty, more, _⊕_, Running, Turn, Result, stop, ok, _>>=_}
-use Rattle.walk.specs.Walk.{routineAt, instructionAt, withMemory, enter, sleep, leave, Runner, inTurn, begin, join}
+use Rattle.walk.specs.State.{Variable, Node, node, Forest, empty, more, _⊕_, Frame, frame, goTo, next, Running, Turn, Result, stop, ok, _>>=_}
+use Rattle.walk.specs.Walk.{routineAt, instructionAt, instructionOf, enter, sleep, leave, Runner, inTurn, begin, join}
 use Rattle.walk.specs.Instant.{dueOfVariables, dueOfForest}
 use Rattle.halves.proofs.Due.{NotBefore, nothing-due, both-not-before, not-before-in-both, drop-not-before}
 use Rattle.halves.proofs.Reach as Reach
@@ -118,43 +118,46 @@ module _ (zone : Zone) (code : Code) where
         both-went (record { long = e .long; alike = e .alike; tree = e .tree; asleep = e .asleep; later = e .later; kept = kept-then zone k (e .kept) })
 
     -- Where a routine runs in both: one of those, its names in reach, its own variables from the floor on.
-    pub record Placed (r : ℕ) (names : List ℕ) (base : ℕ) (m m′ : List Variable) : Type 0 where
-      pub its : Its r
-      pub leads : Leads names
-      pub above : floor ≤ base
-      pub within : base ≤ length m
+    pub record Placed (me : Frame) (m m′ : List Variable) : Type 0 where
+      pub its : Its (me .routine)
+      pub leads : Leads (me .names)
+      pub above : floor ≤ me .base
+      pub within : me .base ≤ length m
       pub alike : Alike m m′
 
-    abbrev pub Twins : Runner → Runner → Type 0
-    Twins go go′ = (level r place : ℕ) (names : List ℕ) (base : ℕ) (s s′ : Running) → Placed r names base (s .memory) (s′ .memory) →
-        Both (Ends base (s .memory)) (go level r place names base s) (go′ level r place names base s′)
+    pub placed-at : {me : Frame} {m m′ : List Variable} (k : ℕ) → Placed me m m′ → Placed (goTo me k) m m′
+    placed-at k p = record { its = p .its; leads = p .leads; above = p .above; within = p .within; alike = p .alike }
 
-    pub sleep-twins : (r place : ℕ) (names : List ℕ) (base : ℕ) (children : Forest) (s s′ : Running) → Placed r names base (s .memory) (s′ .memory) →
-        ((own : List Variable) → Asleep (node r place names own children)) → NotBefore (suc now) (dueOfForest children) →
-        Both (Ends base (s .memory)) (sleep r place names base children s) (sleep r place names base children s′)
-    unfolding sleep withMemory dueOfForest
-    sleep-twins r place names base children s s′ p asleep l =
+    abbrev pub Twins : Runner → Runner → Type 0
+    Twins go go′ = (me : Frame) (s s′ : Running) → Placed me (s .memory) (s′ .memory) →
+        Both (Ends (me .base) (s .memory)) (go me s) (go′ me s′)
+
+    pub sleep-twins : (me : Frame) (children : Forest) (s s′ : Running) → Placed me (s .memory) (s′ .memory) →
+        ((own : List Variable) → Asleep (node (me .routine) (me .place) (me .names) own children)) → NotBefore (suc now) (dueOfForest children) →
+        Both (Ends (me .base) (s .memory)) (sleep me children s) (sleep me children s′)
+    unfolding sleep dueOfForest
+    sleep-twins me children s s′ p asleep l =
         both-went (record {
-          long = length-take-le base (s .memory) (p .within);
-          alike = take-alike zone now (s .memory) (s′ .memory) base (p .within) (p .alike);
-          tree = ap (λ own. more (node r place names own children) empty) (drop-same zone now (s .memory) (s′ .memory) base (p .above) (p .alike));
+          long = length-take-le (me .base) (s .memory) (p .within);
+          alike = take-alike zone now (s .memory) (s′ .memory) (me .base) (p .within) (p .alike);
+          tree = ap (λ own. more (node (me .routine) (me .place) (me .names) own children) empty) (drop-same zone now (s .memory) (s′ .memory) (me .base) (p .above) (p .alike));
           asleep = more-asleep (asleep _) none-asleep;
           later = both-not-before (suc now) _ _ (both-not-before (suc now) _ _
-              (drop-not-before (suc now) base (s .memory) (p .alike .later)) l) nothing-due;
-          kept = take-keeps zone (s .memory) base (p .above);
+              (drop-not-before (suc now) (me .base) (s .memory) (p .alike .later)) l) nothing-due;
+          kept = take-keeps zone (s .memory) (me .base) (p .above);
         })
 
-    pub leave-twins : (r : ℕ) (names : List ℕ) (base : ℕ) (s s′ : Running) → Placed r names base (s .memory) (s′ .memory) →
-        Both (Ends base (s .memory)) (leave base s) (leave base s′)
+    pub leave-twins : (me : Frame) (s s′ : Running) → Placed me (s .memory) (s′ .memory) →
+        Both (Ends (me .base) (s .memory)) (leave me s) (leave me s′)
     unfolding leave dueOfForest
-    leave-twins r names base s s′ p =
+    leave-twins me s s′ p =
         both-went (record {
-          long = length-take-le base (s .memory) (p .within);
-          alike = take-alike zone now (s .memory) (s′ .memory) base (p .within) (p .alike);
+          long = length-take-le (me .base) (s .memory) (p .within);
+          alike = take-alike zone now (s .memory) (s′ .memory) (me .base) (p .within) (p .alike);
           tree = refl;
           asleep = none-asleep;
           later = nothing-due;
-          kept = take-keeps zone (s .memory) base (p .above);
+          kept = take-keeps zone (s .memory) (me .base) (p .above);
         })
 
     pub nobody-twins : (s s′ : Running) → Alike (s .memory) (s′ .memory) →
@@ -191,10 +194,10 @@ module _ (zone : Zone) (code : Code) where
     pub begin-twins : (go go′ : Runner) → Twins go go′ → (level : ℕ) (n : Node) (s s′ : Running) → New n → floor ≤ length (s .memory) →
         Alike (s .memory) (s′ .memory) →
         Both (Ends (length (s .memory)) (s .memory)) (begin go level n s) (begin go′ level n s′)
-    unfolding begin enter withMemory
+    unfolding begin enter
     begin-twins go go′ h level _ s s′ (is-new {r = r} {place = place} {names = names} {own = own} i k o) l g =
         rw (← (g .long)) (from-before _ _ _ _ _ (append-keeps zone (s .memory) own l)
-        (h level r place names (length (s .memory)) _ _ (record {
+        (h (frame level r place names (length (s .memory))) _ _ (record {
           its = i;
           leads = k;
           above = l;
@@ -202,12 +205,12 @@ module _ (zone : Zone) (code : Code) where
           alike = append-alike zone now _ _ own g o;
         })))
 
-    pub join-twins : (go go′ : Runner) → Twins go go′ → (level r place : ℕ) (names : List ℕ) (base : ℕ) (cs : List Call) (children : Forest)
+    pub join-twins : (go go′ : Runner) → Twins go go′ → (me : Frame) (cs : List Call) (children : Forest)
         (s s′ : Running) →
-        Placed r names base (s .memory) (s′ .memory) → instructionAt model r place ≡ fork cs → AllAsleep children →
+        Placed me (s .memory) (s′ .memory) → instructionOf model me ≡ fork cs → AllAsleep children →
         NotBefore (suc now) (dueOfForest children) →
-        Both (Ends base (s .memory)) (join go level r place names base children s) (join go′ level r place names base children s′)
+        Both (Ends (me .base) (s .memory)) (join go me children s) (join go′ me children s′)
     unfolding join
-    join-twins go go′ h level r place names base cs empty s s′ p i k l = h level r (suc place) names base s s′ p
-    join-twins go go′ h level r place names base cs (more n ns) s s′ p i k l =
-        sleep-twins r place names base (more n ns) s s′ p (λ own. joins (p .its) (p .leads) i k) l
+    join-twins go go′ h me cs empty s s′ p i k l = h (next me) s s′ (placed-at _ p)
+    join-twins go go′ h me cs (more n ns) s s′ p i k l =
+        sleep-twins me (more n ns) s s′ p (λ own. joins (p .its) (p .leads) i k) l

@@ -8,13 +8,13 @@ use lib.Dec.{eqb, ltb, leb}
 use Rattle.words.specs.Words.{isPositive}
 use Rattle.listing.specs.Listing.{Piece, Instruction, assign, schedule, branch, jump, wait, fork, end}
 use Rattle.walk.specs.State.{Variable}
-use Rattle.walk.specs.Walk.{instructionAt, childCount}
+use Rattle.walk.specs.Walk.{instructionAt, childCount, branchPlace}
 use Rattle.table.specs.Decode.{word, sizeOf, namesOf, tableListing, instructionEntry, callsAt, headAfter}
 use Rattle.table.specs.Entry.{ChildStands}
 use Rattle.table.specs.Question6.{isTable}
 use Rattle.table.proofs.Entry.{fetched}
 use Rattle.scheduler.specs.Rows.{Owner, Row, Rows, withRow, atPlace, freeRow, rowsWith, ownerOf, variableOf, named}
-use Rattle.scheduler.specs.Engine.{assigned, scheduled, branchPlace, forkRows, executeRows}
+use Rattle.scheduler.specs.Engine.{assigned, scheduled, forkRows, executeRows}
 use Rattle.scheduler.specs.Expressions.{evaluateBy}
 use Rattle.run.specs.Placed.{GoesOn, Placed}
 use Rattle.run.proofs.Keeping.{placed-on, placed-free, placed-variable, placed-count}

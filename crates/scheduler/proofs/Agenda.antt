@@ -9,8 +9,8 @@ use lib.ListN.{length, take, drop}
 use lib.Dec.{leb}
 use Rattle.listing.specs.Listing.{Call, Listing, Piece, assign, fork, wait}
 use Rattle.walk.specs.Memory.{addressOf, evaluate, writeAt}
-use Rattle.walk.specs.State.{Forest, Node, Result, Running, Turn, Variable, _>>=_, _⊕_, empty, more, node, ok, stop}
-use Rattle.walk.specs.Walk.{begin, childCount, enter, execute, forkWith, inTurn, instructionAt, newRoutines, resume, run, sleep, step, visit, visitForest, withMemory}
+use Rattle.walk.specs.State.{Forest, Node, Result, Running, Turn, Variable, _>>=_, _⊕_, empty, more, node, ok, stop, frame}
+use Rattle.walk.specs.Walk.{begin, childCount, enter, asking, move, carryOut, execute, inTurn, instructionAt, newRoutines, resume, run, sleep, step, visit, visitForest}
 use Rattle.walk_laws.proofs.Steps.{Within, stopped, leaves, inTurn-within, begin-within, run-within}
 use Rattle.walk_laws.proofs.Bound.{run-same, then-same, begin-same, join-same}
 use Rattle.scheduler.proofs.Quiet.{QuietNode, quiet-node}
@@ -68,12 +68,12 @@ module _ (listing : Listing) (now : ℕ) where
   -- a routine's turn begins with its children's
   pub rest-visit : (r place : ℕ) (ns : List ℕ) (own : List Variable) (children : Forest) (level : ℕ) (ts : List Task) (d : Forest) (ds : List Forest)
       (s : Running) →
-      rest listing now (see (node r place ns own children) level ∷ ts) d ds s ≡ rest listing now (sees children (suc level) (back level r place ns (length (s .memory)) ∷ ts))
+      rest listing now (see (node r place ns own children) level ∷ ts) d ds s ≡ rest listing now (sees children (suc level) (back (frame level r place ns (length (s .memory))) ∷ ts))
       empty (d ∷ ds) (enter own s)
   unfolding rest visit outer beyond _⊕_
   rest-visit r place ns own children level ts d ds s =
       then-assoc (visitForest listing now children (suc level) (enter own s)) _ _ ∙
-      sym (rest-sees children (suc level) (back level r place ns (length (s .memory)) ∷ ts) empty (d ∷ ds) (enter own s))
+      sym (rest-sees children (suc level) (back (frame level r place ns (length (s .memory))) ∷ ts) empty (d ∷ ds) (enter own s))
 
   -- a sleeper whom nothing wakes is passed over
   pub rest-quiet : (n : Node) (level : ℕ) (ts : List Task) (d : Forest) (ds : List Forest) (s : Running) → QuietNode listing now (s .memory) n →
@@ -84,21 +84,21 @@ module _ (listing : Listing) (now : ℕ) where
   -- one instruction
   pub rest-S : (level r place : ℕ) (ns : List ℕ) (b n : ℕ) (e : List Piece) (ts : List Task) (d : Forest) (ds : List Forest) (m : List Variable)
       (k l woken : ℕ) → instructionAt listing r place ≡ assign n e →
-      rest listing now (goes level r place ns b ∷ ts) d ds (record { memory = m; left = suc k; live = l; woken = woken }) ≡ rest listing now
-      (goes level r (suc place) ns b ∷ ts) d ds (record {
+      rest listing now (goes (frame level r place ns b) ∷ ts) d ds (record { memory = m; left = suc k; live = l; woken = woken }) ≡ rest listing now
+      (goes (frame level r (suc place) ns b) ∷ ts) d ds (record {
         memory = writeAt m (addressOf ns n) (evaluate m ns e);
         left = k;
         live = l;
         woken = woken;
       })
-  unfolding rest run step execute withMemory
+  unfolding rest run step execute move carryOut
   rest-S level r place ns b n e ts d ds m k l woken h = rw h
 
   pub rest-W : (level r place : ℕ) (ns : List ℕ) (b : ℕ) (ws : List ℕ) (ts : List Task) (d : Forest) (ds : List Forest) (m : List Variable)
       (k l woken : ℕ) → instructionAt listing r place ≡ wait ws →
-      rest listing now (goes level r place ns b ∷ ts) d ds (record { memory = m; left = suc k; live = l; woken = woken }) ≡ rest listing now ts
+      rest listing now (goes (frame level r place ns b) ∷ ts) d ds (record { memory = m; left = suc k; live = l; woken = woken }) ≡ rest listing now ts
       (d ⊕ more (node r place ns (drop b m) empty) empty) ds (record { memory = take b m; left = k; live = l; woken = woken })
-  unfolding rest run step execute withMemory sleep _>>=_
+  unfolding rest run step execute move carryOut sleep _>>=_
   rest-W level r place ns b ws ts d ds m k l woken h = rw h
 
   pub rest-news : (k : ℕ) (f : Forest) (level : ℕ) (ts : List Task) (d : Forest) (ds : List Forest) (s : Running) → s .left ≤ k →
@@ -114,20 +114,20 @@ module _ (listing : Listing) (now : ℕ) where
 
   pub rest-F : (level r place : ℕ) (ns : List ℕ) (b : ℕ) (cs : List Call) (ts : List Task) (d : Forest) (ds : List Forest) (m : List Variable)
       (k l woken : ℕ) → instructionAt listing r place ≡ fork cs → leb (l + childCount cs) 64 ≡ true → leb level 9 ≡ true →
-      rest listing now (goes level r place ns b ∷ ts) d ds (record { memory = m; left = suc k; live = l; woken = woken }) ≡
-      rest listing now (news (newRoutines listing m ns cs) (suc level) (back level r place ns b ∷ ts)) empty (d ∷ ds) (record {
+      rest listing now (goes (frame level r place ns b) ∷ ts) d ds (record { memory = m; left = suc k; live = l; woken = woken }) ≡
+      rest listing now (news (newRoutines listing m ns cs) (suc level) (back (frame level r place ns b) ∷ ts)) empty (d ∷ ds) (record {
         memory = m;
         left = k;
         live = l + childCount cs;
         woken = woken;
       })
-  unfolding rest run step execute forkWith resume outer beyond _⊕_
+  unfolding rest run step execute move carryOut asking resume outer beyond _⊕_
   rest-F level r place ns b cs ts d ds m k l woken h x y = rw (h, x, y)
       (then-assoc _ _ _ ∙
-      sym (rest-news k (newRoutines listing m ns cs) (suc level) (back level r place ns b ∷ ts) empty (d ∷ ds) _ (le-refl k) ∙
+      sym (rest-news k (newRoutines listing m ns cs) (suc level) (back (frame level r place ns b) ∷ ts) empty (d ∷ ds) _ (le-refl k) ∙
       then-same k _ _ refl (inTurn-within _ (begin-within _ (run-within listing now k) (suc level)) _ _) λ a wa.
       rw (
         h,
         join-same ((a .running) .left) (run listing now ((a .running) .left)) (run listing now k)
-            (run-same listing now _ k ((a .running) .left) (le-refl _) wa) (a .tree) level r place ns b (a .running) (le-refl _),
+            (run-same listing now _ k ((a .running) .left) (le-refl _) wa) (a .tree) (frame level r place ns b) (a .running) (le-refl _),
       )))

@@ -13,8 +13,8 @@ use Rattle.words.specs.Words.{isPositive}
 use Rattle.listing.specs.Listing.{Listing, Piece, branch, schedule}
 use Rattle.walk.specs.Memory.{addressOf, anyWritten, evaluate, variableAt}
 use Rattle.walk.specs.State.{Result, Turn, Variable, fresh}
-use Rattle.walk.specs.Walk.{instructionAt}
-use Rattle.scheduler.specs.Engine.{branchPlace, scheduled}
+use Rattle.walk.specs.Walk.{instructionAt, branchPlace}
+use Rattle.scheduler.specs.Engine.{scheduled}
 use Rattle.scheduler.specs.Expressions.{evaluateBy}
 use Rattle.scheduler.specs.Rows.{Owner, Rows, atPlace, environmentWith, named, ownerOf, rowsWith, variableOf, withRow}
 use Rattle.scheduler.specs.Triggers.{awaited, consIf}

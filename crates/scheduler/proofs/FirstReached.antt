@@ -6,9 +6,8 @@ use mathlib.Core.List.{List, []}
 use Prim.Native.Nat.{ℕ, _<_}
 use Rattle.listing.specs.Listing.{Listing}
 use Rattle.walk.specs.State.{Variable, liveInForest, State}
-use Rattle.walk.specs.Instant.{dueWrites, Write, applyInputs, environmentNames, mainCall}
+use Rattle.walk.specs.Instant.{dueWrites, Write, applyInputs, environmentNames, mainCall, startTurn}
 use Rattle.walk.specs.Question7.{IsState}
-use Rattle.walk_laws.proofs.Steps.{startTurn}
 use Rattle.scheduler.specs.Rows.{Owner, Rows, noRows, withRow}
 use Rattle.scheduler.specs.Triggers.{readyOf}
 use Rattle.scheduler.specs.Engine.{RowsRunner, nextReady}

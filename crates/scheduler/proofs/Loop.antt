@@ -12,8 +12,8 @@ use Rattle.words.specs.Words.{isPositive}
 use Rattle.listing.specs.Listing.{Call, Instruction, Listing, Piece, assign, branch, end, fork, jump, schedule, wait}
 use Rattle.walk.specs.Memory.{addressOf, evaluate, variableAt}
 use Rattle.walk.specs.State.{Result, Turn, Variable}
-use Rattle.walk.specs.Walk.{childCount, instructionAt}
-use Rattle.scheduler.specs.Engine.{RowsRunner, callerAt, RowsResult, assigned, branchPlace, endRows, executeRows, fewestBits, forkRows, newSlots, nextReady, orHalt, runRows, scheduled}
+use Rattle.walk.specs.Walk.{childCount, instructionAt, branchPlace}
+use Rattle.scheduler.specs.Engine.{RowsRunner, callerAt, RowsResult, assigned, endRows, executeRows, fewestBits, forkRows, newSlots, nextReady, orHalt, runRows, scheduled}
 use Rattle.scheduler.specs.Expressions.{evaluateBy}
 use Rattle.scheduler.specs.Ready.{insertAll}
 use Rattle.scheduler.specs.Rows.{Owner, Rows, atPlace, environmentWith, freeRow, named, ownerOf, rowsWith, variableOf, withChildren, withRow}

@@ -11,8 +11,8 @@ use Rattle.words.specs.Words.{isPositive}
 use Rattle.listing.specs.Listing.{Call, Listing, Piece, assign, branch, end, fork, jump, schedule, wait}
 use Rattle.walk.specs.Memory.{addressOf, anyWritten, evaluate, scheduleAt, variableAt, writeAt}
 use Rattle.walk.specs.State.{Variable, _>>=_, stop}
-use Rattle.walk.specs.Walk.{passedWait, begin, branchWith, childCount, enter, execute, forkWith, instructionAt, join, leave, resume, run, scheduleWith, sleep, step, visit, visitForest, wake, withMemory}
-use Rattle.scheduler.specs.Engine.{assigned, branchPlace, scheduled}
+use Rattle.walk.specs.Walk.{passedWait, begin, branchPlace, asking, move, carryOut, childCount, enter, execute, instructionAt, join, leave, resume, run, sleep, step, visit, visitForest, wake}
+use Rattle.scheduler.specs.Engine.{assigned, scheduled}
 use Rattle.scheduler.specs.Triggers.{awaited}
 use Rattle.scheduler.proofs.Agenda.{Task, back, outer, beyond, news, rest, rest-F, ⊕-none}
 use Rattle.scheduler.proofs.Place.{Record, Tree, nil, put, erase, _⋈_, erase-⋈, Frame, memoryOf, first, tasks, up, dones, willRun, between}
@@ -20,6 +20,7 @@ use Rattle.scheduler.proofs.Priority.{newChild, newChildren, newChildre
 use Rattle.scheduler.proofs.Writing.{setUp, recordWithOwn, setFrom, set-path, memory-set}
 use Rattle.scheduler.proofs.Held.{length-set-path}
 unfoldable pub use Rattle.scheduler.specs.Agenda.{goingOn}
+use Rattle.scheduler.specs.Agenda.{frameOn}
 
 unfoldable pub placed : Record → ℕ → Record
 placed x place = record {
@@ -64,14 +65,14 @@ module _ (listing : Listing) (now : ℕ) where
       x .isNew ≡ false → instructionAt listing (x .routine) (x .place) ≡ wait ws → willRun listing (memoryOf environment fs) x ≡ true →
       between listing now environment j l woken fs done (put x nil todo) ≡ goingOn listing now environment j l (suc woken)
       (focus (placed x (suc (x .place))) done todo) fs
-  unfolding between goingOn tasks first erase rest visit visitForest resume wake passedWait _>>=_ enter withMemory willRun awaited placed focus
+  unfolding between goingOn tasks first erase rest visit visitForest resume wake passedWait _>>=_ enter willRun awaited placed focus
   wakes environment j l woken fs done x todo ws b i w =
       let a : anyWritten (memoryOf environment fs ++ x .own) (x .names) ws ≡ true = rw (b, i) at w in
       rw (b, i, a)
 
   pub begins : (environment : List Variable) (j l woken : ℕ) (fs : List Frame) (done : Tree) (x : Record) (todo : Tree) → x .isNew ≡ true →
       between listing now environment j l woken fs done (put x nil todo) ≡ goingOn listing now environment j l woken (focus (placed x (x .place)) done todo) fs
-  unfolding between goingOn tasks first erase rest begin enter withMemory placed focus
+  unfolding between goingOn tasks first erase rest begin enter placed focus
   begins environment j l woken fs done x todo b = rw b
 
   -- ── S, A: a variable on the path ──────────────────────────────────────────────────────────────
@@ -83,7 +84,7 @@ module _ (listing : Listing) (now : ℕ) where
       goingOn listing now environment (suc j) l woken f fs ≡ goingOn listing now (set environment a v) j l woken
       (focus (placed (recordWithOwn (f .self) (setFrom (length (memoryOf environment fs)) ((f .self) .own) a v)) (suc ((f .self) .place)))
       (f .done) (f .todo)) (setUp environment fs a v)
-  unfolding goingOn rest run step execute withMemory placed focus recordWithOwn memoryOf writeAt assigned
+  unfolding goingOn rest run step execute move carryOut placed focus recordWithOwn memoryOf writeAt assigned
   move-S environment j l woken f fs n e i = rw (
     i,
     tasks-set environment fs _ _,
@@ -104,7 +105,7 @@ module _ (listing : Listing) (now : ℕ) where
       goingOn listing now environment (suc j) l woken f fs ≡ goingOn listing now (set environment a v) j l woken
       (focus (placed (recordWithOwn (f .self) (setFrom (length (memoryOf environment fs)) ((f .self) .own) a v)) (suc ((f .self) .place)))
       (f .done) (f .todo)) (setUp environment fs a v)
-  unfolding goingOn rest run step execute scheduleWith withMemory placed focus recordWithOwn memoryOf scheduleAt scheduled
+  unfolding goingOn rest run step execute move carryOut asking placed focus recordWithOwn memoryOf scheduleAt scheduled
   move-A environment j l woken f fs n d e i p q = rw (
     i,
     p,
@@ -122,21 +123,21 @@ module _ (listing : Listing) (now : ℕ) where
       eqb (evaluate (memoryOf environment (f ∷ fs)) ((f .self) .names) e) 0 ≡ z →
       goingOn listing now environment (suc j) l woken f fs ≡ goingOn listing now environment j l woken
       (focus (placed (f .self) (branchPlace z k (suc ((f .self) .place)))) (f .done) (f .todo)) fs
-  unfolding goingOn rest run step execute branchWith placed focus memoryOf branchPlace
+  unfolding goingOn rest run step execute move carryOut placed focus memoryOf branchPlace
   move-U environment j l woken f fs e k true i h = rw (i, h)
   move-U environment j l woken f fs e k false i h = rw (i, h)
 
   pub move-G : (environment : List Variable) (j l woken : ℕ) (f : Frame) (fs : List Frame) (k : ℕ) →
       instructionAt listing ((f .self) .routine) ((f .self) .place) ≡ jump k →
       goingOn listing now environment (suc j) l woken f fs ≡ goingOn listing now environment j l woken (focus (placed (f .self) k) (f .done) (f .todo)) fs
-  unfolding goingOn rest run step execute placed focus
+  unfolding goingOn rest run step execute move carryOut placed focus
   move-G environment j l woken f fs k i = rw i
 
   -- the stops
   pub stop-16 : (environment : List Variable) (j l woken : ℕ) (f : Frame) (fs : List Frame) (n : ℕ) (d e : List Piece) →
       instructionAt listing ((f .self) .routine) ((f .self) .place) ≡ schedule n d e →
       isPositive (evaluate (memoryOf environment (f ∷ fs)) ((f .self) .names) d) ≡ false → goingOn listing now environment (suc j) l woken f fs ≡ stop 16
-  unfolding goingOn rest run step execute scheduleWith memoryOf _>>=_
+  unfolding goingOn rest run step execute move carryOut asking memoryOf _>>=_
   stop-16 environment j l woken f fs n d e i p = rw (i, p)
 
   pub stop-17 : (environment : List Variable) (j l woken : ℕ) (f : Frame) (fs : List Frame) (n : ℕ) (d e : List Piece) →
@@ -144,19 +145,19 @@ module _ (listing : Listing) (now : ℕ) where
       isPositive (evaluate (memoryOf environment (f ∷ fs)) ((f .self) .names) d) ≡ true →
       ltb (now + evaluate (memoryOf environment (f ∷ fs)) ((f .self) .names) d) 18446744073709551616 ≡ false →
       goingOn listing now environment (suc j) l woken f fs ≡ stop 17
-  unfolding goingOn rest run step execute scheduleWith memoryOf _>>=_
+  unfolding goingOn rest run step execute move carryOut asking memoryOf _>>=_
   stop-17 environment j l woken f fs n d e i p q = rw (i, p, q)
 
   pub stop-14 : (environment : List Variable) (j l woken : ℕ) (f : Frame) (fs : List Frame) (cs : List Call) →
       instructionAt listing ((f .self) .routine) ((f .self) .place) ≡ fork cs → leb (l + childCount cs) 64 ≡ false →
       goingOn listing now environment (suc j) l woken f fs ≡ stop 14
-  unfolding goingOn rest run step execute forkWith _>>=_
+  unfolding goingOn rest run step execute move carryOut asking _>>=_
   stop-14 environment j l woken f fs cs i p = rw (i, p)
 
   pub stop-15 : (environment : List Variable) (j l woken : ℕ) (f : Frame) (fs : List Frame) (cs : List Call) →
       instructionAt listing ((f .self) .routine) ((f .self) .place) ≡ fork cs → leb (l + childCount cs) 64 ≡ true → leb (length fs) 9 ≡ false →
       goingOn listing now environment (suc j) l woken f fs ≡ stop 15
-  unfolding goingOn rest run step execute forkWith _>>=_
+  unfolding goingOn rest run step execute move carryOut asking _>>=_
   stop-15 environment j l woken f fs cs i p q = rw (i, p, q)
 
   -- no step left
@@ -168,7 +169,7 @@ module _ (listing : Listing) (now : ℕ) where
       instructionAt listing ((f .self) .routine) ((f .self) .place) ≡ wait ws →
       goingOn listing now environment (suc j) l woken f fs ≡ between listing now environment j l woken fs
       (f .done ⋈ put (placed (f .self) ((f .self) .place)) nil nil) (f .todo)
-  unfolding goingOn between rest run step execute withMemory sleep _>>=_ placed erase
+  unfolding goingOn between rest run step execute move carryOut sleep _>>=_ placed erase
   move-W environment j l woken f fs ws i =
       rw (
         i,
@@ -180,7 +181,7 @@ module _ (listing : Listing) (now : ℕ) where
   pub move-E : (environment : List Variable) (j l woken : ℕ) (f : Frame) (fs : List Frame) →
       instructionAt listing ((f .self) .routine) ((f .self) .place) ≡ end →
       goingOn listing now environment (suc j) l woken f fs ≡ between listing now environment j (l - 1) woken fs (f .done) (f .todo)
-  unfolding goingOn between rest run step execute withMemory leave _>>=_
+  unfolding goingOn between rest run step execute move carryOut leave _>>=_
   move-E environment j l woken f fs i = rw (i, take-append-seam (memoryOf environment fs) ((f .self) .own))
       (ap (λ z. rest listing now (tasks (length fs) (f .todo) (up environment fs)) z (dones fs) (record {
         memory = memoryOf environment fs;
@@ -208,6 +209,6 @@ module _ (listing : Listing) (now : ℕ) where
       rw (
         ← newChildren-erase listing (memoryOf environment fs ++ (f .self) .own) ((f .self) .names) cs ss 0 ((f .self) .low) b,
         newChildren-tasks listing (memoryOf environment fs ++ (f .self) .own) ((f .self) .names) cs ss 0 ((f .self) .low) b (suc (length fs))
-            (back (length fs) ((f .self) .routine) ((f .self) .place) ((f .self) .names) (length (memoryOf environment fs)) ∷ tasks (length fs)
+            (back (frameOn environment (f .self) fs) ∷ tasks (length fs)
             (f .todo) (up environment fs)),
       )

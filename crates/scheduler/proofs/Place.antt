@@ -12,7 +12,7 @@ use lib.Seq.{take-append-seam, drop-append-seam}
 use Rattle.listing.specs.Listing.{Call, Listing, fork}
 use Rattle.walk.specs.Memory.{anyWritten}
 use Rattle.walk.specs.State.{Forest, Result, Turn, Variable, _>>=_, _⊕_, more, node}
-use Rattle.walk.specs.Walk.{enter, instructionAt, join, resume, sleep, withMemory}
+use Rattle.walk.specs.Walk.{enter, instructionAt, join, resume, sleep}
 use Rattle.scheduler.specs.Triggers.{awaited, consIf}
 use Rattle.scheduler.proofs.Quiet.{Quiet, waits, joins, nobody, one-more, quiet}
 use Rattle.scheduler.proofs.Agenda.{Task, back, outer, beyond, sees, rest, rest-sees, rest-visit}
@@ -21,6 +21,7 @@ unfoldable pub use Rattle.scheduler.specs.Tree.{erase, _⋈_, plug, memo
 unfoldable pub use Rattle.scheduler.specs.Agenda.{first, tasks, up, dones}
 pub use Rattle.scheduler.specs.Reached.{Rests, rests-nil, rests-new, rests-wait, rests-join, Paused, at-root, under}
 unfoldable pub use Rattle.scheduler.specs.Reached.{key, willRun, ready, readyUp}
+use Rattle.scheduler.specs.Agenda.{frameOn}
 
 pub ⋈-assoc : (f g h : Tree) → (f ⋈ g) ⋈ h ≡ f ⋈ (g ⋈ h)
 unfolding _⋈_
@@ -133,11 +134,11 @@ module _ (listing : Listing) (now : ℕ) where
       Rests listing false children →
       between environment j l woken fs done (put x children f) ≡ between environment j l woken (record { self = x; done = done; todo = f } ∷ fs) nil
       children
-  unfolding between tasks first up dones memoryOf enter withMemory erase
+  unfolding between tasks first up dones memoryOf enter erase
   down environment j l woken fs done x children f b r =
       rw (
         b,
-        tasks-old (suc (length fs)) children (back (length fs) (x .routine) (x .place) (x .names) (length (memoryOf environment fs)) ∷ tasks
+        tasks-old (suc (length fs)) children (back (frameOn environment x fs) ∷ tasks
             (length fs) f (up environment fs)) r,
       )
       (rest-visit listing now (x .routine) (x .place) (x .names) (x .own) (erase children) (length fs) (tasks (length fs) f (up environment fs))
@@ -147,7 +148,7 @@ module _ (listing : Listing) (now : ℕ) where
   pub rise : (environment : List Variable) (j l woken : ℕ) (g : Frame) (fs : List Frame) (y : Record) (k f : Tree) (cs : List Call) →
       instructionAt listing ((g .self) .routine) ((g .self) .place) ≡ fork cs →
       between environment j l woken (g ∷ fs) (put y k f) nil ≡ between environment j l woken fs (g .done ⋈ put (g .self) (put y k f) nil) (g .todo)
-  unfolding between tasks first up dones memoryOf rest resume join sleep withMemory erase _>>=_ outer beyond
+  unfolding between tasks first up dones memoryOf rest resume join sleep erase _>>=_ outer beyond
   rise environment j l woken g fs y k f cs i = rw (
     i,
     erase-⋈ (g .done) (put (g .self) (put y k f) nil),

@@ -8,7 +8,7 @@ use lib.Seq.{take-append-seam, drop-append-seam}
 use Rattle.listing.specs.Listing.{Call, Listing, fork, wait}
 use Rattle.walk.specs.Memory.{anyWritten}
 use Rattle.walk.specs.State.{Forest, Node, Variable, _>>=_, _⊕_, empty, more, node, ok}
-use Rattle.walk.specs.Walk.{enter, instructionAt, join, resume, sleep, visit, visitForest, wake, withMemory}
+use Rattle.walk.specs.Walk.{enter, instructionAt, join, resume, sleep, visit, visitForest, wake}
 
 module _ (listing : Listing) (now : ℕ) where
   mutual
@@ -23,7 +23,7 @@ module _ (listing : Listing) (now : ℕ) where
       one-more : {m : List Variable} {n : Node} {f : Forest} → QuietNode m n → Quiet m f → Quiet m (more n f)
 
   mutual
-    unfolding visit enter withMemory _>>=_ resume wake sleep join _⊕_
+    unfolding visit enter _>>=_ resume wake sleep join _⊕_
 
     pub quiet-node : (m : List Variable) (n : Node) (j l woken level : ℕ) → QuietNode m n →
         visit listing now n level (record { memory = m; left = j; live = l; woken = woken }) ≡ ok

@@ -11,9 +11,9 @@ use lib.ListN.{length, getD, replicate, length-replicate, List·getD-eq-default}
 use Rattle.listing.specs.Listing.{Listing, byReference}
 use Rattle.walk.specs.State.{Variable, fresh, _⊕_, Turn, Result, stop, ok, _>>=_}
 use Rattle.walk.specs.Memory.{variableAt, nowhere, addressOf, consecutive}
-use Rattle.walk.specs.Walk.{routineAt, newRoutine, withMemory, enter, begin, childCount}
-use Rattle.walk.specs.Instant.{environmentSize, environmentNames, mainCall, start}
-use Rattle.walk_laws.proofs.Steps.{startTurn, startTurn-within}
+use Rattle.walk.specs.Walk.{routineAt, newRoutine, enter, begin, childCount}
+use Rattle.walk.specs.Instant.{environmentSize, environmentNames, mainCall, start, startTurn}
+use Rattle.walk_laws.proofs.Steps.{startTurn-within}
 use Rattle.scheduler.specs.Rows.{inEnvironment, Rows, freeRow, noRows, withRow}
 use Rattle.scheduler.specs.Engine.{childRow}
 use Rattle.scheduler.specs.Beginning.{environmentBindings, environmentCaller, mainRow, newEnvironment, startOnRows}
@@ -177,7 +177,7 @@ module _ (listing : Listing) (T : TableFits listing) (s : ℕ) (small : s < 64) 
   -- main runs
   pub main-runs : (allowance : ℕ) → Runs listing 0 (λ o. []) 4294967296 rows environment [] allowance 1 0 (focus (placed main 0) nil nil) []
       (startTurn listing allowance)
-  unfolding focus placed newChild plug _⋈_ readyUp ready slotsIn goingOn rest tasks up dones memoryOf pathOf erase begin enter withMemory newRoutine newEnvironment rowFor _⊕_ mainCall
+  unfolding focus placed newChild plug _⋈_ readyUp ready slotsIn goingOn rest tasks up dones memoryOf pathOf erase begin enter newRoutine newEnvironment rowFor _⊕_ mainCall
   main-runs allowance =
       record {
         held = held-under (withRow-same noRows s (mainRow listing environment s) ∙ main-row listing T environment size s) held-nil held-nil held-top;

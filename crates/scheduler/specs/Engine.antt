@@ -7,9 +7,9 @@ use lib.Dec.{eqb, ltb, leb}
 use lib.ListN.{length, replicate}
 use Rattle.words.specs.Words.{isPositive}
 use Rattle.words.specs.Moments.{momentRange}
-use Rattle.listing.specs.Listing.{Listing, Routine, Call, Kind, byReference, byValue, Instruction, assign, schedule, branch, jump, wait, fork, end}
-use Rattle.walk.specs.State.{Variable, Waiting, due, fresh}
-use Rattle.walk.specs.Walk.{routineAt, instructionAt, childCount}
+use Rattle.listing.specs.Listing.{Listing, Call, Kind, byReference, byValue, Instruction, assign, schedule, branch, jump, wait, fork, end}
+use Rattle.walk.specs.State.{Variable, due, fresh}
+use Rattle.walk.specs.Walk.{routineAt, instructionAt, childCount, branchPlace}
 use Rattle.scheduler.specs.Rows.{Owner, inSlot, Row, Rows, freeRow, withRow, atPlace, withChildren, variableOf, rowsWith, environmentWith, ownerOf, named}
 use Rattle.scheduler.specs.Expressions.{evaluateBy}
 use Rattle.scheduler.specs.Ready.{insertAll}
@@ -43,17 +43,12 @@ unfoldable pub orHalt : Bool → ℕ → RowsResult → RowsResult
 orHalt true k next = next
 orHalt false k next = halts k
 
--- ── `S`, `A` and `U` ───────────────────────────────────────────────────────────────────────────────────
+-- ── `S` and `A` ───────────────────────────────────────────────────────────────────────────────────────
 unfoldable pub assigned : Variable → ℕ → Variable
 assigned x v = record { value = v; written = true; waiting = x .waiting }
 
 unfoldable pub scheduled : Variable → ℕ → ℕ → Variable
 scheduled x t v = record { value = x .value; written = x .written; waiting = due t v }
-
--- "`U|e|k` goes to instruction k if e is 0."
-unfoldable pub branchPlace : Bool → ℕ → ℕ → ℕ
-branchPlace true k next = k
-branchPlace false k next = next
 
 -- ── `E` ───────────────────────────────────────────────────────────────────────────────────────────
 -- The routine's row is free already; `p` is the parent's slot. The last child's end lets the parent go on at once.

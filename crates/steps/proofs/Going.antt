@@ -9,7 +9,7 @@ use lib.Dec.{eqb}
 use Rattle.listing.specs.Listing.{Listing, Piece, branch, jump, wait}
 use Rattle.scheduler.specs.Rows.{Owner, Row, Rows, withRow, atPlace, named}
 use Rattle.scheduler.specs.Expressions.{evaluateBy}
-use Rattle.scheduler.specs.Engine.{RowsRunner, firstPlace, countIf, nextReady, branchPlace, executeRows}
+use Rattle.scheduler.specs.Engine.{RowsRunner, firstPlace, countIf, nextReady, executeRows}
 use Rattle.blocks.specs.Blocks.{block, rowsOf, environmentOf}
 use Rattle.blocks.specs.Store.{withSlot}
 use Rattle.blocks.specs.Changes.{Changes, placedBlock}
@@ -22,6 +22,7 @@ use Rattle.ready.specs.declared.ReadyList.{ReadyList}
 use Rattle.steps.specs.Outcome.{left-by, RunsLive, Reading, Pops, Executes}
 use Rattle.steps.specs.Asked.{Slots, slots-one}
 use Rattle.steps.proofs.Stores.{rows-changed, environment-kept, change-stays, stays-start, placed-tidy}
+use Rattle.walk.specs.Walk.{branchPlace}
 
 none-left : (q : ReadyList) → q .count ≡ 0 → slotsOf q ≡ []
 unfolding slotsOf falling

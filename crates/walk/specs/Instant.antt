@@ -5,7 +5,7 @@ use Prim.Native.Nat.{ℕ, suc, _+_, _-_}
 use lib.Dec.{eqb, leb}
 use lib.ListN.{drop, replicate}
 use Rattle.listing.specs.Listing.{Listing, Call}
-use Rattle.walk.specs.State.{Waiting, idle, due, Variable, fresh, Node, node, Forest, empty, more, liveInForest, State, Running, Turn, Result, ok, _>>=_}
+use Rattle.walk.specs.State.{Waiting, idle, due, Variable, fresh, Node, node, Forest, empty, more, liveInForest, State, Running, newRunning, Turn, Result, ok, _>>=_}
 use Rattle.walk.specs.Memory.{writeAt, consecutive}
 use Rattle.walk.specs.Walk.{newRoutine, begin, run, visitForest}
 
@@ -127,18 +127,28 @@ mainCall listing = record { callee = 0; arguments = consecutive (environmentSize
 unfoldable pub environmentNames : Listing → List ℕ
 environmentNames listing = consecutive (environmentSize listing) 0
 
--- "The start is the instant 0, with main newly called and no inputs."
+-- "The start is the instant 0, with main newly called and no inputs": main, what is running then, and main's turn.
+abbrev pub newEnvironment : Listing → List Variable
+newEnvironment listing = replicate (environmentSize listing) (fresh 0)
+
+abbrev pub newMain : Listing → Node
+newMain listing = newRoutine listing (newEnvironment listing) (environmentNames listing) (mainCall listing)
+
+abbrev pub atStart : Listing → ℕ → Running
+atStart listing allowance = newRunning (newEnvironment listing) allowance 1
+
+abbrev pub startTurn : Listing → ℕ → Result Turn
+startTurn listing allowance = begin (run listing 0 allowance) 0 (newMain listing) (atStart listing allowance)
+
 unfoldable pub start : Listing → ℕ → Result Done
-start listing allowance =
-    let environment = replicate (environmentSize listing) (fresh 0) in
-    let main = newRoutine listing environment (environmentNames listing) (mainCall listing) in
-    begin (run listing 0 allowance) 0 main (record { memory = environment; left = allowance; live = 1; woken = 0 })
-    >>= finish listing 0 allowance
+start listing allowance = startTurn listing allowance >>= finish listing 0 allowance
 
 -- "An instant at t": rule 1, then the visit.
+abbrev pub atInstant : State → ℕ → List Write → ℕ → Running
+atInstant s t inputs allowance = newRunning (applyInputs inputs (dueWrites t (s .environment))) allowance (liveInForest (dueInForest (s .tree) t))
+
+abbrev pub instantTurn : Listing → State → ℕ → List Write → ℕ → Result Turn
+instantTurn listing s t inputs allowance = visitForest listing t (dueInForest (s .tree) t) 0 (atInstant s t inputs allowance)
+
 unfoldable pub instant : Listing → State → ℕ → List Write → ℕ → Result Done
-instant listing s t inputs allowance =
-    let tree = dueInForest (s .tree) t in
-    visitForest listing t tree 0
-    (record { memory = applyInputs inputs (dueWrites t (s .environment)); left = allowance; live = liveInForest tree; woken = 0 })
-    >>= finish listing t allowance
+instant listing s t inputs allowance = instantTurn listing s t inputs allowance >>= finish listing t allowance

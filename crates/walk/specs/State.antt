@@ -1,7 +1,7 @@
 -- The state of the walk: variables with their waiting writes, and the tree of live routines.
 -- A state is said by structure alone: nothing in it tells where a record sits.
-use mathlib.Core.Bool.{Bool, true, false}
-use mathlib.Core.List.{List, [], _∷_}
+use mathlib.Core.Bool.{Bool, false}
+use mathlib.Core.List.{List}
 use Prim.Native.Nat.{ℕ, suc, _+_}
 
 -- "Each variable has at most one waiting write": none, or one with its due moment and its value.
@@ -61,6 +61,42 @@ pub record Running : Type 0 where
   pub left : ℕ
   pub live : ℕ
   pub woken : ℕ
+
+-- At the beginning of an instant.
+abbrev pub newRunning : List Variable → ℕ → ℕ → Running
+newRunning memory allowance live = record { memory = memory; left = allowance; live = live; woken = 0 }
+
+-- One of these changed.
+abbrev pub withMemory : Running → List Variable → Running
+withMemory s memory = record { memory = memory; left = s .left; live = s .live; woken = s .woken }
+
+abbrev pub withLeft : Running → ℕ → Running
+withLeft s left = record { memory = s .memory; left = left; live = s .live; woken = s .woken }
+
+abbrev pub withLive : Running → ℕ → Running
+withLive s live = record { memory = s .memory; left = s .left; live = live; woken = s .woken }
+
+abbrev pub withWoken : Running → ℕ → Running
+withWoken s woken = record { memory = s .memory; left = s .left; live = s .live; woken = woken }
+
+-- The frame of a routine that has its turn: its level, its number in the listing, the instruction it is at,
+-- the address of each of its names, the first address of its own variables.
+pub record Frame : Type 0 where
+  pub level : ℕ
+  pub routine : ℕ
+  pub place : ℕ
+  pub names : List ℕ
+  pub base : ℕ
+
+abbrev pub frame : ℕ → ℕ → ℕ → List ℕ → ℕ → Frame
+frame level r place names base = record { level = level; routine = r; place = place; names = names; base = base }
+
+-- The same routine at instruction k, and at the next one.
+abbrev pub goTo : Frame → ℕ → Frame
+goTo me k = record { level = me .level; routine = me .routine; place = k; names = me .names; base = me .base }
+
+abbrev pub next : Frame → Frame
+next me = goTo me (suc (me .place))
 
 -- What a routine's turn leaves: what is running then, and the routine with its children, unless it ended.
 pub record Turn : Type 0 where

@@ -2,7 +2,7 @@
 -- that is at least the steps used give the same answer; a stop other than 13 stays under a larger allowance.
 -- The outcome with some steps left is compared with the outcome of the same walk with d more of them: first for any
 -- runner `go` of which it holds, then for `run`, for the visit, and at the end for the two calls.
--- Letters as in the walk: level, r, place, names and base place a routine, s is what is running, k a number of steps,
+-- Letters as in the walk: `me` is the frame of a routine, s what is running, k a number of steps,
 -- o and o′ outcomes with fewer and with more steps; a and b are the turns that outcomes hold. In the part on the calls
 -- k and k′ are allowances and d is an answer.
 use mathlib.Core.Path.{_≡_, refl, sym, ap, subst, _∙_}
@@ -13,17 +13,17 @@ use Prim.Native.Nat.{ℕ, zero, suc, _+_, _-_, _≤_, _<_}
 use native.Mathlib.Nat.{le-refl, zero-add, suc-add, add-sub-of-le}
 use native.Mathlib.Omega.{arith}
 use native.Mathlib.Decide.{decLe}
-use Rattle.listing.specs.Listing.{Listing, Call, Instruction, assign, schedule, branch, jump, wait, fork, end}
-use Rattle.walk.specs.State.{Node, node, Forest, empty, more, State, Running, Turn, Result, stop, ok, _>>=_}
-use Rattle.walk.specs.Walk.{withMemory, enter, sleep, leave, Runner, inTurn, begin, join, forkWith, scheduleWith, branchWith, execute, step, run, passedWait, wake, resume, visit, visitForest}
-use Rattle.walk.specs.Instant.{Write, Done, finish, start, instant}
-use Rattle.walk_laws.proofs.Steps.{Within, stopped, leaves, then-within, within-more, ok-injective, stop-is-not-ok, Frugal, inTurn-within, begin-within, join-within, execute-within, run-within, resume-within, visit-within, visitForest-within, startTurn, instantTurn, startTurn-within, instantTurn-within, Accounted, finish-accounts}
+use Rattle.listing.specs.Listing.{Listing, Instruction, assign, schedule, branch, jump, wait, fork, end}
+use Rattle.walk.specs.State.{Node, node, Forest, empty, more, State, Frame, goTo, next, Running, Turn, Result, stop, ok, _>>=_, withLeft}
+use Rattle.walk.specs.Walk.{enter, sleep, leave, Runner, inTurn, begin, join, Move, goesTo, sleeps, forks, ends, stops, carryOut, execute, step, run, passedWait, wake, resume, visit, visitForest}
+use Rattle.walk.specs.Instant.{Write, Done, finish, start, instant, startTurn, instantTurn}
+use Rattle.walk_laws.proofs.Steps.{Within, stopped, leaves, then-within, within-more, ok-injective, stop-is-not-ok, Frugal, inTurn-within, begin-within, join-within, execute-within, run-within, resume-within, visit-within, visitForest-within, startTurn-within, instantTurn-within, Accounted, finish-accounts}
 use Rattle.walk_laws.proofs.Bound.{SameUpTo, begin-same, join-same, run-same}
 
 -- ── outcomes ──────────────────────────────────────────────────────────────────────────────────────
 -- d more steps left, and all else as it is.
 abbrev pub withMore : ℕ → Running → Running
-withMore d s = record { memory = s .memory; left = s .left + d; live = s .live; woken = s .woken }
+withMore d s = withLeft s (s .left + d)
 
 abbrev pub turnWithMore : ℕ → Turn → Turn
 turnWithMore d a = record { running = withMore d (a .running); tree = a .tree }
@@ -46,13 +46,13 @@ then-longer d k _ _ f f′ (same-turn {a = a} e) (leaves l) w′ h = rw e (h a l
 -- ── runners ───────────────────────────────────────────────────────────────────────────────────────
 -- d more steps make a longer walk of what the runner does, while there are at most k in all.
 abbrev pub Extends : ℕ → ℕ → Runner → Type 0
-Extends d k go = (level r place : ℕ) (names : List ℕ) (base : ℕ) (s : Running) → s .left + d ≤ k →
-    Longer d (go level r place names base s) (go level r place names base (withMore d s))
+Extends d k go = (me : Frame) (s : Running) → s .left + d ≤ k →
+    Longer d (go me s) (go me (withMore d s))
 
 -- The same without a limit, of a runner that takes the steps left for the bound of its recursion.
 abbrev pub Lengthens : ℕ → Runner → Type 0
-Lengthens d go = (level r place : ℕ) (names : List ℕ) (base : ℕ) (s : Running) →
-    Longer d (go level r place names base s) (go level r place names base (withMore d s))
+Lengthens d go = (me : Frame) (s : Running) →
+    Longer d (go me s) (go me (withMore d s))
 
 module _ (d k : ℕ) where
   inTurn-longer : (f : Node → Running → Result Turn) → ((n : Node) (s : Running) → Within (s .left) (f n s)) →
@@ -69,73 +69,55 @@ module _ (d k : ℕ) where
 
   begin-longer : (go : Runner) → Extends d k go → (level : ℕ) (n : Node) (s : Running) → s .left + d ≤ k →
       Longer d (begin go level n s) (begin go level n (withMore d s))
-  unfolding begin enter withMemory
-  begin-longer go h level (node r place names own children) s l = h level r place names _ _ l
+  unfolding begin enter
+  begin-longer go h level (node r place names own children) s l = h _ _ l
 
   join-longer : (go : Runner) → Extends d k go → (children : Forest) →
-      Extends d k (λ level r place names base s. join go level r place names base children s)
-  unfolding join sleep withMemory
-  join-longer go h empty level r place names base s l = h level r (suc place) names base s l
-  join-longer go h (more n ns) level r place names base s l = same-turn refl
+      Extends d k (λ me s. join go me children s)
+  unfolding join sleep
+  join-longer go h empty me s l = h (next me) s l
+  join-longer go h (more n ns) me s l = same-turn refl
 
   module _ (listing : Listing) (now : ℕ) where
-    forkWith-longer : (go : Runner) → Frugal go → Extends d k go → (cs : List Call) (fits shallow : Bool) →
-        Extends d k (λ level r place names base s. forkWith listing now go level r place names base cs fits shallow s)
-    unfolding forkWith
-    forkWith-longer go w h cs false shallow level r place names base s l = same-stop
-    forkWith-longer go w h cs true false level r place names base s l = same-stop
-    forkWith-longer go w h cs true true level r place names base s l =
-        then-longer d (s .left) _ _ _ _ (inTurn-longer _ (begin-within go w (suc level)) (begin-longer go h (suc level)) _ _ l)
-        (inTurn-within _ (begin-within go w (suc level)) _ _)
-        (λ a. join-within go w (a .tree) level r place names base (a .running))
-        λ a wa. join-longer go h (a .tree) level r place names base (a .running) (omega arith)
-
-    scheduleWith-longer : (go : Runner) → Extends d k go → (a delay v : ℕ) (positive fits : Bool) →
-        Extends d k (λ level r place names base s. scheduleWith listing now go level r place names base a delay v positive fits s)
-    unfolding scheduleWith withMemory
-    scheduleWith-longer go h a delay v false fits level r place names base s l = same-stop
-    scheduleWith-longer go h a delay v true false level r place names base s l = same-stop
-    scheduleWith-longer go h a delay v true true level r place names base s l = h level r (suc place) names base _ l
-
-    branchWith-longer : (go : Runner) → Extends d k go → (j : ℕ) (isZero : Bool) →
-        Extends d k (λ level r place names base s. branchWith listing now go level r place names base j isZero s)
-    unfolding branchWith
-    branchWith-longer go h j true level r place names base s l = h level r j names base s l
-    branchWith-longer go h j false level r place names base s l = h level r (suc place) names base s l
+    carryOut-longer : (go : Runner) → Frugal go → Extends d k go → (m : Move) → Extends d k (carryOut listing now go m)
+    unfolding carryOut sleep leave
+    carryOut-longer go w h (goesTo to memory) me s l = h (goTo me to) _ l
+    carryOut-longer go w h sleeps me s l = same-turn refl
+    carryOut-longer go w h (forks cs) me s l =
+        then-longer d (s .left) _ _ _ _ (inTurn-longer _ (begin-within go w (suc (me .level))) (begin-longer go h (suc (me .level))) _ _ l)
+        (inTurn-within _ (begin-within go w (suc (me .level))) _ _)
+        (λ a. join-within go w (a .tree) me (a .running))
+        λ a wa. join-longer go h (a .tree) me (a .running) (omega arith)
+    carryOut-longer go w h ends me s l = same-turn refl
+    carryOut-longer go w h (stops number) me s l = same-stop
 
     execute-longer : (go : Runner) → Frugal go → Extends d k go → (i : Instruction) → Extends d k (execute listing now go i)
-    unfolding execute sleep leave withMemory
-    execute-longer go w h (assign n e) level r place names base s l = h level r (suc place) names base _ l
-    execute-longer go w h (schedule n e v) level r place names base s l = scheduleWith-longer go h _ _ _ _ _ level r place names base s l
-    execute-longer go w h (branch e j) level r place names base s l = branchWith-longer go h j _ level r place names base s l
-    execute-longer go w h (jump j) level r place names base s l = h level r j names base s l
-    execute-longer go w h (wait ns) level r place names base s l = same-turn refl
-    execute-longer go w h (fork cs) level r place names base s l = forkWith-longer go w h cs _ _ level r place names base s l
-    execute-longer go w h end level r place names base s l = same-turn refl
+    unfolding execute
+    execute-longer go w h i me s l = carryOut-longer go w h _ me s l
 
 -- ── the run and the visit ─────────────────────────────────────────────────────────────────────────
 module _ (listing : Listing) (now d : ℕ) where
   -- Without a step left there is a stop; with n, a walk that leaves fewer than n.
   step-without : (n : ℕ) (f : Running → Result Turn) → ((s : Running) → Within (s .left) (f s)) → (s : Running) →
-      Longer n (stop 13) (step listing now f n s)
+      Longer n (stop 13) (step f n s)
   unfolding step
   step-without zero f w s = same-stop
   step-without (suc n) f w s = short (le-refl _) (w _)
 
   step-longer : (k : ℕ) (f : Running → Result Turn) → ((s : Running) → Within (s .left) (f s)) →
       ((s : Running) → s .left + d ≤ k → Longer d (f s) (f (withMore d s))) →
-      (j : ℕ) (s : Running) → j + d ≤ suc k → Longer d (step listing now f j s) (step listing now f (j + d) (withMore d s))
+      (j : ℕ) (s : Running) → j + d ≤ suc k → Longer d (step f j s) (step f (j + d) (withMore d s))
   unfolding step
   step-longer k f w h zero s l = rw (zero-add d) (step-without d f w _)
   step-longer k f w h (suc j) s l = rw (suc-add j d) (h _ (omega arith))
 
   pub run-longer : (bound : ℕ) → Extends d bound (run listing now bound)
   unfolding run
-  run-longer zero level r place names base s l = same-stop
-  run-longer (suc bound) level r place names base s l =
+  run-longer zero me s l = same-stop
+  run-longer (suc bound) me s l =
       let w : Frugal (run listing now bound) = run-within listing now bound in
-      step-longer bound _ (λ u. execute-within listing now (run listing now bound) w _ level r place names base u)
-      (λ u lu. execute-longer d bound listing now (run listing now bound) w (run-longer bound) _ level r place names base u lu)
+      step-longer bound _ (λ u. execute-within listing now (run listing now bound) w _ me u)
+      (λ u lu. execute-longer d bound listing now (run listing now bound) w (run-longer bound) _ me u lu)
       (s .left) s l
 
   -- The bound may be the larger number of steps on both sides.
@@ -143,34 +125,34 @@ module _ (listing : Listing) (now d : ℕ) where
   bound-with-more s = run-same listing now (s .left) (s .left + d) (s .left) (le-refl _) (omega arith)
 
   wake-longer : (woken : Bool) → Lengthens d (wake listing now woken)
-  unfolding wake passedWait sleep withMemory
-  wake-longer true level r place names base s =
-      rw (bound-with-more s level r (suc place) names base (passedWait listing now s) (le-refl _))
-      (run-longer (s .left + d) level r (suc place) names base (passedWait listing now s) (le-refl _))
-  wake-longer false level r place names base s = same-turn refl
+  unfolding wake passedWait sleep
+  wake-longer true me s =
+      rw (bound-with-more s (next me) (passedWait s) (le-refl _))
+      (run-longer (s .left + d) (next me) (passedWait s) (le-refl _))
+  wake-longer false me s = same-turn refl
 
   resume-longer : (i : Instruction) (children : Forest) →
-      Lengthens d (λ level r place names base s. resume listing now i level r place names base children s)
+      Lengthens d (λ me s. resume listing now i me children s)
   unfolding resume
-  resume-longer (wait ns) children level r place names base s = wake-longer _ level r place names base s
-  resume-longer (fork cs) children level r place names base s =
-      rw (join-same (s .left) _ _ (bound-with-more s) children level r place names base s (le-refl _))
-      (join-longer d (s .left + d) _ (run-longer (s .left + d)) children level r place names base s (le-refl _))
-  resume-longer (assign n e) children level r place names base s = same-stop
-  resume-longer (schedule n e v) children level r place names base s = same-stop
-  resume-longer (branch e k) children level r place names base s = same-stop
-  resume-longer (jump k) children level r place names base s = same-stop
-  resume-longer end children level r place names base s = same-stop
+  resume-longer (wait ns) children me s = wake-longer _ me s
+  resume-longer (fork cs) children me s =
+      rw (join-same (s .left) _ _ (bound-with-more s) children me s (le-refl _))
+      (join-longer d (s .left + d) _ (run-longer (s .left + d)) children me s (le-refl _))
+  resume-longer (assign n e) children me s = same-stop
+  resume-longer (schedule n e v) children me s = same-stop
+  resume-longer (branch e k) children me s = same-stop
+  resume-longer (jump k) children me s = same-stop
+  resume-longer end children me s = same-stop
 
   mutual
-    unfolding visit enter withMemory
+    unfolding visit enter
 
     pub visit-longer : (n : Node) (level : ℕ) (s : Running) →
         Longer d (visit listing now n level s) (visit listing now n level (withMore d s))
     visit-longer (node r place names own children) level s =
         then-longer d (s .left) _ _ _ _ (visitForest-longer children (suc level) _) (visitForest-within listing now children (suc level) _)
-        (λ a. resume-within listing now _ (a .tree) level r place names _ (a .running))
-        λ a wa. resume-longer _ (a .tree) level r place names _ (a .running)
+        (λ a. resume-within listing now _ (a .tree) _ (a .running))
+        λ a wa. resume-longer _ (a .tree) _ (a .running)
 
     pub visitForest-longer : (f : Forest) (level : ℕ) (s : Running) →
         Longer d (visitForest listing now f level s) (visitForest listing now f level (withMore d s))

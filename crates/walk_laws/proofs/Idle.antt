@@ -15,7 +15,7 @@ use borrow.Author.Tests.{not-true, ne-eqb}
 use Rattle.listing.specs.Listing.{Listing, Call, wait, fork}
 use Rattle.walk.specs.State.{Waiting, idle, due, Variable, fresh, Node, node, Forest, empty, more, _⊕_, State, Running, ok, _>>=_}
 use Rattle.walk.specs.Memory.{variableAt, addressOf, anyWritten}
-use Rattle.walk.specs.Walk.{instructionAt, withMemory, enter, sleep, join, wake, resume, visit, visitForest}
+use Rattle.walk.specs.Walk.{instructionAt, enter, sleep, join, wake, resume, visit, visitForest}
 use Rattle.walk.specs.Instant.{madeIfDue, dueWrite, dueWrites, dueInNode, dueInForest, applyInputs, unmarked, unmarkedNode, unmarkedForest, listedIf, writtenFrom, writtenOutputs, Done, finish, nextDue, instant}
 use Rattle.walk.specs.Question7.{atRest, allAtRest, MadeBy, Asleep, waits, joins, LiveChildren, no-more, ended, lives, someAlive, IsState}
 use Rattle.walk_laws.proofs.NextDue.{WriteDueAmong, on-first, on-later, WriteDueInNode, among-own, below, WriteDueInForest, in-first, in-later, WriteDueIn, in-environment, in-tree, DueOnlyAfter, nothing-due-at}
@@ -40,7 +40,7 @@ module _ (listing : Listing) where
     runningOn memory = record { memory = memory; left = left; live = live; woken = woken }
 
     mutual
-      unfolding visit enter withMemory _>>=_ resume wake sleep join _⊕_
+      unfolding visit enter _>>=_ resume wake sleep join _⊕_
 
       pub quiet-node-stays : (memory : List Variable) (n : Node) (level : ℕ) → QuietNode memory n →
           visit listing now n level (runningOn memory) ≡ ok (record { running = runningOn memory; tree = more n empty })

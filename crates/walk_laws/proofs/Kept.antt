@@ -1,6 +1,6 @@
 -- The walk keeps question 7's condition: what a routine's turn leaves of the tree is asleep as its caller's `F` made it, or gone,
 -- and the variables in reach are steady again. Assumed: the literals of the listing are words.
--- Letters: level, r, place, names, base as a runner's; callerNames and c the names of the caller and the child field that made
+-- Letters: level, base and place as in a frame; callerNames and c the names of the caller and the child field that made
 -- the routine; s what is running, f and g forests, own a routine's own variables.
 use mathlib.Core.Path.{_≡_, refl, ap, _∙_}
 use mathlib.Core.Bool.{Bool, true, false}
@@ -11,10 +11,11 @@ use lib.ListN.{length, take, drop, length-set, length-append, length-take, lengt
 use borrow.Author.Tests.{ltb-true, leb-true}
 use native.Mathlib.Omega.{arith}
 use Rattle.words.specs.Words.{isPositive}
+use Rattle.words.specs.Moments.{momentRange}
 use Rattle.listing.specs.Listing.{Listing, Call, Instruction, assign, schedule, branch, jump, wait, fork, end}
-use Rattle.walk.specs.State.{Variable, Node, Forest, empty, more, _⊕_, Running, Turn, Result, _>>=_}
-use Rattle.walk.specs.Memory.{writeAt, scheduleAt, addressesOf, ownVariables}
-use Rattle.walk.specs.Walk.{routineAt, instructionAt, newRoutine, newRoutines, childCount, withMemory, enter, sleep, leave, Runner, inTurn, begin, join, forkWith, scheduleWith, branchWith, execute, step, run, passedWait, wake, resume, visit, visitForest}
+use Rattle.walk.specs.State.{Variable, Node, Forest, empty, more, _⊕_, Running, Turn, Result, _>>=_, withMemory, Frame, frame}
+use Rattle.walk.specs.Memory.{writeAt, scheduleAt, addressOf, addressesOf, evaluate, ownVariables}
+use Rattle.walk.specs.Walk.{routineAt, instructionAt, newRoutine, newRoutines, childCount, enter, sleep, leave, Runner, inTurn, begin, join, Move, goesTo, sleeps, forks, ends, stops, asking, move, carryOut, execute, step, run, passedWait, wake, resume, visit, visitForest}
 use Rattle.walk.specs.Question7.{ownedBy, boundNames, MadeBy, Asleep, waits, joins, LiveChildren, no-more, ended, lives, someAlive}
 use Rattle.walk_laws.proofs.Booleans.{and-left, and-right}
 use Rattle.walk_laws.proofs.Results.{IfOk, stopped, answered, then-if-ok, weaken-if-ok}
@@ -44,10 +45,14 @@ unfolding _⊕_
 in-front listing now level base callerNames c cs _ g gone k = ended k
 in-front listing now level base callerNames c cs _ g (asleep a) k = lives a k
 
+-- The frame of a routine that child field c of such a caller made.
+abbrev calledBy : Listing → ℕ → ℕ → List ℕ → Call → ℕ → Frame
+calledBy listing level base callerNames c place = frame level (c .callee) place (boundNames listing base callerNames c) base
+
 -- A runner that keeps the order with any routine that some child field made.
 abbrev KeepsOrder : Listing → ℕ → Runner → Type 0
 KeepsOrder listing now go = (level base : ℕ) (callerNames : List ℕ) (c : Call) (place : ℕ) (s : Running) → InOrder now (base + ownedBy listing (c .callee)) s →
-    IfOk (Leaves now base (AsleepOrGone listing now level base callerNames c)) (go level (c .callee) place (boundNames listing base callerNames c) base s)
+    IfOk (Leaves now base (AsleepOrGone listing now level base callerNames c)) (go (calledBy listing level base callerNames c place) s)
 
 -- ── a routine's own variables ─────────────────────────────────────────────────────────────────────
 length-of-own : (base n : ℕ) (xs : List Variable) → length xs ≡ base + n → length (drop base xs) ≡ n
@@ -58,16 +63,14 @@ length-of-reach base n xs e = length-take base xs ∙ (let shorter : min base (l
 
 same-length : (now size : ℕ) (s : Running) (memory : List Variable) → InOrder now size s → length memory ≡ length (s .memory) → allSteady now memory ≡ true →
     InOrder now size (withMemory s memory)
-unfolding withMemory
 same-length now size s memory h e k = record { long = e ∙ h .long; steadied = k; few = h .few }
 
 out-of-reach : (now base n : ℕ) (s : Running) → InOrder now (base + n) s → InOrder now base (withMemory s (take base (s .memory)))
-unfolding withMemory
 out-of-reach now base n s h =
     record { long = length-of-reach base n (s .memory) (h .long); steadied = take-steady now base (s .memory) (h .steadied); few = h .few }
 
 into-reach : (now base : ℕ) (own : List Variable) (s : Running) → InOrder now base s → allSteady now own ≡ true → InOrder now (base + length own) (enter own s)
-unfolding enter withMemory
+unfolding enter
 into-reach now base own s h k =
     record { long = length-append (s .memory) own ∙ ap (λ n. n + length own) (h .long); steadied = append-steady now (s .memory) own (h .steadied) k; few = h .few }
 
@@ -80,15 +83,15 @@ module _ (listing : Listing) (now : ℕ) where
   -- ── sleeping, ending, going on ──────────────────────────────────────────────────────────────────
   wait-keeps : (level base : ℕ) (callerNames : List ℕ) (c : Call) (place : ℕ) (ns : List ℕ) (s : Running) → InOrder now (base + ownedBy listing (c .callee)) s →
       instructionAt listing (c .callee) place ≡ wait ns →
-      IfOk (Leaves now base (AsleepOrGone listing now level base callerNames c)) (sleep (c .callee) place (boundNames listing base callerNames c) base empty s)
+      IfOk (Leaves now base (AsleepOrGone listing now level base callerNames c)) (sleep (calledBy listing level base callerNames c place) empty s)
   unfolding sleep
   wait-keeps level base callerNames c place ns s h i =
       answered (record { order = out-of-reach now base _ s h; left = asleep (waits (made-by-field base callerNames c s h) i) })
 
-  leave-keeps : (level base : ℕ) (callerNames : List ℕ) (c : Call) (s : Running) → InOrder now (base + ownedBy listing (c .callee)) s →
-      IfOk (Leaves now base (AsleepOrGone listing now level base callerNames c)) (leave base s)
-  unfolding leave withMemory
-  leave-keeps level base callerNames c s h =
+  leave-keeps : (level base : ℕ) (callerNames : List ℕ) (c : Call) (place : ℕ) (s : Running) → InOrder now (base + ownedBy listing (c .callee)) s →
+      IfOk (Leaves now base (AsleepOrGone listing now level base callerNames c)) (leave (calledBy listing level base callerNames c place) s)
+  unfolding leave
+  leave-keeps level base callerNames c place s h =
       let kept = out-of-reach now base _ s h in
       let fewer : s .live - 1 ≤ 64 = omega (arith, h .few) in
       answered (record { order = record { long = kept .long; steadied = kept .steadied; few = fewer }; left = gone })
@@ -97,7 +100,7 @@ module _ (listing : Listing) (now : ℕ) where
     join-keeps : (level base : ℕ) (callerNames : List ℕ) (c : Call) (place : ℕ) (cs : List Call) (f : Forest) (s : Running) →
         InOrder now (base + ownedBy listing (c .callee)) s → instructionAt listing (c .callee) place ≡ fork cs → level ≤ 9 →
         LiveChildren listing (allSteady now) (suc level) (length (s .memory)) (boundNames listing base callerNames c) cs f →
-        IfOk (Leaves now base (AsleepOrGone listing now level base callerNames c)) (join go level (c .callee) place (boundNames listing base callerNames c) base f s)
+        IfOk (Leaves now base (AsleepOrGone listing now level base callerNames c)) (join go (calledBy listing level base callerNames c place) f s)
     unfolding join sleep someAlive
     join-keeps level base callerNames c place cs empty s h i l k = keeps level base callerNames c (suc place) s h
     join-keeps level base callerNames c place cs (more n f) s h i l k =
@@ -128,61 +131,71 @@ module _ (listing : Listing) (now : ℕ) where
         then-if-ok _ (children-keep level base callerNames cs memory (a .running) e k (l .order)) λ b m.
         answered (record { order = m .order; left = in-front listing now level base callerNames c cs _ _ (l .left) (m .left) })
 
-    fork-keeps : (level base : ℕ) (callerNames : List ℕ) (c : Call) (place : ℕ) (cs : List Call) (s : Running) (room shallow : Bool) →
-        InOrder now (base + ownedBy listing (c .callee)) s → instructionAt listing (c .callee) place ≡ fork cs →
-        leb (s .live + childCount cs) 64 ≡ room → leb level 9 ≡ shallow →
-        IfOk (Leaves now base (AsleepOrGone listing now level base callerNames c))
-        (forkWith listing now go level (c .callee) place (boundNames listing base callerNames c) base cs room shallow s)
-    unfolding forkWith
-    fork-keeps level base callerNames c place cs s false shallow h i p q = stopped
-    fork-keeps level base callerNames c place cs s true false h i p q = stopped
-    fork-keeps level base callerNames c place cs s true true h i p q =
-        then-if-ok _ (children-keep (suc level) (length (s .memory)) (boundNames listing base callerNames c) cs (s .memory) _ refl (h .steadied)
-        (record { long = refl; steadied = h .steadied; few = leb-true _ _ p })) λ a l.
-        let order = l .order in
-        join-keeps level base callerNames c place cs (a .tree) (a .running)
-        (record { long = order .long ∙ h .long; steadied = order .steadied; few = order .few }) i (leb-true _ _ q) (rw (order .long) (l .left))
+    -- ── one instruction ───────────────────────────────────────────────────────────────────────────
+    -- The routine is at it, and the order holds.
+    module _ (level base : ℕ) (callerNames : List ℕ) (c : Call) (place : ℕ) (s : Running) (h : InOrder now (base + ownedBy listing (c .callee)) s) where
+      -- A move that keeps the order.
+      data Orderly : Move → Type 0 where
+        goes-on : {k : ℕ} {memory : List Variable} → length memory ≡ length (s .memory) → allSteady now memory ≡ true → Orderly (goesTo k memory)
+        falls-asleep : {ns : List ℕ} → instructionAt listing (c .callee) place ≡ wait ns → Orderly sleeps
+        makes-children : {cs : List Call} → instructionAt listing (c .callee) place ≡ fork cs → s .live + childCount cs ≤ 64 → level ≤ 9 → Orderly (forks cs)
+        comes-to-an-end : Orderly ends
+        is-stopped : {k : ℕ} → Orderly (stops k)
 
-    -- ── the other instructions ────────────────────────────────────────────────────────────────────
-    schedule-keeps : (level base : ℕ) (callerNames : List ℕ) (c : Call) (place a d v : ℕ) (positive fits : Bool) (s : Running) →
-        InOrder now (base + ownedBy listing (c .callee)) s → isPositive d ≡ positive → ltb (now + d) 18446744073709551616 ≡ fits → v < 4294967296 →
-        IfOk (Leaves now base (AsleepOrGone listing now level base callerNames c))
-        (scheduleWith listing now go level (c .callee) place (boundNames listing base callerNames c) base a d v positive fits s)
-    unfolding scheduleWith scheduleAt
-    schedule-keeps level base callerNames c place a d v false fits s h p q l = stopped
-    schedule-keeps level base callerNames c place a d v true false s h p q l = stopped
-    schedule-keeps level base callerNames c place a d v true true s h p q l =
-        let one : 1 ≤ d = leb-true _ _ (and-left (leb 1 d) _ p) in
-        keeps level base callerNames c (suc place) _ (same-length now _ s _ h (length-set (s .memory) a _)
-        (schedule-steady now (s .memory) a (now + d) v (h .steadied) (omega arith) (ltb-true _ _ q) l))
+      carryOut-keeps : (m : Move) → Orderly m →
+          IfOk (Leaves now base (AsleepOrGone listing now level base callerNames c)) (carryOut listing now go m (calledBy listing level base callerNames c place) s)
+      unfolding carryOut
+      carryOut-keeps _ (goes-on {k = k} e w) = keeps level base callerNames c k _ (same-length now _ s _ h e w)
+      carryOut-keeps _ (falls-asleep {ns = ns} i) = wait-keeps level base callerNames c place ns s h i
+      carryOut-keeps _ (makes-children {cs = cs} i room shallow) =
+          then-if-ok _ (children-keep (suc level) (length (s .memory)) (boundNames listing base callerNames c) cs (s .memory) _ refl (h .steadied)
+          (record { long = refl; steadied = h .steadied; few = room })) λ a l.
+          let order = l .order in
+          join-keeps level base callerNames c place cs (a .tree) (a .running)
+          (record { long = order .long ∙ h .long; steadied = order .steadied; few = order .few }) i shallow (rw (order .long) (l .left))
+      carryOut-keeps _ comes-to-an-end = leave-keeps level base callerNames c place s h
+      carryOut-keeps _ is-stopped = stopped
 
-    branch-keeps : (level base : ℕ) (callerNames : List ℕ) (c : Call) (place k : ℕ) (taken : Bool) (s : Running) →
-        InOrder now (base + ownedBy listing (c .callee)) s →
-        IfOk (Leaves now base (AsleepOrGone listing now level base callerNames c))
-        (branchWith listing now go level (c .callee) place (boundNames listing base callerNames c) base k taken s)
-    unfolding branchWith
-    branch-keeps level base callerNames c place k true s h = keeps level base callerNames c k s h
-    branch-keeps level base callerNames c place k false s h = keeps level base callerNames c (suc place) s h
+      fork-orderly : (cs : List Call) (room shallow : Bool) → instructionAt listing (c .callee) place ≡ fork cs →
+          leb (s .live + childCount cs) 64 ≡ room → leb level 9 ≡ shallow → Orderly (asking 14 room (asking 15 shallow (forks cs)))
+      unfolding asking
+      fork-orderly cs false shallow i p q = is-stopped
+      fork-orderly cs true false i p q = is-stopped
+      fork-orderly cs true true i p q = makes-children i (leb-true _ _ p) (leb-true _ _ q)
+
+      schedule-orderly : (k a d v : ℕ) (positive fits : Bool) → isPositive d ≡ positive → ltb (now + d) momentRange ≡ fits → v < 4294967296 →
+          Orderly (asking 16 positive (asking 17 fits (goesTo k (scheduleAt (s .memory) a (now + d) v))))
+      unfolding asking scheduleAt
+      schedule-orderly k a d v false fits p q l = is-stopped
+      schedule-orderly k a d v true false p q l = is-stopped
+      schedule-orderly k a d v true true p q l =
+          let one : 1 ≤ d = leb-true _ _ (and-left (leb 1 d) _ p) in
+          goes-on (length-set (s .memory) a _) (schedule-steady now (s .memory) a (now + d) v (h .steadied) (omega arith) (ltb-true _ _ q) l)
+
+      move-orderly : (i : Instruction) → instructionInWords i ≡ true → instructionAt listing (c .callee) place ≡ i →
+          Orderly (move now i (calledBy listing level base callerNames c place) (s .live) (s .memory))
+      unfolding move instructionInWords writeAt
+      move-orderly (assign n e) l i =
+          goes-on (length-set (s .memory) _ _) (write-steady now (s .memory) _ _ (h .steadied) (evaluate-gives-word now (s .memory) _ e (h .steadied) l))
+      move-orderly (schedule n d e) l i =
+          let names = boundNames listing base callerNames c in
+          schedule-orderly (suc place) (addressOf names n) (evaluate (s .memory) names d) (evaluate (s .memory) names e) _ _ refl refl
+          (evaluate-gives-word now (s .memory) names e (h .steadied) (and-right (expressionInWords d) _ l))
+      move-orderly (branch e k) l i = goes-on refl (h .steadied)
+      move-orderly (jump k) l i = goes-on refl (h .steadied)
+      move-orderly (wait ns) l i = falls-asleep i
+      move-orderly (fork cs) l i = fork-orderly cs _ _ i refl refl
+      move-orderly end l i = comes-to-an-end
 
     execute-keeps : (i : Instruction) (level base : ℕ) (callerNames : List ℕ) (c : Call) (place : ℕ) (s : Running) → instructionInWords i ≡ true →
         instructionAt listing (c .callee) place ≡ i → InOrder now (base + ownedBy listing (c .callee)) s →
-        IfOk (Leaves now base (AsleepOrGone listing now level base callerNames c))
-        (execute listing now go i level (c .callee) place (boundNames listing base callerNames c) base s)
-    unfolding execute instructionInWords writeAt
-    execute-keeps (assign n e) level base callerNames c place s l i h =
-        keeps level base callerNames c (suc place) _ (same-length now _ s _ h (length-set (s .memory) _ _)
-        (write-steady now (s .memory) _ _ (h .steadied) (evaluate-gives-word now (s .memory) _ e (h .steadied) l)))
-    execute-keeps (schedule n d e) level base callerNames c place s l i h =
-        schedule-keeps level base callerNames c place _ _ _ _ _ s h refl refl
-        (evaluate-gives-word now (s .memory) (boundNames listing base callerNames c) e (h .steadied) (and-right (expressionInWords d) _ l))
-    execute-keeps (branch e k) level base callerNames c place s l i h = branch-keeps level base callerNames c place k _ s h
-    execute-keeps (jump k) level base callerNames c place s l i h = keeps level base callerNames c k s h
-    execute-keeps (wait ns) level base callerNames c place s l i h = wait-keeps level base callerNames c place ns s h i
-    execute-keeps (fork cs) level base callerNames c place s l i h = fork-keeps level base callerNames c place cs s _ _ h i refl refl
-    execute-keeps end level base callerNames c place s l i h = leave-keeps level base callerNames c s h
+        IfOk (Leaves now base (AsleepOrGone listing now level base callerNames c)) (execute listing now go i (calledBy listing level base callerNames c place) s)
+    unfolding execute
+    execute-keeps i level base callerNames c place s l e h =
+        carryOut-keeps level base callerNames c place s h _ (move-orderly level base callerNames c place s h i l e)
 
   step-keeps : {P : Turn → Type 0} {size : ℕ} (f : Running → Result Turn) (k : ℕ) (s : Running) → InOrder now size s →
-      ((u : Running) → InOrder now size u → IfOk P (f u)) → IfOk P (step listing now f k s)
+      ((u : Running) → InOrder now size u → IfOk P (f u)) → IfOk P (step f k s)
   unfolding step
   step-keeps f zero s h g = stopped
   step-keeps f (suc k) s h g = g _ (record { long = h .long; steadied = h .steadied; few = h .few })
@@ -200,7 +213,7 @@ module _ (listing : Listing) (now : ℕ) (words : LiteralsAreWords listing) wher
   wake-keeps : (written : Bool) (level base : ℕ) (callerNames : List ℕ) (c : Call) (place : ℕ) (ns : List ℕ) (s : Running) →
       instructionAt listing (c .callee) place ≡ wait ns → InOrder now (base + ownedBy listing (c .callee)) s →
       IfOk (Leaves now base (AsleepOrGone listing now level base callerNames c))
-      (wake listing now written level (c .callee) place (boundNames listing base callerNames c) base s)
+      (wake listing now written (calledBy listing level base callerNames c place) s)
   unfolding wake passedWait
   wake-keeps true level base callerNames c place ns s i h =
       run-keeps (s .left) level base callerNames c (suc place) _ (record { long = h .long; steadied = h .steadied; few = h .few })

@@ -13,7 +13,7 @@ use Rattle.listing.specs.Listing.{Listing}
 use Rattle.walk.specs.State.{Variable, fresh, Forest, liveInForest, State, Turn, Result, ok, _>>=_}
 use Rattle.walk.specs.Memory.{writeAt}
 use Rattle.walk.specs.Walk.{run}
-use Rattle.walk.specs.Instant.{Write, Done, dueWrites, dueInForest, applyInputs, dueOfVariables, dueOfForest, nextDue, unmarked, unmarkedForest, finish, environmentSize, environmentNames, mainCall, start, instant}
+use Rattle.walk.specs.Instant.{Write, Done, dueWrites, dueInForest, applyInputs, dueOfVariables, dueOfForest, nextDue, unmarked, unmarkedForest, finish, environmentSize, environmentNames, mainCall, start, instant, startTurn, instantTurn}
 use Rattle.walk.specs.Question7.{allAtRest, LiveChildren, no-more, ended, lives, IsState}
 use Rattle.walk_laws.proofs.Booleans.{and-left, and-right}
 use Rattle.walk_laws.proofs.Results.{IfOk, stopped, answered, holds-of-answer, weaken-if-ok}
@@ -21,7 +21,7 @@ use Rattle.walk_laws.proofs.AtRest.{allSteady, write-steady, replicate-
 use Rattle.walk_laws.proofs.Shape.{length-dueWrites, due-writes-keep-live, due-writes-keep-children, unmarking-keeps-live, unmarking-keeps-children}
 use Rattle.walk.specs.Calls.{dueBefore}
 use Rattle.walk_laws.proofs.Due.{neither-due-before, due-writes-steady, next-due-after-now}
-use Rattle.walk_laws.specs.LiveCount.{Counted, turnAtStart, turnAtInstant}
+use Rattle.walk_laws.specs.LiveCount.{Counted}
 use Rattle.walk_laws.proofs.LiveCount.{turn-at-start-counts, turn-at-instant-counts}
 use Rattle.walk_laws.proofs.Kept.{Leaves, AsleepOrGone, gone, asleep, begin-keeps, run-keeps, visit-forest-keeps}
 
@@ -78,7 +78,7 @@ main-alone _ gone = ended no-more
 main-alone _ (asleep a) = lives a no-more
 
 turn-at-start-keeps : (listing : Listing) (allowance : ℕ) → LiteralsAreWords listing →
-    IfOk (Leaves 0 (environmentSize listing) (OnlyMain listing 0 (environmentSize listing))) (turnAtStart listing allowance)
+    IfOk (Leaves 0 (environmentSize listing) (OnlyMain listing 0 (environmentSize listing))) (startTurn listing allowance)
 turn-at-start-keeps listing allowance words =
     let size = environmentSize listing in
     let long = length-replicate size (fresh 0) in
@@ -90,7 +90,7 @@ turn-at-start-keeps listing allowance words =
 
 turn-at-instant-keeps : (listing : Listing) (s : State) (t : ℕ) (inputs : List Write) (allowance : ℕ) → LiteralsAreWords listing → IsState listing s →
     dueBefore (nextDue s) t ≡ false → valuesAreWords inputs ≡ true →
-    IfOk (Leaves t (length (s .environment)) (OnlyMain listing t (length (s .environment)))) (turnAtInstant listing s t inputs allowance)
+    IfOk (Leaves t (length (s .environment)) (OnlyMain listing t (length (s .environment)))) (instantTurn listing s t inputs allowance)
 unfolding nextDue
 turn-at-instant-keeps listing s t inputs allowance words h late inputWords =
     let (p, q) = neither-due-before t (dueOfVariables (s .environment)) (dueOfForest (s .tree)) late in

@@ -1,11 +1,11 @@
 -- Where the walk stops with k, it has reached an instruction at which question k is the first no.
--- Letters as in the walk: level, r, place, names and base place a routine, s is what is running, k a question's number, n a node,
+-- Letters as in the walk: `me` is the routine's frame, s what is running, k a question's number, n a node,
 -- cs child fields; a is the turn that an outcome holds.
 use mathlib.Core.Path.{_≡_, refl, sym, _∙_}
 use mathlib.Core.Bool.{Bool, true, false}
 use mathlib.Core.List.{List}
 use Prim.Native.Nat.{ℕ, zero, suc, _+_, _≤_}
-use lib.Dec.{eqb, ltb, leb}
+use lib.Dec.{ltb, leb}
 use lib.ListN.{length}
 use borrow.Author.Tests.{ltb-false, leb-true, leb-false}
 use native.Mathlib.Nat.{le-refl, le-trans}
@@ -14,9 +14,9 @@ use native.Mathlib.Decide.{decLe}
 use Rattle.words.specs.Words.{isPositive}
 use Rattle.words.specs.Moments.{momentRange}
 use Rattle.listing.specs.Listing.{Listing, Piece, Call, Instruction, assign, schedule, branch, jump, wait, fork, end}
-use Rattle.walk.specs.State.{Variable, Node, node, Forest, empty, more, _⊕_, Running, Turn, Result, stop, ok, _>>=_}
-use Rattle.walk.specs.Memory.{writeAt, scheduleAt, addressOf, anyWritten, evaluate}
-use Rattle.walk.specs.Walk.{instructionAt, newRoutines, childCount, withMemory, enter, sleep, leave, Runner, inTurn, begin, join, forkWith, scheduleWith, branchWith, execute, run, passedWait, wake, resume, visit, visitForest}
+use Rattle.walk.specs.State.{Variable, Node, node, Forest, empty, more, _⊕_, Running, Turn, Result, stop, ok, _>>=_, withMemory, Frame, goTo, next, frame}
+use Rattle.walk.specs.Memory.{anyWritten, evaluate}
+use Rattle.walk.specs.Walk.{instructionAt, instructionOf, newRoutines, childCount, enter, sleep, leave, goesTo, forks, asking, move, inTurn, begin, join, carryOut, execute, run, passedWait, wake, resume, visit, visitForest}
 use Rattle.walk_laws.specs.Stops.{FirstNo, no-step, no-room, too-deep, no-delay, too-late, stepTaken, forked, fullRun, Forks, RunReaches, here, onward, in-child, after-children, NewReach, first, later, VisitReaches, in-children, woken, joined, ForestReaches, first-visited, later-visited}
 use Rattle.walk_laws.proofs.Steps.{inTurn-within, begin-within}
 use Rattle.walk_laws.proofs.FullRun.{left-by, full-frugal, full-without-steps, full-takes-step}
@@ -42,27 +42,26 @@ formed-stops k (stop j) f e = cc
 formed-stops k (ok a) f e = ok-is-not-stop e
 
 module _ (listing : Listing) (now k : ℕ) where
-  abbrev Reaches : ℕ → ℕ → ℕ → List ℕ → ℕ → Running → Type 0
-  Reaches level r place names base s = RunReaches listing now (FirstNo now k) level r place names base s
+  abbrev Reaches : Frame → Running → Type 0
+  Reaches me s = RunReaches listing now (FirstNo now k) me s
 
   -- Every stop of a run with at most so many steps left has its cause.
   abbrev Caused : ℕ → Type 0
-  Caused bound = (level r place : ℕ) (names : List ℕ) (base : ℕ) (s : Running) → s .left ≤ bound →
-      fullRun listing now level r place names base s ≡ stop k → Reaches level r place names base s
+  Caused bound = (me : Frame) (s : Running) → s .left ≤ bound → fullRun listing now me s ≡ stop k → Reaches me s
 
-  stops-here : (level r place : ℕ) (names : List ℕ) (base : ℕ) (s : Running) (number : ℕ) (i : Instruction) → instructionAt listing r place ≡ i →
-      FirstNo now number level names s i → _≡_ {A = Result Turn} (stop number) (stop k) → Reaches level r place names base s
-  stops-here level r place names base s number i at q e =
+  stops-here : (me : Frame) (s : Running) (number : ℕ) (i : Instruction) → instructionOf listing me ≡ i →
+      FirstNo now number me s i → _≡_ {A = Result Turn} (stop number) (stop k) → Reaches me s
+  stops-here me s number i at q e =
       let same : number ≡ k = cc in
-      let q′ : FirstNo now k level names s i = rw same at q in
-      here {level = level} {r = r} {place = place} {names = names} {s = s} (rw at q′)
+      let q′ : FirstNo now k me s i = rw same at q in
+      here {me = me} {s = s} (rw at q′)
 
   -- ── new routines ────────────────────────────────────────────────────────────────────────────────
   module _ (bound : ℕ) (caused : Caused bound) where
     begin-caused : (level : ℕ) (n : Node) (ns : Forest) (s : Running) → s .left ≤ bound → begin (fullRun listing now) level n s ≡ stop k →
         NewReach listing now (FirstNo now k) level (more n ns) s
-    unfolding begin enter withMemory
-    begin-caused level (node r place names own children) ns s l e = first (caused level r place names (length (s .memory)) (enter own s) l e)
+    unfolding begin enter
+    begin-caused level (node r place names own children) ns s l e = first (caused (frame level r place names (length (s .memory))) (enter own s) l e)
 
     more-caused : (level : ℕ) (n : Node) (ns : Forest) (s : Running) → s .left ≤ bound →
         ((u : Running) → u .left ≤ bound → inTurn (begin (fullRun listing now) level) ns u ≡ stop k → NewReach listing now (FirstNo now k) level ns u) →
@@ -82,92 +81,81 @@ module _ (listing : Listing) (now k : ℕ) where
 
     -- ── one instruction ───────────────────────────────────────────────────────────────────────────
     -- The routine is at this instruction, with a step left.
-    module _ (level r place : ℕ) (names : List ℕ) (base : ℕ) (s : Running) (step : 1 ≤ s .left) (l : s .left ≤ suc bound) where
+    module _ (me : Frame) (s : Running) (step : 1 ≤ s .left) (l : s .left ≤ suc bound) where
       -- It leads on to another of the same routine.
-      goes-on : (place′ : ℕ) (s′ : Running) → s′ .left ≤ bound →
-          ((go : Runner) → execute listing now go (instructionAt listing r place) level r place names base (stepTaken s) ≡ go level r place′ names base s′) →
-          fullRun listing now level r place′ names base s′ ≡ stop k → Reaches level r place names base s
-      goes-on place′ s′ few to e = onward {s′ = s′} step to (caused level r place′ names base s′ few e)
+      goes-on : (to : ℕ) (memory : List Variable) → move now (instructionOf listing me) me (s .live) (s .memory) ≡ goesTo to memory →
+          carryOut listing now (fullRun listing now) (goesTo to memory) me (stepTaken s) ≡ stop k → Reaches me s
+      unfolding carryOut
+      goes-on to memory leads e = onward step leads (caused (goTo me to) (withMemory (stepTaken s) memory) (omega arith) e)
 
-      join-caused : (cs : List Call) (a : Turn) → Forks listing level r place s cs →
-          inTurn (begin (fullRun listing now) (suc level)) (newRoutines listing (s .memory) names cs) (forked cs s) ≡ ok a → (t : Forest) → a .tree ≡ t →
-          join (fullRun listing now) level r place names base t (a .running) ≡ stop k → Reaches level r place names base s
+      join-caused : (cs : List Call) (a : Turn) → Forks listing me s cs →
+          inTurn (begin (fullRun listing now) (suc (me .level))) (newRoutines listing (s .memory) (me .names) cs) (forked cs s) ≡ ok a →
+          (t : Forest) → a .tree ≡ t → join (fullRun listing now) me t (a .running) ≡ stop k → Reaches me s
       unfolding join sleep
       join-caused cs a f e empty t g =
-          after-children f e t (caused level r (suc place) names base (a .running)
-          (le-trans (left-by a (inTurn-within _ (begin-within (fullRun listing now) (full-frugal listing now) (suc level)) _ _) e) (omega arith)) g)
+          after-children f e t (caused (next me) (a .running)
+          (le-trans (left-by a (inTurn-within _ (begin-within (fullRun listing now) (full-frugal listing now) (suc (me .level))) _ _) e) (omega arith)) g)
       join-caused cs a f e (more n ns) t g = ok-is-not-stop g
 
-      fork-caused : (cs : List Call) → instructionAt listing r place ≡ fork cs → (fits shallow : Bool) →
-          leb (s .live + childCount cs) 64 ≡ fits → leb level 9 ≡ shallow →
-          forkWith listing now (fullRun listing now) level r place names base cs fits shallow (stepTaken s) ≡ stop k → Reaches level r place names base s
-      unfolding forkWith
-      fork-caused cs i false shallow x y e =
-          stops-here level r place names base s 14 (fork cs) i (no-room step (leb-false _ 64 x)) e
-      fork-caused cs i true false x y e =
-          stops-here level r place names base s 15 (fork cs) i (too-deep step (leb-true _ 64 x) (leb-false level 9 y)) e
-      fork-caused cs i true true x y e = by-children (then-stops k _ _ e)
+      children-caused : (cs : List Call) → Forks listing me s cs →
+          carryOut listing now (fullRun listing now) (forks cs) me (stepTaken s) ≡ stop k → Reaches me s
+      unfolding carryOut
+      children-caused cs f e = by-children (then-stops k _ _ e)
         where
-          f : Forks listing level r place s cs
-          f = record { at = i; step = step; room = leb-true _ 64 x; shallow = leb-true level 9 y }
-
-          by-children : ThenStops k (inTurn (begin (fullRun listing now) (suc level)) (newRoutines listing (s .memory) names cs) (forked cs s))
-              (λ (a : Turn). join (fullRun listing now) level r place names base (a .tree) (a .running)) → Reaches level r place names base s
-          by-children (at-once g) = in-child f (new-caused (suc level) _ (forked cs s) (omega arith) g)
+          by-children : ThenStops k (inTurn (begin (fullRun listing now) (suc (me .level))) (newRoutines listing (s .memory) (me .names) cs) (forked cs s))
+              (λ (a : Turn). join (fullRun listing now) me (a .tree) (a .running)) → Reaches me s
+          by-children (at-once g) = in-child f (new-caused (suc (me .level)) _ (forked cs s) (omega arith) g)
           by-children (afterwards a g h) = join-caused cs a f g (a .tree) refl h
 
-      schedule-caused : (n : ℕ) (d e : List Piece) → instructionAt listing r place ≡ schedule n d e → (positive fits : Bool) →
-          isPositive (evaluate (s .memory) names d) ≡ positive → ltb (now + evaluate (s .memory) names d) momentRange ≡ fits →
-          scheduleWith listing now (fullRun listing now) level r place names base (addressOf names n) (evaluate (s .memory) names d)
-          (evaluate (s .memory) names e) positive fits (stepTaken s) ≡ stop k → Reaches level r place names base s
-      unfolding execute scheduleWith withMemory
-      schedule-caused n d e i false fits x y g =
-          stops-here level r place names base s 16 (schedule n d e) i (no-delay step x) g
-      schedule-caused n d e i true false x y g =
-          stops-here level r place names base s 17 (schedule n d e) i (too-late step x (ltb-false _ momentRange y)) g
-      schedule-caused n d e i true true x y g =
-          goes-on (suc place) (withMemory (stepTaken s) (scheduleAt (s .memory) (addressOf names n) (now + evaluate (s .memory) names d)
-          (evaluate (s .memory) names e))) (omega arith) (λ go. rw (i, x, y)) g
+      fork-caused : (cs : List Call) → instructionOf listing me ≡ fork cs → (fits shallow : Bool) →
+          leb (s .live + childCount cs) 64 ≡ fits → leb (me .level) 9 ≡ shallow →
+          carryOut listing now (fullRun listing now) (asking 14 fits (asking 15 shallow (forks cs))) me (stepTaken s) ≡ stop k → Reaches me s
+      unfolding asking carryOut
+      fork-caused cs i false shallow x y e = stops-here me s 14 (fork cs) i (no-room step (leb-false _ 64 x)) e
+      fork-caused cs i true false x y e = stops-here me s 15 (fork cs) i (too-deep step (leb-true _ 64 x) (leb-false (me .level) 9 y)) e
+      fork-caused cs i true true x y e =
+          children-caused cs (record { at = i; step = step; room = leb-true _ 64 x; shallow = leb-true (me .level) 9 y }) e
 
-      branch-caused : (e : List Piece) (to : ℕ) → instructionAt listing r place ≡ branch e to → (isZero : Bool) →
-          eqb (evaluate (s .memory) names e) 0 ≡ isZero →
-          branchWith listing now (fullRun listing now) level r place names base to isZero (stepTaken s) ≡ stop k → Reaches level r place names base s
-      unfolding execute branchWith
-      branch-caused e to i true x g = goes-on to (stepTaken s) (omega arith) (λ go. rw (i, x)) g
-      branch-caused e to i false x g = goes-on (suc place) (stepTaken s) (omega arith) (λ go. rw (i, x)) g
+      schedule-caused : (n : ℕ) (d e : List Piece) → instructionOf listing me ≡ schedule n d e → (positive fits : Bool) →
+          isPositive (evaluate (s .memory) (me .names) d) ≡ positive → ltb (now + evaluate (s .memory) (me .names) d) momentRange ≡ fits →
+          (memory : List Variable) →
+          move now (schedule n d e) me (s .live) (s .memory) ≡ asking 16 positive (asking 17 fits (goesTo (suc (me .place)) memory)) →
+          carryOut listing now (fullRun listing now) (asking 16 positive (asking 17 fits (goesTo (suc (me .place)) memory))) me (stepTaken s) ≡ stop k →
+          Reaches me s
+      unfolding asking carryOut
+      schedule-caused n d e i false fits x y memory m g = stops-here me s 16 (schedule n d e) i (no-delay step x) g
+      schedule-caused n d e i true false x y memory m g =
+          stops-here me s 17 (schedule n d e) i (too-late step x (ltb-false _ momentRange y)) g
+      schedule-caused n d e i true true x y memory m g = goes-on (suc (me .place)) memory (rw i m) g
 
-      execute-caused : (i : Instruction) → instructionAt listing r place ≡ i →
-          execute listing now (fullRun listing now) i level r place names base (stepTaken s) ≡ stop k → Reaches level r place names base s
-      unfolding execute sleep leave withMemory
-      execute-caused (assign n e) i g = goes-on (suc place) (withMemory (stepTaken s) (writeAt (s .memory) (addressOf names n) (evaluate (s .memory) names e)))
-          (omega arith) (λ go. rw i) g
-      execute-caused (schedule n d e) i g = schedule-caused n d e i _ _ refl refl g
-      execute-caused (branch e to) i g = branch-caused e to i _ refl g
-      execute-caused (jump to) i g = goes-on to (stepTaken s) (omega arith) (λ go. rw i) g
+      execute-caused : (i : Instruction) → instructionOf listing me ≡ i →
+          execute listing now (fullRun listing now) i me (stepTaken s) ≡ stop k → Reaches me s
+      unfolding execute move carryOut sleep leave
+      execute-caused (assign n e) i g = goes-on _ _ (rw i) g
+      execute-caused (schedule n d e) i g = schedule-caused n d e i _ _ refl refl _ refl g
+      execute-caused (branch e to) i g = goes-on _ _ (rw i) g
+      execute-caused (jump to) i g = goes-on _ _ (rw i) g
       execute-caused (wait ns) i g = ok-is-not-stop g
       execute-caused (fork cs) i g = fork-caused cs i _ _ refl refl g
       execute-caused end i g = ok-is-not-stop g
 
   -- ── a routine's run ─────────────────────────────────────────────────────────────────────────────
-  caused-without-steps : (level r place : ℕ) (names : List ℕ) (base : ℕ) (s : Running) → s .left ≡ 0 →
-      fullRun listing now level r place names base s ≡ stop k → Reaches level r place names base s
-  caused-without-steps level r place names base s z e =
-      let stopped : _≡_ {A = Result Turn} (stop 13) (stop k) = sym (full-without-steps listing now level r place names base s z) ∙ e in
-      stops-here level r place names base s 13 (instructionAt listing r place) refl (no-step z) stopped
+  caused-without-steps : (me : Frame) (s : Running) → s .left ≡ 0 → fullRun listing now me s ≡ stop k → Reaches me s
+  caused-without-steps me s z e =
+      let stopped : _≡_ {A = Result Turn} (stop 13) (stop k) = sym (full-without-steps listing now me s z) ∙ e in
+      stops-here me s 13 (instructionOf listing me) refl (no-step z) stopped
 
   caused-up-to : (bound : ℕ) → Caused bound
-  caused-up-to zero level r place names base s l e = caused-without-steps level r place names base s (omega arith) e
-  caused-up-to (suc bound) level r place names base s l e = by-steps (caused-up-to bound) (decLe 1 (s .left))
+  caused-up-to zero me s l e = caused-without-steps me s (omega arith) e
+  caused-up-to (suc bound) me s l e = by-steps (caused-up-to bound) (decLe 1 (s .left))
     where
-      by-steps : Caused bound → Dec (1 ≤ s .left) → Reaches level r place names base s
+      by-steps : Caused bound → Dec (1 ≤ s .left) → Reaches me s
       by-steps fewer (yes step) =
-          execute-caused bound fewer level r place names base s step l (instructionAt listing r place) refl
-          (sym (full-takes-step listing now level r place names base s step) ∙ e)
-      by-steps fewer (no h) = caused-without-steps level r place names base s (omega (arith, h)) e
+          execute-caused bound fewer me s step l (instructionOf listing me) refl (sym (full-takes-step listing now me s step) ∙ e)
+      by-steps fewer (no h) = caused-without-steps me s (omega (arith, h)) e
 
-  pub run-reaches : (level r place : ℕ) (names : List ℕ) (base : ℕ) (s : Running) → fullRun listing now level r place names base s ≡ stop k →
-      RunReaches listing now (FirstNo now k) level r place names base s
-  run-reaches level r place names base s e = caused-up-to (s .left) level r place names base s (le-refl _) e
+  pub run-reaches : (me : Frame) (s : Running) → fullRun listing now me s ≡ stop k → RunReaches listing now (FirstNo now k) me s
+  run-reaches me s e = caused-up-to (s .left) me s (le-refl _) e
 
   pub new-reaches : (level : ℕ) (n : Node) (ns : Forest) (s : Running) → begin (fullRun listing now) level n s ≡ stop k →
       NewReach listing now (FirstNo now k) level (more n ns) s
@@ -183,21 +171,21 @@ module _ (listing : Listing) (now k : ℕ) where
       -- Its live children visited, which left a, the routine stops in its own turn.
       module _ (a : Turn) (visited : visitForest listing now children (suc level) (enter own s) ≡ ok a) where
         wake-reached : (ns : List ℕ) → instructionAt listing r place ≡ wait ns → (written : Bool) → anyWritten ((a .running) .memory) names ns ≡ written →
-            wake listing now written level r place names (length (s .memory)) (a .running) ≡ stop k →
+            wake listing now written (frame level r place names (length (s .memory))) (a .running) ≡ stop k →
             VisitReaches listing now (FirstNo now k) (node r place names own children) level s
         unfolding wake passedWait sleep
-        wake-reached ns i true w e = woken visited i w (run-reaches level r (suc place) names (length (s .memory)) (passedWait listing now (a .running)) e)
+        wake-reached ns i true w e = woken visited i w (run-reaches (frame level r (suc place) names (length (s .memory))) (passedWait (a .running)) e)
         wake-reached ns i false w e = ok-is-not-stop e
 
         join-reached : (cs : List Call) → instructionAt listing r place ≡ fork cs → (t : Forest) → a .tree ≡ t →
-            join (run listing now ((a .running) .left)) level r place names (length (s .memory)) t (a .running) ≡ stop k →
+            join (run listing now ((a .running) .left)) (frame level r place names (length (s .memory))) t (a .running) ≡ stop k →
             VisitReaches listing now (FirstNo now k) (node r place names own children) level s
         unfolding join sleep
-        join-reached cs i empty t e = joined visited i t (run-reaches level r (suc place) names (length (s .memory)) (a .running) e)
+        join-reached cs i empty t e = joined visited i t (run-reaches (frame level r (suc place) names (length (s .memory))) (a .running) e)
         join-reached cs i (more n ns) t e = ok-is-not-stop e
 
         resume-reached : (i : Instruction) → instructionAt listing r place ≡ i →
-            resume listing now i level r place names (length (s .memory)) (a .tree) (a .running) ≡ stop k →
+            resume listing now i (frame level r place names (length (s .memory))) (a .tree) (a .running) ≡ stop k →
             VisitReaches listing now (FirstNo now k) (node r place names own children) level s
         unfolding resume
         resume-reached (wait ns) i e = wake-reached ns i _ refl e
@@ -210,7 +198,7 @@ module _ (listing : Listing) (now k : ℕ) where
 
       node-reached : (visitForest listing now children (suc level) (enter own s) ≡ stop k → ForestReaches listing now (FirstNo now k) children (suc level) (enter own s)) →
           ThenStops k (visitForest listing now children (suc level) (enter own s))
-          (λ (a : Turn). resume listing now (instructionAt listing r place) level r place names (length (s .memory)) (a .tree) (a .running)) →
+          (λ (a : Turn). resume listing now (instructionAt listing r place) (frame level r place names (length (s .memory))) (a .tree) (a .running)) →
           VisitReaches listing now (FirstNo now k) (node r place names own children) level s
       node-reached below (at-once e) = in-children (below e)
       node-reached below (afterwards a e g) = resume-reached a e (instructionAt listing r place) refl g

@@ -1,83 +1,80 @@
 -- Why an instant stops: the instructions that the walk reaches, and the questions 13 to 17 that are put before each of them.
 -- What a part of the instant did that is over is told by the walk's own functions.
--- Letters as in the walk: level, r, place, names and base place a routine, s is what is running, k a question's number, cs child fields.
+-- Letters as in the walk: `me` is the routine's frame, s what is running, k a question's number, cs child fields.
 use mathlib.Core.Path.{_≡_}
 use mathlib.Core.Bool.{true, false}
 use mathlib.Core.List.{List}
 use Prim.Native.Nat.{ℕ, suc, _+_, _-_, _≤_, _<_}
-use lib.ListN.{length, replicate}
+use lib.ListN.{length}
 use Rattle.words.specs.Words.{isPositive}
 use Rattle.words.specs.Moments.{momentRange}
 use Rattle.listing.specs.Listing.{Listing, Piece, Call, Instruction, schedule, wait, fork}
-use Rattle.walk.specs.State.{Variable, fresh, Node, node, Forest, empty, more, liveInForest, State, Running, Turn, ok}
+use Rattle.walk.specs.State.{Variable, Node, node, Forest, empty, more, State, Running, Turn, ok, withLeft, withLive, Frame, goTo, next, frame, withMemory}
 use Rattle.walk.specs.Memory.{anyWritten, evaluate}
-use Rattle.walk.specs.Walk.{instructionAt, newRoutine, newRoutines, childCount, enter, Runner, inTurn, begin, execute, run, passedWait, visit, visitForest}
-use Rattle.walk.specs.Instant.{dueWrites, dueInForest, Write, applyInputs, environmentSize, mainCall, environmentNames}
+use Rattle.walk.specs.Walk.{instructionAt, instructionOf, newRoutines, childCount, enter, goesTo, move, Runner, inTurn, begin, run, passedWait, visit, visitForest}
+use Rattle.walk.specs.Instant.{dueInForest, Write, newMain, atStart, atInstant}
 
 -- ── "before each instruction, the first no stops the machine" ─────────────────────────────────────
--- `FirstNo now k level names s i`: at instruction i, reached at moment `now` by a routine at this level with these names,
--- question k is the first whose answer is no. (`live` is the true number of live routines: specs LiveCount.)
-pub data FirstNo (now : ℕ) : ℕ → ℕ → List ℕ → Running → Instruction → Type 0 where
+-- `FirstNo now k me s i`: at instruction i, reached at moment `now` by the routine `me`, question k is the first whose answer is no.
+-- (`live` is the true number of live routines: specs LiveCount.)
+pub data FirstNo (now : ℕ) : ℕ → Frame → Running → Instruction → Type 0 where
   -- "13 Is a step left?"
-  no-step : {level : ℕ} {names : List ℕ} {s : Running} {i : Instruction} → s .left ≡ 0 → FirstNo now 13 level names s i
+  no-step : {me : Frame} {s : Running} {i : Instruction} → s .left ≡ 0 → FirstNo now 13 me s i
   -- "14 At `F`: live routines plus new children at most 64?"
-  no-room : {level : ℕ} {names : List ℕ} {s : Running} {cs : List Call} → 1 ≤ s .left → 64 < s .live + childCount cs →
-      FirstNo now 14 level names s (fork cs)
+  no-room : {me : Frame} {s : Running} {cs : List Call} → 1 ≤ s .left → 64 < s .live + childCount cs → FirstNo now 14 me s (fork cs)
   -- "15 At `F`: is this routine's level at most 9?"
-  too-deep : {level : ℕ} {names : List ℕ} {s : Running} {cs : List Call} → 1 ≤ s .left → s .live + childCount cs ≤ 64 → 9 < level →
-      FirstNo now 15 level names s (fork cs)
+  too-deep : {me : Frame} {s : Running} {cs : List Call} → 1 ≤ s .left → s .live + childCount cs ≤ 64 → 9 < me .level → FirstNo now 15 me s (fork cs)
   -- "16 At `A`: is the delay at least 1?"
-  no-delay : {level : ℕ} {names : List ℕ} {s : Running} {n : ℕ} {d e : List Piece} → 1 ≤ s .left →
-      isPositive (evaluate (s .memory) names d) ≡ false → FirstNo now 16 level names s (schedule n d e)
+  no-delay : {me : Frame} {s : Running} {n : ℕ} {d e : List Piece} → 1 ≤ s .left →
+      isPositive (evaluate (s .memory) (me .names) d) ≡ false → FirstNo now 16 me s (schedule n d e)
   -- "17 At `A`: is the due moment below 2 to the 64?"
-  too-late : {level : ℕ} {names : List ℕ} {s : Running} {n : ℕ} {d e : List Piece} → 1 ≤ s .left →
-      isPositive (evaluate (s .memory) names d) ≡ true → momentRange ≤ now + evaluate (s .memory) names d →
-      FirstNo now 17 level names s (schedule n d e)
+  too-late : {me : Frame} {s : Running} {n : ℕ} {d e : List Piece} → 1 ≤ s .left →
+      isPositive (evaluate (s .memory) (me .names) d) ≡ true → momentRange ≤ now + evaluate (s .memory) (me .names) d →
+      FirstNo now 17 me s (schedule n d e)
 
 -- ── the instructions reached ──────────────────────────────────────────────────────────────────────
 -- "each instruction reached counts one"
 abbrev pub stepTaken : Running → Running
-stepTaken s = record { memory = s .memory; left = s .left - 1; live = s .live; woken = s .woken }
+stepTaken s = withLeft s (s .left - 1)
 
 -- A step is taken, and the new children live.
 abbrev pub forked : List Call → Running → Running
-forked cs s = record { memory = s .memory; left = s .left - 1; live = s .live + childCount cs; woken = s .woken }
+forked cs s = withLive (stepTaken s) (s .live + childCount cs)
 
 -- A routine's run: the steps left bound its recursion.
 abbrev pub fullRun : Listing → ℕ → Runner
-fullRun listing now level r place names base s = run listing now (s .left) level r place names base s
+fullRun listing now me s = run listing now (s .left) me s
 
 -- The routine is at an `F` of which 13, 14 and 15 are answered with yes.
-pub record Forks (listing : Listing) (level r place : ℕ) (s : Running) (cs : List Call) : Type 0 where
-  pub at : instructionAt listing r place ≡ fork cs
+pub record Forks (listing : Listing) (me : Frame) (s : Running) (cs : List Call) : Type 0 where
+  pub at : instructionOf listing me ≡ fork cs
   pub step : 1 ≤ s .left
   pub room : s .live + childCount cs ≤ 64
-  pub shallow : level ≤ 9
+  pub shallow : me .level ≤ 9
 
--- Q says something of an instruction reached, with the routine's level and names and what is running.
-module _ (listing : Listing) (now : ℕ) (Q : ℕ → List ℕ → Running → Instruction → Type 0) where
+-- Q says something of an instruction reached, with the routine and what is running.
+module _ (listing : Listing) (now : ℕ) (Q : Frame → Running → Instruction → Type 0) where
   mutual
     -- The run of a routine reaches an instruction of which Q holds:
-    pub data RunReaches : ℕ → ℕ → ℕ → List ℕ → ℕ → Running → Type 0 where
+    pub data RunReaches : Frame → Running → Type 0 where
       -- the one that it is at;
-      here : {level r place : ℕ} {names : List ℕ} {base : ℕ} {s : Running} → Q level names s (instructionAt listing r place) →
-          RunReaches level r place names base s
-      -- one further on, if a step is left and this instruction leads there: whatever the rest of the run, executing it is that rest from there;
-      onward : {level r place : ℕ} {names : List ℕ} {base : ℕ} {s : Running} {place′ : ℕ} {s′ : Running} → 1 ≤ s .left →
-          ((go : Runner) → execute listing now go (instructionAt listing r place) level r place names base (stepTaken s) ≡ go level r place′ names base s′) →
-          RunReaches level r place′ names base s′ → RunReaches level r place names base s
+      here : {me : Frame} {s : Running} → Q me s (instructionOf listing me) → RunReaches me s
+      -- one further on, if a step is left and this instruction leads there;
+      onward : {me : Frame} {s : Running} {k : ℕ} {memory : List Variable} → 1 ≤ s .left →
+          move now (instructionOf listing me) me (s .live) (s .memory) ≡ goesTo k memory →
+          RunReaches (goTo me k) (withMemory (stepTaken s) memory) → RunReaches me s
       -- one reached by a child of this `F`;
-      in-child : {level r place : ℕ} {names : List ℕ} {base : ℕ} {s : Running} {cs : List Call} → Forks listing level r place s cs →
-          NewReach (suc level) (newRoutines listing (s .memory) names cs) (forked cs s) → RunReaches level r place names base s
+      in-child : {me : Frame} {s : Running} {cs : List Call} → Forks listing me s cs →
+          NewReach (suc (me .level)) (newRoutines listing (s .memory) (me .names) cs) (forked cs s) → RunReaches me s
       -- one after this `F`, if all its children end at once.
-      after-children : {level r place : ℕ} {names : List ℕ} {base : ℕ} {s : Running} {cs : List Call} {a : Turn} → Forks listing level r place s cs →
-          inTurn (begin (fullRun listing now) (suc level)) (newRoutines listing (s .memory) names cs) (forked cs s) ≡ ok a → a .tree ≡ empty →
-          RunReaches level r (suc place) names base (a .running) → RunReaches level r place names base s
+      after-children : {me : Frame} {s : Running} {cs : List Call} {a : Turn} → Forks listing me s cs →
+          inTurn (begin (fullRun listing now) (suc (me .level))) (newRoutines listing (s .memory) (me .names) cs) (forked cs s) ≡ ok a →
+          a .tree ≡ empty → RunReaches (next me) (a .running) → RunReaches me s
 
     -- One of these new routines, which run in turn, does.
     pub data NewReach : ℕ → Forest → Running → Type 0 where
       first : {level r place : ℕ} {names : List ℕ} {own : List Variable} {children ns : Forest} {s : Running} →
-          RunReaches level r place names (length (s .memory)) (enter own s) → NewReach level (more (node r place names own children) ns) s
+          RunReaches (frame level r place names (length (s .memory))) (enter own s) → NewReach level (more (node r place names own children) ns) s
       later : {level : ℕ} {n : Node} {ns : Forest} {s : Running} {a : Turn} → begin (fullRun listing now) level n s ≡ ok a →
           NewReach level ns (a .running) → NewReach level (more n ns) s
 
@@ -89,11 +86,11 @@ module _ (listing : Listing) (now : ℕ) (Q : ℕ → List ℕ → Running → I
       woken : {r place : ℕ} {names : List ℕ} {own : List Variable} {children : Forest} {level : ℕ} {s : Running} {a : Turn} {ns : List ℕ} →
           visitForest listing now children (suc level) (enter own s) ≡ ok a → instructionAt listing r place ≡ wait ns →
           anyWritten ((a .running) .memory) names ns ≡ true →
-          RunReaches level r (suc place) names (length (s .memory)) (passedWait listing now (a .running)) →
+          RunReaches (frame level r (suc place) names (length (s .memory))) (passedWait (a .running)) →
           VisitReaches (node r place names own children) level s
       joined : {r place : ℕ} {names : List ℕ} {own : List Variable} {children : Forest} {level : ℕ} {s : Running} {a : Turn} {cs : List Call} →
           visitForest listing now children (suc level) (enter own s) ≡ ok a → instructionAt listing r place ≡ fork cs → a .tree ≡ empty →
-          RunReaches level r (suc place) names (length (s .memory)) (a .running) → VisitReaches (node r place names own children) level s
+          RunReaches (frame level r (suc place) names (length (s .memory))) (a .running) → VisitReaches (node r place names own children) level s
 
     -- The visit of these routines in turn does.
     pub data ForestReaches : Forest → ℕ → Running → Type 0 where
@@ -104,14 +101,8 @@ module _ (listing : Listing) (now : ℕ) (Q : ℕ → List ℕ → Running → I
 -- ── the cause of a stop ───────────────────────────────────────────────────────────────────────────
 -- "The start is the instant 0, with main newly called and no inputs": it reaches an instruction at which question k is the first no.
 abbrev pub StartStops : Listing → ℕ → ℕ → Type 0
-StartStops listing allowance k =
-    let environment = replicate (environmentSize listing) (fresh 0) in
-    let main = newRoutine listing environment (environmentNames listing) (mainCall listing) in
-    NewReach listing 0 (FirstNo 0 k) 0 (more main empty) (record { memory = environment; left = allowance; live = 1; woken = 0 })
+StartStops listing allowance k = NewReach listing 0 (FirstNo 0 k) 0 (more (newMain listing) empty) (atStart listing allowance)
 
 -- An instant at t does, after the due writes and the inputs.
 abbrev pub InstantStops : Listing → State → ℕ → List Write → ℕ → ℕ → Type 0
-InstantStops listing s t inputs allowance k =
-    let tree = dueInForest (s .tree) t in
-    ForestReaches listing t (FirstNo t k) tree 0
-    (record { memory = applyInputs inputs (dueWrites t (s .environment)); left = allowance; live = liveInForest tree; woken = 0 })
+InstantStops listing s t inputs allowance k = ForestReaches listing t (FirstNo t k) (dueInForest (s .tree) t) 0 (atInstant s t inputs allowance)

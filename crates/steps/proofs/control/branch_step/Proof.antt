@@ -9,11 +9,11 @@ use borrow.Author.Needs.{needs}
 use borrow.Author.Tests.{eq-eqb, ne-eqb}
 use Rattle.table.specs.Decode.{piecesAt}
 use Rattle.scheduler.specs.Rows.{Row}
-use Rattle.scheduler.specs.Engine.{branchPlace}
 use Rattle.blocks.specs.Blocks.{rowsOf}
 use Rattle.steps.proofs.Going.{branches}
 use Rattle.steps.proofs.control.branch_step.Statement.{statement}
 use Rattle.steps.proofs.control.branch_step.Tie as tie
+use Rattle.walk.specs.Walk.{branchPlace}
 
 evaluate-requires : tie.Need-evaluate-requires
 evaluate-requires c κs = search needs

@@ -7,7 +7,7 @@ use Prim.Native.Nat.{ℕ, _<_, min}
 use native.Mathlib.Decide.{decLt}
 use native.Mathlib.Omega.{arith}
 use Rattle.listing.specs.Listing.{Listing}
-use Rattle.walk.specs.State.{Variable, fresh, State}
+use Rattle.walk.specs.State.{Variable, State, noVariable}
 use Rattle.walk.specs.Memory.{variableAt}
 use Rattle.walk.specs.Question7.{IsState}
 use Rattle.walk_laws.proofs.Idle.{NoMarks, none-marked, no-mark-at, at-rest-no-marks}
@@ -27,7 +27,7 @@ use Rattle.beginning.proofs.NotDue.{used-no-marks}
 block-unwritten : (b : Block) (c : ℕ) → NoMarks (variablesIn b c) → Unwritten (min c 16) b
 unfolding variablesIn variableAt
 block-unwritten b c h = record {
-  none = λ i l. ap (λ (x : Variable). x .written) (sym (getD-tabulate (min c 16) (variableIn b) i (fresh 0) l)) ∙ no-mark-at h i;
+  none = λ i l. ap (λ (x : Variable). x .written) (sym (getD-tabulate (min c 16) (variableIn b) i noVariable l)) ∙ no-mark-at h i;
 }
 
 no-variables : (b : Block) → b 4 ≡ 0 → variablesIn b (b 4) ≡ []

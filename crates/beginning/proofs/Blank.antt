@@ -9,7 +9,7 @@ use native.Mathlib.Omega.{arith}
 use lib.ListN.{length, getD, drop, replicate, length-append, length-drop, length-replicate, getD-replicate, List·getD-append}
 use lib.Seq.{drop-append-seam}
 use Rattle.listing.specs.Listing.{Listing}
-use Rattle.walk.specs.State.{Variable, idle, fresh}
+use Rattle.walk.specs.State.{Variable, idle, newVariable}
 use Rattle.walk.specs.Instant.{environmentSize, mainCall}
 use Rattle.table.specs.Decode.{word, sizeOf, tableListing}
 use Rattle.table.specs.Question6.{isTable}
@@ -48,15 +48,15 @@ blank-word k h = getD-replicate 12288 k 0 0 h
 unfoldable zeroBlock : Block
 zeroBlock k = 0
 
-zero-variable : (i : ℕ) → variableIn zeroBlock i ≡ fresh 0
-unfolding variableIn zeroBlock nonzero waitingOf fresh
+zero-variable : (i : ℕ) → variableIn zeroBlock i ≡ newVariable 0
+unfolding variableIn zeroBlock nonzero waitingOf newVariable
 zero-variable i = refl
 
 zero-row : rowAt zeroBlock ≡ freeRow
 unfolding rowAt zeroBlock freeRow bindingsIn variablesIn nonzero tabulateFrom
 zero-row = refl
 
-fresh-variables : (i n : ℕ) (f : ℕ → Variable) → ((k : ℕ) → f k ≡ fresh 0) → tabulateFrom i n f ≡ replicate n (fresh 0)
+fresh-variables : (i n : ℕ) (f : ℕ → Variable) → ((k : ℕ) → f k ≡ newVariable 0) → tabulateFrom i n f ≡ replicate n (newVariable 0)
 unfolding tabulateFrom
 fresh-variables i zero f e = refl
 fresh-variables i (suc n) f e = rw (e i, fresh-variables (suc i) n f e)
@@ -171,7 +171,7 @@ module _ (t : List ℕ) (table : isTable t ≡ true) where
   begun-start m₀ m₁ m₂ u long e small M none live woken =
       let listing = tableListing t in
       let few = table-within-limits t table .ports in
-      let rows = M .rows (newEnvironment listing) (length-replicate (environmentSize listing) (fresh 0)) ∙
+      let rows = M .rows (newEnvironment listing) (length-replicate (environmentSize listing) (newVariable 0)) ∙
       ap (λ (σ : Rows). withRow σ (u .me) (mainRow listing (newEnvironment listing) (u .me))) (blank-rows m₀ m₁ long e) in
       record {
         slot = small;

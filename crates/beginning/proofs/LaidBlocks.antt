@@ -11,7 +11,7 @@ use lib.Dec.{ltb}
 use lib.ListN.{length, getD}
 use lib.Seq.{ext-getD}
 use borrow.Author.Tests.{ltb-true}
-use Rattle.walk.specs.State.{Waiting, idle, due, Variable, fresh}
+use Rattle.walk.specs.State.{Waiting, idle, due, Variable, noVariable}
 use Rattle.walk.specs.Question7.{dueAfter, atRest, allAtRest}
 use Rattle.machine.specs.Words.{waitingOf}
 use Rattle.machine.specs.Layout.{variablesWords, waitingValue, waitingMoment}
@@ -29,7 +29,7 @@ pub record Laid (now : ℕ) (b : Block) (p level child place count : ℕ) (own :
   pub words : (j : ℕ) → j < 184 → b j ≡ getD (p ∷ level ∷ child ∷ place ∷ count ∷ 0 ∷ 0 ∷ 0 ∷ variablesWords own) j 0
 
 -- ── variables at rest ─────────────────────────────────────────────────────────────────────────────
-rest-at : (now : ℕ) (xs : List Variable) (i : ℕ) → allAtRest now xs ≡ true → i < length xs → atRest now (getD xs i (fresh 0)) ≡ true
+rest-at : (now : ℕ) (xs : List Variable) (i : ℕ) → allAtRest now xs ≡ true → i < length xs → atRest now (getD xs i noVariable) ≡ true
 unfolding allAtRest
 rest-at now [] i r h = absurd (let z : ⊥ = omega arith in z)
 rest-at now (x ∷ xs) zero r h = and-left (atRest now x) (allAtRest now xs) r
@@ -69,7 +69,7 @@ module _ {now : ℕ} {b : Block} {p level child place count : ℕ} {own : List V
       let few = L .few in
       ap b e ∙ (variable-words (k - 8) (omega arith) ∙ words-past own (k - 8) (omega arith))
 
-  word-here : (i f : ℕ) → i < length own → f < 6 → b (8 + (f + i * 6)) ≡ wordOf (getD own i (fresh 0)) f
+  word-here : (i f : ℕ) → i < length own → f < 6 → b (8 + (f + i * 6)) ≡ wordOf (getD own i noVariable) f
   word-here i f h l = let few = L .few in variable-words (f + i * 6) (omega arith) ∙ words-at own i f h l
 
   word-past : (i f : ℕ) → length own ≤ i → i < 16 → f < 6 → b (8 + (f + i * 6)) ≡ 0
@@ -79,7 +79,7 @@ module _ {now : ℕ} {b : Block} {p level child place count : ℕ} {own : List V
   spare i f h l none = go (decLt i (length own))
     where
       go : Dec (i < length own) → b (8 + (f + i * 6)) ≡ 0
-      go (yes g) = word-here i f g l ∙ none (getD own i (fresh 0))
+      go (yes g) = word-here i f g l ∙ none (getD own i noVariable)
       go (no g) = word-past i f (omega arith) h l
 
   idle-word : (i : ℕ) → i < 16 → b (10 + i * 6) + b (11 + i * 6) * 4294967296 ≡ 0 → b (9 + i * 6) ≡ 0
@@ -97,7 +97,7 @@ module _ {now : ℕ} {b : Block} {p level child place count : ℕ} {own : List V
 
       go : Dec (i < length own) → b (9 + i * 6) ≡ 0
       go (yes g) =
-          let x = getD own i (fresh 0) in
+          let x = getD own i noVariable in
           let R = rested now x (rest-at now own i (L .rest) g) in
           let low : b (10 + i * 6) ≡ waitingMoment (x .waiting) % 4294967296 = ap b e₂ ∙ word-here i 2 g (omega arith) in
           let high : b (11 + i * 6) ≡ waitingMoment (x .waiting) / 4294967296 = ap b e₃ ∙ word-here i 3 g (omega arith) in
@@ -132,11 +132,11 @@ module _ {now : ℕ} {b : Block} {p level child place count : ℕ} {own : List V
       three (suc (suc (suc (suc (suc (suc (suc zero))))))) l h = L .words 7 (omega arith)
       three (suc (suc (suc (suc (suc (suc (suc (suc k)))))))) l h = absurd (let z : ⊥ = omega arith in z)
 
-  variable-back : (i : ℕ) → i < length own → variableIn b i ≡ getD own i (fresh 0)
+  variable-back : (i : ℕ) → i < length own → variableIn b i ≡ getD own i noVariable
   unfolding variableIn wordOf nonzero
   variable-back i h =
       let few = L .few in
-      let x = getD own i (fresh 0) in
+      let x = getD own i noVariable in
       let R = rested now x (rest-at now own i (L .rest) h) in
       let e₀ : 8 + i * 6 ≡ 8 + (0 + i * 6) = omega arith in
       let e₁ : 9 + i * 6 ≡ 8 + (1 + i * 6) = omega arith in
@@ -155,6 +155,6 @@ module _ {now : ℕ} {b : Block} {p level child place count : ℕ} {own : List V
   variables-back =
       let few = L .few in
       let e : min (length own) 16 ≡ length own = omega arith in
-      rw e (ext-getD (fresh 0) (tabulateFrom 0 (length own) (variableIn b)) own (length-tabulate 0 (length own) (variableIn b))
+      rw e (ext-getD noVariable (tabulateFrom 0 (length own) (variableIn b)) own (length-tabulate 0 (length own) (variableIn b))
       (λ i h. let l : i < length own = rw (length-tabulate 0 (length own) (variableIn b)) at h in
-      getD-tabulate (length own) (variableIn b) i (fresh 0) l ∙ variable-back i l))
+      getD-tabulate (length own) (variableIn b) i noVariable l ∙ variable-back i l))

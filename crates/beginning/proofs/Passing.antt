@@ -22,7 +22,6 @@ use Rattle.scheduler.specs.Records.{callsOf, noCall, chooseSlot, seen, callsAt,
 use Rattle.scheduler.proofs.Sorted.{In, here, there}
 use Rattle.scheduler.proofs.Held.{withRow-same, withRow-other}
 use Rattle.scheduler.proofs.Folding.{Distinct, distinct-put}
-use Rattle.scheduler.proofs.Priority.{bits-three}
 use Rattle.scheduler.proofs.Steady.{TableFits}
 use Rattle.scheduler.proofs.RowBounds.{RowBounds}
 use Rattle.evaluate.proofs.Standing.{table-names}
@@ -30,6 +29,7 @@ use Rattle.children.specs.NewRow.{MayDivide}
 use Rattle.filling.specs.Filling.{MayFillMain, MayFillChild, MayFill, fills-main, fills-child, Fillable, fillable-none, fillable-next}
 use Rattle.run.specs.Placed.{GoesOn}
 use Rattle.beginning.proofs.Sitting.{Hangs, at-top, under, Sits}
+use Rattle.words.proofs.ForkBits.{fork-bits-are-at-most-three}
 
 -- ── a row that only got more children ─────────────────────────────────────────────────────────────
 pub record Grown (before after : Row) : Type 0 where
@@ -287,7 +287,7 @@ module _ (t : List ℕ) (environment : List Variable) (fin : Rows) (T : TableFit
         divided : (l p : ℕ) → (fin s) .level ≡ suc ((fin p) .level) → (fin p) .level ≡ (σ p) .level → (σ p) .level ≡ l → (fin s) .level ≤ 10 →
             Sits listing fin environment p → (fin p) .used ≡ true → Fields (σ p) (fin p) → MayDivide σ p (childCount (callsAt listing (σ p)))
         divided l p up same at deep P used G =
-            let three = bits-three (childCount (callsAt listing (σ p))) in
+            let three = fork-bits-are-at-most-three (childCount (callsAt listing (σ p))) in
             let b = subst (λ (n : ℕ). n + length ((fin p) .own) ≤ 16 * ((fin p) .level + 2)) (G .base) (P .base) in
             let c = subst (λ (o : List Variable). (σ p) .base + length o ≤ 16 * ((fin p) .level + 2)) (G .own) b in
             let d = subst (λ (n : ℕ). 32 ≤ n + 3 * (fin p) .level) (G .bits) (P .bits) in

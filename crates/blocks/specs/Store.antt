@@ -3,7 +3,6 @@ use mathlib.Core.Bool.{false}
 use mathlib.Core.List.{List}
 use Prim.Native.Nat.{ℕ}
 use Rattle.walk.specs.State.{Variable}
-use Rattle.walk.specs.Instant.{dueWrite}
 use Rattle.scheduler.specs.Rows.{Owner, Row, Rows, withRow, variableOf, rowsWith, environmentWith}
 use Rattle.blocks.specs.Blocks.{rowsOf, environmentOf}
 
@@ -28,11 +27,3 @@ unfoldable pub withVariable : Owner → (Variable → Variable) → Store → St
 withVariable o change store =
     let x = change (variableFrom store o) in
     record { rows = rowsWith (store .rows) o x; environment = environmentWith o (store .environment) x }
-
--- Rule 1 for one variable: a waiting write due at t is made, and is gone; any other leaves the variable unwritten.
-unfoldable pub dueVariable : ℕ → Variable → Variable
-dueVariable t x = dueWrite t (x .value) (x .waiting)
-
--- The mark of this instant gone.
-unfoldable pub unmarkedVariable : Variable → Variable
-unmarkedVariable x = record { value = x .value; written = false; waiting = x .waiting }

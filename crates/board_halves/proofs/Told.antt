@@ -19,6 +19,7 @@ use Rattle.walk.specs.Boards.{BoardCall, asInstantCall, asInstantCalls}
 use Rattle.walk_laws.proofs.Booleans.{and-left}
 use Rattle.promises.specs.Sessions.{resultsOf, resultsOn, StopsAreNumbered, one-answer}
 use Rattle.board_halves.specs.Boards.{ifZero, boardAccepted, boardTime}
+use Rattle.walk_laws.proofs.Answers.{stop-is-not-0}
 
 -- ── numbers other than 0 ──────────────────────────────────────────────────────────────────────────
 number-of-question : (n j : ℕ) (b : Bool) (next : Outcome) → ask (suc n) b next ≡ refused j → (next ≡ refused j → 1 ≤ j) → 1 ≤ j
@@ -37,10 +38,6 @@ refused-is-not-0 listing (halted i) k j e = number-of-question 0 j _ _ e λ f. l
 refused-is-not-0 listing (running s) k j e =
     number-of-question 0 j _ _ e λ e₁. number-of-question 8 j _ _ e₁ λ e₂. number-of-question 9 j _ _ e₂ λ e₃.
     number-of-question 10 j _ _ e₃ λ e₄. number-of-question 11 j _ _ e₄ λ e₅. answer-not-refused j _ e₅
-
-stop-is-not-0 : (k : ℕ) → isStop k ≡ true → 1 ≤ k
-unfolding isStop
-stop-is-not-0 k h = let low : 13 ≤ k = leb-true 13 k (and-left (leb 13 k) (leb k 17) h) in omega arith
 
 -- ── one call ──────────────────────────────────────────────────────────────────────────────────────
 otherwise : {A : Type 0} (number : ℕ) (a b : A) → 1 ≤ number → ifZero number a b ≡ b

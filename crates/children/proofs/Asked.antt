@@ -6,18 +6,18 @@ use Prim.Native.Nat.{ℕ, zero, suc, _+_, _*_, _^_, _≤_, _<_}
 use native.Mathlib.Omega.{arith}
 use lib.ListN.{length}
 use Rattle.scheduler.specs.Rows.{Row, Rows}
-use Rattle.scheduler.proofs.Priority.{bits-three}
 use Rattle.blocks.specs.Blocks.{block, nonzero, rowAt, rowsOf}
 use Rattle.blocks.proofs.RowChanges.{row-of}
 use Rattle.tidy.specs.Tidy.{Tidy}
 use Rattle.children.specs.NewRow.{MayDivide}
 use Rattle.children.proofs.Passing.{no-variables}
+use Rattle.words.proofs.ForkBits.{fork-bits-are-at-most-three}
 
 -- Three bits a level are at most taken from 32: a routine at level 9 or above has bits for its children.
 pub divides-by-depth : (rows : Rows) (me n : ℕ) → (rows me) .level ≤ 9 → (rows me) .base + length ((rows me) .own) ≤ 16 * ((rows me) .level + 2)
     → 32 ≤ (rows me) .bits + 3 * (rows me) .level → (rows me) .low + 2 ^ (rows me) .bits ≤ 4294967296 → n ≤ 8 → MayDivide rows me n
 divides-by-depth rows me n level base deep range most =
-    record { level = level; base = omega arith; most = most; bits = omega (arith, bits-three n); range = range }
+    record { level = level; base = omega arith; most = most; bits = omega (arith, fork-bits-are-at-most-three n); range = range }
 
 zero-of : (n : ℕ) → nonzero n ≡ false → n ≡ 0
 unfolding nonzero

@@ -4,11 +4,10 @@ use mathlib.Core.List.{List}
 use Prim.Native.Nat.{ℕ, suc, _+_, _*_, _-_, _^_, _≤_, _<_, min}
 use native.Mathlib.Omega.{arith}
 use lib.ListN.{length}
-use Rattle.walk.specs.State.{fresh}
 use Rattle.table.specs.Decode.{word, namesAt, callAt, kindsOfBits, tableListing}
 use Rattle.table_read.specs.Opened.{Opened}
 use Rattle.scheduler.specs.Rows.{Row}
-use Rattle.scheduler.specs.Engine.{callerAt, childRow, childBindings, childVariables, fewestBits}
+use Rattle.scheduler.specs.Engine.{callerAt, childRow, childBindings}
 use Rattle.blocks.specs.Blocks.{Block, block, nonzero, variableIn, variablesIn, rowAt, rowsOf, environmentOf}
 use Rattle.blocks.specs.Store.{storeOf}
 use Rattle.blocks.specs.Changes.{InBlock, putIn}
@@ -25,6 +24,9 @@ use Rattle.children.proofs.OwnNames.{changed-then}
 use Rattle.children.proofs.CallerNames.{caller-row-stays}
 use Rattle.children.proofs.Passing.{fresh-variable}
 use Rattle.children.proofs.ChildSteps.{argument-count}
+use Rattle.walk.specs.State.{newVariable}
+use Rattle.words.specs.ForkBits.{forkBits}
+use Rattle.walk.specs.Memory.{ownVariables}
 
 -- What each store left in block s, which was blank: the values passed, the kept words, the working words, the names.
 pub record Stored (t m₀ m₁ m₂ m₃ m₄ : List ℕ) (me head i s n callee count bits locals size own : ℕ) (p : Parent) : Type 0 where
@@ -92,7 +94,7 @@ module _ {t m₀ m₁ m₂ m₃ m₄ : List ℕ} {me head i s n callee count bit
         variable-same (block m₁ s) (block m₄ s) j (value-word _ (omega arith) (λ x y. omega arith)) (value-word _ (omega arith) (λ x y. omega arith))
         (value-word _ (omega arith) (λ x y. omega arith)) (value-word _ (omega arith) (λ x y. omega arith)) (value-word _ (omega arith) (λ x y. omega arith))
 
-    new-local : (j : ℕ) → own ≤ j → j < own + locals → variableIn (block m₄ s) j ≡ fresh 0
+    new-local : (j : ℕ) → own ≤ j → j < own + locals → variableIn (block m₄ s) j ≡ newVariable 0
     new-local j h l =
         let room = few in
         fresh-variable (block m₄ s) j 0 (zero-word (8 + j * 6) (omega arith) (omega arith) (λ x y. omega arith) (λ k a e. omega arith))
@@ -102,11 +104,11 @@ module _ {t m₀ m₁ m₂ m₃ m₄ : List ℕ} {me head i s n callee count bit
         (zero-word (128 + j) (omega arith) (omega arith) (λ x y. omega arith) (λ k a e. omega arith))
 
     module _ (k : ℕ) (B : Bound (storeOf k m₀) (bindingsOf m₀ me)) where
-      own-variables : variablesIn (block m₄ s) (own + locals) ≡ childVariables (kindsOfBits count bits) (namesAt t (head + 2) count) locals (variableNamed k m₀ me)
+      own-variables : variablesIn (block m₄ s) (own + locals) ≡ ownVariables (kindsOfBits count bits) (namesAt t (head + 2) count) locals (variableNamed k m₀ me)
       unfolding variablesIn
       own-variables =
           let all : min (own + locals) 16 ≡ own + locals = omega (arith, few) in
-          rw (all, tabulate-tail own locals (variableIn (block m₁ s)) (variableIn (block m₄ s)) (fresh 0) old-variable new-local)
+          rw (all, tabulate-tail own locals (variableIn (block m₁ s)) (variableIn (block m₄ s)) (newVariable 0) old-variable new-local)
           (S .values .variables k B locals)
 
       -- ── the row ─────────────────────────────────────────────────────────────────────────────────
@@ -129,8 +131,8 @@ module _ {t m₀ m₁ m₂ m₃ m₄ : List ℕ} {me head i s n callee count bit
       low-is : p .low ≡ (rowsOf m₀ me) .low
       low-is = S .parent .low ∙ ap (λ (r : Row). r .low) caller-same
 
-      bits-is : p .bits ≡ (rowsOf m₀ me) .bits - fewestBits n
-      bits-is = S .parent .bits ∙ ap (λ (r : Row). r .bits - fewestBits n) caller-same
+      bits-is : p .bits ≡ (rowsOf m₀ me) .bits - forkBits n
+      bits-is = S .parent .bits ∙ ap (λ (r : Row). r .bits - forkBits n) caller-same
 
       pub whole-row : rowAt (block m₄ s) ≡ childRow (tableListing t) (callerAt (rowsOf m₀) (environmentOf k m₀) me n) (callAt t head) i s
       unfolding rowAt childRow callerAt nonzero keptBlock workingBlock putIn

@@ -10,12 +10,11 @@ use lib.Dec.{eqb}
 use lib.ListN.{length}
 use borrow.Author.Tests.{eq-eqb, ne-eqb}
 use Rattle.listing.specs.Listing.{byReference, byValue}
-use Rattle.walk.specs.State.{Variable, fresh}
+use Rattle.walk.specs.State.{Variable, newVariable}
 use Rattle.table.specs.Decode.{nameAt, cellsAt, namesAt, kindsOfBits}
 use Rattle.table.proofs.Entry.{name-there}
 use Rattle.machine.specs.Words.{waitingOf}
 use Rattle.scheduler.specs.Rows.{Row}
-use Rattle.scheduler.specs.Engine.{childVariables}
 use Rattle.blocks.specs.Tabulate.{tabulateFrom}
 use Rattle.blocks.specs.Blocks.{Block, block, nonzero, variableIn, variablesIn, rowAt, rowsOf}
 use Rattle.blocks.specs.Store.{storeOf}
@@ -28,10 +27,11 @@ use Rattle.children.proofs.Lists.{tabulate-next, moved-over}
 use Rattle.children.proofs.Naming.{stored-word, other-word}
 use Rattle.children.proofs.OwnNames.{changed-then}
 use Rattle.children.proofs.CallerNames.{caller-bindings-stay, caller-names-stay, caller-bound-stays}
+use Rattle.walk.specs.Memory.{ownVariables}
 
 -- a variable of which only the value is no 0
-pub fresh-variable : (b : Block) (i v : ℕ) → b (8 + i * 6) ≡ v → b (9 + i * 6) ≡ 0 → b (10 + i * 6) ≡ 0 → b (11 + i * 6) ≡ 0 → b (128 + i) ≡ 0 → variableIn b i ≡ fresh v
-unfolding variableIn fresh nonzero waitingOf
+pub fresh-variable : (b : Block) (i v : ℕ) → b (8 + i * 6) ≡ v → b (9 + i * 6) ≡ 0 → b (10 + i * 6) ≡ 0 → b (11 + i * 6) ≡ 0 → b (128 + i) ≡ 0 → variableIn b i ≡ newVariable v
+unfolding variableIn newVariable nonzero waitingOf
 fresh-variable b i v p q x y z = rw (p, q, x, y, z)
 
 -- a slot with no variables
@@ -46,8 +46,8 @@ pub record Values (t before : List ℕ) (me s at count bits : ℕ) (m : List ℕ
   pub within : j ≤ count
   pub few : own ≤ j
   pub variables : (n : ℕ) → Bound (storeOf n before) (bindingsOf before me) → (locals : ℕ)
-      → tabulateFrom 0 own (variableIn (block m s)) ++ childVariables (kindsOfBits (count - j) rest) (namesAt t (at + 2 * j) (count - j)) locals (variableNamed n before me)
-      ≡ childVariables (kindsOfBits count bits) (namesAt t at count) locals (variableNamed n before me)
+      → tabulateFrom 0 own (variableIn (block m s)) ++ ownVariables (kindsOfBits (count - j) rest) (namesAt t (at + 2 * j) (count - j)) locals (variableNamed n before me)
+      ≡ ownVariables (kindsOfBits count bits) (namesAt t at count) locals (variableNamed n before me)
 
 module _ {t before : List ℕ} {me s at count bits : ℕ} (M : MayPass t before me s at count 0) where
   pub values-start : Values t before me s at count bits before 0 bits 0
@@ -74,12 +74,12 @@ module _ {t before : List ℕ} {me s at count bits : ℕ} (M : MayPass t before 
 
       module _ (n : ℕ) (B : Bound (storeOf n before) (bindingsOf before me)) (locals : ℕ) where
         abbrev whole : List Variable
-        whole = childVariables (kindsOfBits count bits) (namesAt t at count) locals (variableNamed n before me)
+        whole = ownVariables (kindsOfBits count bits) (namesAt t at count) locals (variableNamed n before me)
 
         abbrev remaining : List Variable
-        remaining = childVariables (kindsOfBits left (rest / 2)) (namesAt t (at + 2 * suc j) left) locals (variableNamed n before me)
+        remaining = ownVariables (kindsOfBits left (rest / 2)) (namesAt t (at + 2 * suc j) left) locals (variableNamed n before me)
 
-        split : tabulateFrom 0 own (variableIn (block m s)) ++ childVariables (cond (eqb (rest % 2) 1) byReference byValue ∷ kindsOfBits left (rest / 2))
+        split : tabulateFrom 0 own (variableIn (block m s)) ++ ownVariables (cond (eqb (rest % 2) 1) byReference byValue ∷ kindsOfBits left (rest / 2))
             (nameAt t (at + 2 * j) ∷ namesAt t (at + 2 * suc j) left) locals (variableNamed n before me) ≡ whole
         unfolding kindsOfBits cellsAt
         split =
@@ -91,7 +91,7 @@ module _ {t before : List ℕ} {me s at count bits : ℕ} (M : MayPass t before 
         zero-word : (k : ℕ) → k < 144 → ((i : ℕ) → i < suc own → k ≡ 8 + i * 6 → ⊥) → block after s k ≡ 0
         zero-word k l h = P .others k (h own (omega arith)) ∙ Vs .others k (λ i x. h i (omega arith)) ∙ M .blank k l
 
-        next-variable : (rest % 2 ≡ 1 → ⊥) → variableIn (block after s) own ≡ fresh ((variableNamed n before me (nameAt t (at + 2 * j))) .value)
+        next-variable : (rest % 2 ≡ 1 → ⊥) → variableIn (block after s) own ≡ newVariable ((variableNamed n before me (nameAt t (at + 2 * j))) .value)
         next-variable v =
             let room : own < 16 = omega (arith, M .binds .few, Vs .few) in
             fresh-variable (block after s) own _
@@ -107,13 +107,13 @@ module _ {t before : List ℕ} {me s at count bits : ℕ} (M : MayPass t before 
             (P .others (10 + i * 6) (λ e. omega arith)) (P .others (11 + i * 6) (λ e. omega arith)) (P .others (128 + i) (λ e. omega arith))
 
         by-kind : Dec (rest % 2 ≡ 1) → tabulateFrom 0 r (variableIn (block after s)) ++ remaining ≡ whole
-        unfolding childVariables
+        unfolding ownVariables
         by-kind (yes e) = rw (P .reference e .0, P .reference e .1) (rw (eq-eqb (rest % 2) 1 e) at split)
         by-kind (no v) =
             rw (
               P .value v .0,
               add-one own,
-              tabulate-next own (variableIn (block m s)) (variableIn (block after s)) (fresh ((variableNamed n before me (nameAt t (at + 2 * j))) .value)) old-variable (next-variable v),
+              tabulate-next own (variableIn (block m s)) (variableIn (block after s)) (newVariable ((variableNamed n before me (nameAt t (at + 2 * j))) .value)) old-variable (next-variable v),
               moved-over,
             )
             (rw (ne-eqb (rest % 2) 1 v) at split)
@@ -140,7 +140,7 @@ module _ {t before : List ℕ} {me s at count bits : ℕ} (M : MayPass t before 
           })
 
   pub values-end : {m : List ℕ} {j rest own : ℕ} → Values t before me s at count bits m j rest own → count ≤ j → ValuesPassed t before me s at count bits m own
-  unfolding kindsOfBits childVariables
+  unfolding kindsOfBits ownVariables
   values-end {m} {j} {rest} {own} Vs none =
       let e : j ≡ count = omega (arith, Vs .within, none) in
       let z : count - count ≡ 0 = omega arith in

@@ -10,24 +10,12 @@ use lib.Pow.{pow-pos, pow-mono, shl-exact}
 use borrow.Author.Tests.{le-leb, lt-leb, le-ltb, lt-ltb}
 use Rattle.words.specs.ForkBits.{forkBits}
 use Rattle.scheduler.specs.Rows.{Row, Rows}
-use Rattle.scheduler.specs.Engine.{chooseBits, fewestBits}
 use Rattle.scheduler.proofs.Priority.{fork-fits}
 use Rattle.blocks.specs.Blocks.{block, variableIn, variablesIn, rowAt, rowsOf}
 use Rattle.blocks.proofs.Tabulated.{length-tabulate}
 use Rattle.blocks.proofs.RowChanges.{row-of}
 use Rattle.children.specs.declared.rows.Parent.{Parent}
 use Rattle.children.specs.NewRow.{MayDivide, ParentIs, Reaches}
-
--- The bits that the code computes are those of the rows.
-pub fork-bits-same : (n : ℕ) → forkBits n ≡ fewestBits n
-unfolding fewestBits chooseBits
-fork-bits-same n = go (decLt 1 n) (decLt 2 n) (decLt 4 n)
-  where
-    go : Dec (1 < n) → Dec (2 < n) → Dec (4 < n) → forkBits n ≡ fewestBits n
-    go (no a) b c = rw (le-leb n 1 (omega arith), le-ltb 1 n (omega arith))
-    go (yes a) (no b) c = rw (lt-leb n 1 a, le-leb n 2 (omega arith), lt-ltb 1 n a, le-ltb 2 n (omega arith))
-    go (yes a) (yes b) (no c) = rw (lt-leb n 1 a, lt-leb n 2 b, le-leb n 4 (omega arith), lt-ltb 1 n a, lt-ltb 2 n b, le-ltb 4 n (omega arith))
-    go (yes a) (yes b) (yes c) = rw (lt-leb n 1 a, lt-leb n 2 b, lt-leb n 4 c, lt-ltb 1 n a, lt-ltb 2 n b, lt-ltb 4 n c)
 
 -- 2 ^ bits priorities are at most 2 ^ 32.
 pub few-bits : (bits : ℕ) → 2 ^ bits ≤ 4294967296 → bits ≤ 32
@@ -40,11 +28,11 @@ few-bits bits h = go (decLt 32 bits)
 pub reaches-child : {rows : Rows} {me n : ℕ} {p : Parent} (i : ℕ) → MayDivide rows me n → ParentIs rows me n p → i < n → Reaches p i
 reaches-child {rows} {me} {n} {p} i D P l =
     let d = (rows me) .bits in
-    let w = 2 ^ (d - fewestBits n) in
+    let w = 2 ^ (d - forkBits n) in
     let all : n * w ≤ 2 ^ d = fork-fits n d (D .most) (D .bits) in
     let some : suc i * w ≤ n * w = mul-le-mul-right w l in
     let more : suc i * w ≡ i * w + w = omega arith in
-    let positive : 0 < w = pow-pos (d - fewestBits n) in
+    let positive : 0 < w = pow-pos (d - forkBits n) in
     let wide : d ≤ 32 = few-bits d (omega (arith, D .range)) in
     record {
       most = omega (arith, D .most);

@@ -4,17 +4,17 @@ use mathlib.Core.Path.{_≡_}
 use Prim.Native.Nat.{ℕ, suc, _+_, _*_, _-_, _^_, _≤_, _<_}
 use lib.ListN.{length}
 use Rattle.scheduler.specs.Rows.{Rows}
-use Rattle.scheduler.specs.Engine.{fewestBits}
 use Rattle.blocks.specs.Blocks.{Block}
 use Rattle.blocks.specs.Changes.{putIn}
 use Rattle.children.specs.declared.rows.Parent.{Parent}
+use Rattle.words.specs.ForkBits.{forkBits}
 
 -- The caller's level, variables and priorities leave room for n children.
 pub record MayDivide (rows : Rows) (me n : ℕ) : Type 0 where
   pub level : (rows me) .level ≤ 9
   pub base : (rows me) .base + length ((rows me) .own) ≤ 192
   pub most : n ≤ 8
-  pub bits : fewestBits n ≤ (rows me) .bits
+  pub bits : forkBits n ≤ (rows me) .bits
   pub range : (rows me) .low + 2 ^ (rows me) .bits ≤ 4294967296
 
 -- The routine in slot me as the parent of n children: what of `callerAt` stands in single words.
@@ -23,7 +23,7 @@ pub record ParentIs (rows : Rows) (me n : ℕ) (p : Parent) : Type 0 where
   pub level : p .level ≡ suc ((rows me) .level)
   pub base : p .base ≡ (rows me) .base + length ((rows me) .own)
   pub low : p .low ≡ (rows me) .low
-  pub bits : p .bits ≡ (rows me) .bits - fewestBits n
+  pub bits : p .bits ≡ (rows me) .bits - forkBits n
 
 -- The parent's priorities reach to child number i.
 pub record Reaches (p : Parent) (i : ℕ) : Type 0 where

@@ -3,15 +3,15 @@ use mathlib.Core.Path.{_≡_}
 use mathlib.Core.List.{List, _++_}
 use Prim.Native.Nat.{ℕ, _+_, _*_, _≤_, _<_}
 use lib.ListN.{replicate}
-use Rattle.walk.specs.State.{fresh}
 use Rattle.table.specs.Decode.{namesAt, kindsOfBits}
-use Rattle.scheduler.specs.Engine.{childVariables}
 use Rattle.blocks.specs.Tabulate.{tabulateFrom}
 use Rattle.blocks.specs.Blocks.{block, variableIn}
 use Rattle.blocks.specs.Store.{storeOf}
 use Rattle.blocks.specs.Changes.{InBlock}
 use Rattle.evaluate.specs.Bound.{Bound, bindingsOf, variableNamed}
 use Rattle.children.specs.Naming.{MayBind}
+use Rattle.walk.specs.State.{newVariable}
+use Rattle.walk.specs.Memory.{ownVariables}
 
 -- Nothing is left in block s of a routine that was there before.
 pub record MayPass (t m : List ℕ) (me s at count locals : ℕ) : Type 0 where
@@ -24,8 +24,8 @@ pub record ValuesPassed (t before : List ℕ) (me s at count bits : ℕ) (after 
   pub others : (k : ℕ) → ((i : ℕ) → i < own → k ≡ 8 + i * 6 → ⊥) → block after s k ≡ block before s k
   pub few : own ≤ count
   pub variables : (n : ℕ) → Bound (storeOf n before) (bindingsOf before me) → (locals : ℕ)
-      → tabulateFrom 0 own (variableIn (block after s)) ++ replicate locals (fresh 0)
-      ≡ childVariables (kindsOfBits count bits) (namesAt t at count) locals (variableNamed n before me)
+      → tabulateFrom 0 own (variableIn (block after s)) ++ replicate locals (newVariable 0)
+      ≡ ownVariables (kindsOfBits count bits) (namesAt t at count) locals (variableNamed n before me)
 
 -- One value, if the argument is by value: as much of the above for the argument named `name`.
 pub record ValuePassed (before : List ℕ) (me s name bit own : ℕ) (after : List ℕ) (r : ℕ) : Type 0 where

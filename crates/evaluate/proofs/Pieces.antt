@@ -12,8 +12,7 @@ use Rattle.listing.specs.Listing.{Piece, literal, valueOf, writtenMark, plus, m
 use Rattle.listing.specs.Questions.{pieceIsThere}
 use Rattle.table.specs.Decode.{word, pieceOf, pieceAt}
 use Rattle.walk.specs.State.{Variable}
-use Rattle.walk.specs.Memory.{operate}
-use Rattle.scheduler.specs.Expressions.{pieceBy}
+use Rattle.walk.specs.Memory.{operate, evaluatePiece}
 use Rattle.evaluate.specs.Bound.{bindingsOf, FromNames}
 use Rattle.evaluate.specs.Values.{held, signOf, Pushed, Operated, mayCome, countAfter}
 use Rattle.evaluate.specs.Evaluable.{MayCome, Past}
@@ -84,11 +83,11 @@ module _ {t m values : List ℕ} {me a count : ℕ} (asked : MayCome t m me a va
 -- ── what it does ─────────────────────────────────────────────────────────────────
 module _ {t m before after : List ℕ} {me a count r : ℕ} where
   pub past-literal : word t a ≡ 0 → Pushed before count (word t (a + 1)) after r → Past t m me a before count after r
-  unfolding countAfter pieceBy
+  unfolding countAfter evaluatePiece
   past-literal e p = record { size = p .size; counted = rw (literal-at t a e) (p .counted); values = record { equal = λ n bound. rw (literal-at t a e) (p .values) } }
 
   pub past-value : {v : ℕ} → word t a ≡ 1 → FromNames m me (λ names. (names (word t (a + 1))) .value) v → Pushed before count v after r → Past t m me a before count after r
-  unfolding countAfter pieceBy
+  unfolding countAfter evaluatePiece
   past-value e f p =
       record {
         size = p .size;
@@ -97,7 +96,7 @@ module _ {t m before after : List ℕ} {me a count r : ℕ} where
       }
 
   pub past-mark : {v : ℕ} → word t a ≡ 2 → FromNames m me (λ names. bit ((names (word t (a + 1))) .written)) v → Pushed before count v after r → Past t m me a before count after r
-  unfolding countAfter pieceBy
+  unfolding countAfter evaluatePiece
   past-mark e f p =
       record {
         size = p .size;
@@ -106,7 +105,7 @@ module _ {t m before after : List ℕ} {me a count r : ℕ} where
       }
 
   pub past-sign : IsSign (word t a) → Operated before count (word t a) after r → Past t m me a before count after r
-  unfolding countAfter pieceBy signOf
+  unfolding countAfter evaluatePiece signOf
   past-sign none o =
       record {
         size = o .size;
@@ -122,7 +121,7 @@ module _ {t m before after : List ℕ} {me a count r : ℕ} where
 
       joins : (names : ℕ → Variable) (first second third : Bool) →
           operate (λ x y. cond first (wrappingAdd x y) (cond second (wrappingSubtract x y) (cond third (wrappingMultiply x y) (bit (signedLess x y))))) (held before count)
-          ≡ pieceBy names (signs first second third) (held before count)
+          ≡ evaluatePiece names (signs first second third) (held before count)
       joins names true second third = refl
       joins names false true third = refl
       joins names false false true = refl

@@ -11,8 +11,7 @@ use Rattle.listing.specs.Listing.{Piece, literal, valueOf, writtenMark, plus, m
 use Rattle.listing.specs.Expressions.{leavesOneFrom}
 use Rattle.listing.specs.Questions.{pieceIsThere}
 use Rattle.table.specs.Decode.{pieceAt, cellsAt, piecesAt}
-use Rattle.walk.specs.Memory.{top}
-use Rattle.scheduler.specs.Expressions.{piecesBy, evaluateBy}
+use Rattle.walk.specs.Memory.{top, evaluatePieces, evaluateBy}
 use Rattle.blocks.specs.Store.{storeOf}
 use Rattle.evaluate.specs.Bound.{Bound, bindingsOf, variableNamed, FromNames}
 use Rattle.evaluate.specs.Values.{held, mayCome, countAfter}
@@ -57,7 +56,7 @@ pub record Before (t m : List ℕ) (me cells pieces : ℕ) (values : List ℕ) (
   pub form : leavesOneFrom count (piecesAt t at left) ≡ true
   pub names : all (pieceIsThere (length (bindingsOf m me))) (piecesAt t at left) ≡ true
   pub value : (n : ℕ) → Bound (storeOf n m) (bindingsOf m me)
-      → top (piecesBy (variableNamed n m me) (piecesAt t at left) (held values count)) ≡ evaluateBy (variableNamed n m me) (piecesAt t cells pieces)
+      → top (evaluatePieces (variableNamed n m me) (piecesAt t at left) (held values count)) ≡ evaluateBy (variableNamed n m me) (piecesAt t cells pieces)
 
 module _ {t m : List ℕ} {me cells pieces : ℕ} where
   pub first-turn : (values : List ℕ) → length values ≡ 8 → Evaluable t m me cells pieces → Before t m me cells pieces values 0 cells pieces
@@ -78,7 +77,7 @@ module _ {t m : List ℕ} {me cells pieces : ℕ} where
           record { size = evaluable .size; slot = evaluable .slot; inside = omega (arith, evaluable .inside, so-far .place); places = so-far .places; most = so-far .most; room = split .0; name = there .0 }
 
       pub next-turn : {after : List ℕ} {r : ℕ} → Past t m me at values count after r → Before t m me cells pieces after r (at + 2) (left - 1)
-      unfolding piecesBy
+      unfolding evaluatePieces
       next-turn past =
           record {
             place = omega (arith, so-far .place);
@@ -86,12 +85,12 @@ module _ {t m : List ℕ} {me cells pieces : ℕ} where
             most = rw (past .counted) (count-most count (pieceAt t at) (split .0) (so-far .most));
             form = rw (past .counted) (split .1);
             names = there .1;
-            value = λ n bound. ap (λ (h : List ℕ). top (piecesBy (variableNamed n m me) (piecesAt t (at + 2) (left - 1)) h)) (past .values .equal n bound)
+            value = λ n bound. ap (λ (h : List ℕ). top (evaluatePieces (variableNamed n m me) (piecesAt t (at + 2) (left - 1)) h)) (past .values .equal n bound)
                 ∙ (rw (first-piece t at left some) at (so-far .value n bound));
           }
 
     pub last-turn : left ≡ 0 → FromNames m me (λ names. evaluateBy names (piecesAt t cells pieces)) (getD values 0 0)
-    unfolding leavesOneFrom piecesBy cellsAt held top
+    unfolding leavesOneFrom evaluatePieces cellsAt held top
     last-turn z =
         let one : count ≡ 1 = eqb-true count 1 (rw z at (so-far .form)) in
         record { equal = λ n bound. sym (ap (λ (k : ℕ). top (held values k)) one) ∙ (rw z at (so-far .value n bound)) }

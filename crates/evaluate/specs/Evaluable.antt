@@ -9,9 +9,9 @@ use Rattle.listing.specs.Lists.{all}
 use Rattle.listing.specs.Expressions.{leavesOne}
 use Rattle.listing.specs.Questions.{pieceIsThere}
 use Rattle.table.specs.Decode.{pieceAt, piecesAt}
-use Rattle.scheduler.specs.Expressions.{pieceBy}
 use Rattle.evaluate.specs.Bound.{bindingsOf, FromNames}
 use Rattle.evaluate.specs.Values.{held, mayCome, countAfter}
+use Rattle.walk.specs.Memory.{evaluatePiece}
 
 -- These cells hold an expression in its form, and its names are names of the routine.
 pub record Evaluable (t m : List ℕ) (me cells pieces : ℕ) : Type 0 where
@@ -35,4 +35,4 @@ pub record MayCome (t m : List ℕ) (me a : ℕ) (values : List ℕ) (count : �
 pub record Past (t m : List ℕ) (me a : ℕ) (before : List ℕ) (count : ℕ) (after : List ℕ) (r : ℕ) : Type 0 where
   pub size : length after ≡ 8
   pub counted : r ≡ countAfter count (pieceAt t a)
-  pub values : FromNames m me (λ names. pieceBy names (pieceAt t a) (held before count)) (held after r)
+  pub values : FromNames m me (λ names. evaluatePiece names (pieceAt t a) (held before count)) (held after r)

@@ -13,7 +13,7 @@ use Rattle.table.specs.Decode.{word, callAt, namesAt, sizeOf, tableListing}
 use Rattle.table.specs.Entry.{ChildStands}
 use Rattle.table.specs.Question6.{isTable}
 use Rattle.scheduler.specs.Rows.{Owner, Row, Rows, withRow, withChildren}
-use Rattle.scheduler.specs.Engine.{fewestBits, childBindings, Caller, callerAt}
+use Rattle.scheduler.specs.Engine.{childBindings, Caller, callerAt}
 use Rattle.scheduler.specs.Records.{isWait, callsAt, filledRow}
 use Rattle.blocks.specs.Blocks.{block, rowsOf, environmentOf}
 use Rattle.blocks.specs.Store.{Store, storeOf, withSlot}
@@ -32,6 +32,7 @@ use Rattle.filling.specs.declared.field.Field.{Field}
 use Rattle.filling.specs.Field.{FieldIs}
 use Rattle.filling.specs.Row.{MayFillRow, workingRow, RowFilled, childWorking, ChildFilled}
 use Rattle.filling.proofs.TidyFilled.{in-use, filled-slot}
+use Rattle.words.specs.ForkBits.{forkBits}
 
 -- The kept row with its working words filled in is the row of the pass.
 pub working-is-filled : (l : Listing) (caller : Caller) (c : Call) (x : Row) (s : ℕ) (q : Parent) → x .used ≡ true → x .level ≡ caller .level
@@ -106,7 +107,7 @@ module _ {t : List ℕ} (m₀ : List ℕ) {p s : ℕ} {f : Field} (M : MayFillCh
           unfolding callerAt
           filled =
               working-is-filled listing caller (fieldOf t (rowsOf m₀) p s) (rowsOf m₀ s) s q (M .live) (M .level) (P .slot) (P .base) (P .low)
-              (P .bits ∙ ap (λ (n : ℕ). (rowsOf m₀ p) .bits - fewestBits n) (I .count))
+              (P .bits ∙ ap (λ (n : ℕ). (rowsOf m₀ p) .bits - forkBits n) (I .count))
 
           row-is : rowsOf m₂ s ≡ filledRow listing caller (fieldOf t (rowsOf m₀) p s) (rowsOf m₀ s) s
           row-is =

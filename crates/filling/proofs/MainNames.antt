@@ -8,8 +8,8 @@ use lib.ListN.{length, getD, replicate}
 use Rattle.listing.specs.Lists.{all}
 use Rattle.listing.specs.Listing.{Kind, byReference, byValue}
 use Rattle.listing.specs.Questions.{isByReference}
-use Rattle.walk.specs.State.{Variable, fresh}
-use Rattle.walk.specs.Memory.{consecutive, nowhere}
+use Rattle.walk.specs.State.{Variable, newVariable}
+use Rattle.walk.specs.Memory.{consecutive, nowhere, ownVariables}
 use Rattle.walk.specs.Walk.{routineAt}
 use Rattle.walk.specs.Instant.{environmentSize, mainCall}
 use Rattle.table.specs.Decode.{word, tableListing}
@@ -18,7 +18,7 @@ use Rattle.table.proofs.Bounds.{bounds}
 use Rattle.table.proofs.Reach.{kinds-by-number, arguments-by-number}
 use Rattle.table_read.specs.Opened.{Opened}
 use Rattle.scheduler.specs.Rows.{inEnvironment, ownerOf}
-use Rattle.scheduler.specs.Engine.{ownBindings, childBindings, childVariables}
+use Rattle.scheduler.specs.Engine.{ownBindings, childBindings}
 use Rattle.scheduler.specs.Beginning.{environmentBindings}
 use Rattle.blocks.specs.Blocks.{block, variableIn, variablesIn, environmentOf}
 use Rattle.blocks.proofs.Tabulated.{length-tabulate}
@@ -49,8 +49,8 @@ module _ (k locals s : ℕ) where
 
 -- arguments by reference own nothing
 no-values : (kinds : List Kind) (arguments : List ℕ) (locals : ℕ) (name : ℕ → Variable) → all isByReference kinds ≡ true
-    → childVariables kinds arguments locals name ≡ replicate locals (fresh 0)
-unfolding childVariables all
+    → ownVariables kinds arguments locals name ≡ replicate locals (newVariable 0)
+unfolding ownVariables all
 no-values [] arguments locals name r = refl
 no-values (byReference ∷ ks) [] locals name r = no-values ks [] locals name r
 no-values (byReference ∷ ks) (x ∷ xs) locals name r = no-values ks xs locals name r
@@ -75,7 +75,7 @@ module _ (t : List ℕ) (table : isTable t ≡ true) where
       (ports-bound k locals s ((routineAt (tableListing t) 0) .kinds) k 0 (O .count ∙ ports-counted O) references (omega arith))
 
   pub main-owns : (arguments : List ℕ) (name : ℕ → Variable)
-      → childVariables ((routineAt (tableListing t) 0) .kinds) arguments ((routineAt (tableListing t) 0) .locals) name ≡ replicate ((routineAt (tableListing t) 0) .locals) (fresh 0)
+      → ownVariables ((routineAt (tableListing t) 0) .kinds) arguments ((routineAt (tableListing t) 0) .locals) name ≡ replicate ((routineAt (tableListing t) 0) .locals) (newVariable 0)
   main-owns arguments name = no-values ((routineAt (tableListing t) 0) .kinds) arguments ((routineAt (tableListing t) 0) .locals) name references
 
   ports-few : environmentSize (tableListing t) ≤ 16

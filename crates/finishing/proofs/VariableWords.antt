@@ -6,14 +6,13 @@ use Prim.Native.Nat.{ℕ, zero, suc, _+_, _*_, _/_, _%_, _≤_, _<_, min}
 use native.Mathlib.Decide.{decLt}
 use native.Mathlib.Omega.{arith}
 use lib.ListN.{length, getD, List·getD-eq-default}
-use Rattle.walk.specs.State.{Variable, idle, fresh}
+use Rattle.walk.specs.State.{Variable, idle, noVariable, unmarkedOf}
 use Rattle.walk.specs.Instant.{unmarked}
 use Rattle.machine.specs.Words.{waitingOf}
 use Rattle.machine.specs.Layout.{variablesWords, waitingValue, waitingMoment}
 use Rattle.machine.proofs.HeldWordsPass.{length-variablesWords}
 use Rattle.blocks.specs.Tabulate.{tabulateFrom}
 use Rattle.blocks.specs.Blocks.{Block, variableIn, variablesIn}
-use Rattle.blocks.specs.Store.{unmarkedVariable}
 use Rattle.blocks.specs.Changes.{cleared}
 use Rattle.blocks.proofs.Tabulated.{getD-tabulate, length-tabulate}
 use Rattle.blocks.proofs.Puts.{put-other, cleared-inside, cleared-below}
@@ -40,7 +39,7 @@ later-words : (x : Variable) (xs : List Variable) (q : ℕ) → getD (variablesW
 unfolding variablesWords
 later-words x xs q = refl
 
-pub words-at : (xs : List Variable) (i f : ℕ) → i < length xs → f < 6 → getD (variablesWords xs) (f + i * 6) 0 ≡ wordOf (getD xs i (fresh 0)) f
+pub words-at : (xs : List Variable) (i f : ℕ) → i < length xs → f < 6 → getD (variablesWords xs) (f + i * 6) 0 ≡ wordOf (getD xs i noVariable) f
 words-at [] i f h l = absurd (let z : ⊥ = omega arith in z)
 words-at (x ∷ xs) zero f h l = let e : f + 0 * 6 ≡ f = omega arith in rw e (first-words x xs f l)
 words-at (x ∷ xs) (suc i) f h l =
@@ -51,21 +50,21 @@ pub words-past : (xs : List Variable) (q : ℕ) → length xs * 6 ≤ q → getD
 words-past xs q h = List·getD-eq-default (variablesWords xs) 0 (rw (length-variablesWords xs) h)
 
 -- ── variables without marks ───────────────────────────────────────────────────────────────────────
-unmarked-tabulated : (i n : ℕ) (f : ℕ → Variable) → unmarked (tabulateFrom i n f) ≡ tabulateFrom i n (λ j. unmarkedVariable (f j))
-unfolding unmarked tabulateFrom unmarkedVariable
+unmarked-tabulated : (i n : ℕ) (f : ℕ → Variable) → unmarked (tabulateFrom i n f) ≡ tabulateFrom i n (λ j. unmarkedOf (f j))
+unfolding unmarked tabulateFrom unmarkedOf
 unmarked-tabulated i zero f = refl
-unmarked-tabulated i (suc n) f = ap (λ (l : List Variable). unmarkedVariable (f i) ∷ l) (unmarked-tabulated (suc i) n f)
+unmarked-tabulated i (suc n) f = ap (λ (l : List Variable). unmarkedOf (f i) ∷ l) (unmarked-tabulated (suc i) n f)
 
-unmarked-listed : (b : Block) (c : ℕ) → c ≤ 16 → unmarked (variablesIn b c) ≡ tabulateFrom 0 c (λ i. unmarkedVariable (variableIn b i))
+unmarked-listed : (b : Block) (c : ℕ) → c ≤ 16 → unmarked (variablesIn b c) ≡ tabulateFrom 0 c (λ i. unmarkedOf (variableIn b i))
 unfolding variablesIn
 unmarked-listed b c h = let e : min c 16 ≡ c = omega arith in rw e (unmarked-tabulated 0 c (variableIn b))
 
 pub unmarked-length : (b : Block) (c : ℕ) → c ≤ 16 → length (unmarked (variablesIn b c)) ≡ c
-unmarked-length b c h = ap length (unmarked-listed b c h) ∙ length-tabulate 0 c (λ i. unmarkedVariable (variableIn b i))
+unmarked-length b c h = ap length (unmarked-listed b c h) ∙ length-tabulate 0 c (λ i. unmarkedOf (variableIn b i))
 
-unmarked-at : (b : Block) (c i : ℕ) → c ≤ 16 → i < c → getD (unmarked (variablesIn b c)) i (fresh 0) ≡ unmarkedVariable (variableIn b i)
+unmarked-at : (b : Block) (c i : ℕ) → c ≤ 16 → i < c → getD (unmarked (variablesIn b c)) i noVariable ≡ unmarkedOf (variableIn b i)
 unmarked-at b c i h l =
-    ap (λ (xs : List Variable). getD xs i (fresh 0)) (unmarked-listed b c h) ∙ getD-tabulate c (λ j. unmarkedVariable (variableIn b j)) i (fresh 0) l
+    ap (λ (xs : List Variable). getD xs i noVariable) (unmarked-listed b c h) ∙ getD-tabulate c (λ j. unmarkedOf (variableIn b j)) i noVariable l
 
 waiting-value : (d v : ℕ) → (d ≡ 0 → v ≡ 0) → waitingValue (waitingOf d v) ≡ v
 unfolding waitingValue waitingOf
@@ -73,8 +72,8 @@ waiting-value zero v h = sym (h refl)
 waiting-value (suc d) v h = refl
 
 module _ (b : Block) (c : ℕ) (t : TidyBlock c b) (narrow : (k : ℕ) → b k < 4294967296) where
-  variable-word : (i f : ℕ) → i < 16 → f < 6 → b (8 + (f + i * 6)) ≡ wordOf (unmarkedVariable (variableIn b i)) f
-  unfolding wordOf unmarkedVariable variableIn
+  variable-word : (i f : ℕ) → i < 16 → f < 6 → b (8 + (f + i * 6)) ≡ wordOf (unmarkedOf (variableIn b i)) f
+  unfolding wordOf unmarkedOf variableIn
   variable-word i zero h l = let e : 8 + (0 + i * 6) ≡ 8 + i * 6 = omega arith in rw e
   variable-word i (suc zero) h l = let e : 8 + (1 + i * 6) ≡ 9 + i * 6 = omega arith in rw e (sym (waiting-value _ (b (9 + i * 6)) (t .idle i h)))
   variable-word i (suc (suc zero)) h l =

@@ -9,8 +9,8 @@ use native.Mathlib.Decide.{ℕ-discrete}
 use borrow.Author.Tests.{leb-true, leb-false, ltb-false, eqb-false, ne-eqb}
 use lib.Dec.{leb, eqb}
 use lib.ListN.{getD, take, drop, set}
-use Rattle.walk.specs.State.{Waiting, idle, due, Variable, fresh, Node, node, Forest, empty, more, _⊕_}
-use Rattle.walk.specs.Instant.{madeIfDue, dueWrite, dueWrites, dueInNode, dueInForest, unmarked, unmarkedNode, unmarkedForest, NextDue, never, moment, earlierOf, earlier, dueOf, dueOfVariables, dueOfNode, dueOfForest}
+use Rattle.walk.specs.State.{Waiting, idle, due, Variable, Node, node, Forest, empty, more, _⊕_, noVariable, newVariable, dueWrite, madeIfDue, unmarkedOf, madeDue}
+use Rattle.walk.specs.Instant.{dueWrites, dueInNode, dueInForest, unmarked, unmarkedNode, unmarkedForest, NextDue, never, moment, earlierOf, earlier, dueOf, dueOfVariables, dueOfNode, dueOfForest}
 use Rattle.walk.specs.Calls.{dueBefore}
 
 pub data NotBefore (t : ℕ) : NextDue → Type 0 where
@@ -93,28 +93,29 @@ module _ (t : ℕ) where
   set-not-before (y ∷ xs) (suc a) x h k =
       let (first, rest) = neither-before t _ _ h in both-not-before t _ _ first (set-not-before xs a x rest k)
 
-  pub getD-not-before : (xs : List Variable) (a : ℕ) → NotBefore t (dueOfVariables xs) → NotBefore t (dueOf ((getD xs a (fresh 0)) .waiting))
-  unfolding dueOfVariables dueOf fresh
+  pub getD-not-before : (xs : List Variable) (a : ℕ) → NotBefore t (dueOfVariables xs) → NotBefore t (dueOf ((getD xs a noVariable) .waiting))
+  unfolding dueOfVariables dueOf noVariable newVariable
   getD-not-before [] a h = nothing-due
   getD-not-before (x ∷ xs) zero h = neither-before t _ _ h .0
   getD-not-before (x ∷ xs) (suc a) h = getD-not-before xs a (neither-before t _ _ h .1)
 
 -- ── due writes: what was due at t is made, so the rest is later ───────────────────────────────────
-pub due-write-leaves-later : (t old : ℕ) (w : Waiting) → NotBefore t (dueOf w) → NotBefore (suc t) (dueOf ((dueWrite t old w) .waiting))
-unfolding dueWrite dueOf madeIfDue
-due-write-leaves-later t old idle h = nothing-due
-due-write-leaves-later t old (due m v) h = go (eqb m t) refl
+pub due-write-leaves-later : (t : ℕ) (x : Variable) (w : Waiting) → x .waiting ≡ w → NotBefore t (dueOf w) →
+    NotBefore (suc t) (dueOf ((dueWrite t x w) .waiting))
+unfolding dueWrite dueOf madeIfDue unmarkedOf
+due-write-leaves-later t x idle w h = rw w nothing-due
+due-write-leaves-later t x (due m v) w h = go (eqb m t) refl
   where
-    go : (x : Bool) → eqb m t ≡ x → NotBefore (suc t) (dueOf ((madeIfDue x old m v) .waiting))
+    go : (made : Bool) → eqb m t ≡ made → NotBefore (suc t) (dueOf ((madeIfDue made x v) .waiting))
     go true e = nothing-due
-    go false e = not-now-so-later t (moment m) h (λ k. eqb-false m t e (cc))
+    go false e = rw w (not-now-so-later t (moment m) h (λ k. eqb-false m t e (cc)))
 
 pub due-writes-leave-later : (t : ℕ) (xs : List Variable) → NotBefore t (dueOfVariables xs) → NotBefore (suc t) (dueOfVariables (dueWrites t xs))
-unfolding dueOfVariables dueWrites
+unfolding dueOfVariables dueWrites madeDue
 due-writes-leave-later t [] h = nothing-due
 due-writes-leave-later t (x ∷ xs) h =
     let (first, rest) = neither-before t _ _ h in
-    both-not-before (suc t) _ _ (due-write-leaves-later t (x .value) (x .waiting) first) (due-writes-leave-later t xs rest)
+    both-not-before (suc t) _ _ (due-write-leaves-later t x (x .waiting) refl first) (due-writes-leave-later t xs rest)
 
 mutual
   unfolding dueOfForest dueInForest
@@ -131,16 +132,16 @@ mutual
       both-not-before (suc t) _ _ (due-in-node-leaves-later n t first) (due-in-forest-leaves-later f t rest)
 
 -- ── nothing due: only the marks go ────────────────────────────────────────────────────────────────
-dueless-write : (t old : ℕ) (w : Waiting) → NotBefore (suc t) (dueOf w) → dueWrite t old w ≡ record { value = old; written = false; waiting = w }
+dueless-write : (t : ℕ) (x : Variable) (w : Waiting) → NotBefore (suc t) (dueOf w) → dueWrite t x w ≡ unmarkedOf x
 unfolding dueWrite madeIfDue dueOf
-dueless-write t old idle h = refl
-dueless-write t old (due m v) h = rw (ne-eqb m t (λ (e : m ≡ t). omega (arith, from-moment (suc t) m h)))
+dueless-write t x idle h = refl
+dueless-write t x (due m v) h = rw (ne-eqb m t (λ (e : m ≡ t). omega (arith, from-moment (suc t) m h)))
 
 pub dueless-writes : (t : ℕ) (xs : List Variable) → NotBefore (suc t) (dueOfVariables xs) → dueWrites t xs ≡ unmarked xs
-unfolding dueWrites unmarked dueOfVariables
+unfolding dueWrites madeDue unmarked dueOfVariables
 dueless-writes t [] h = refl
 dueless-writes t (x ∷ xs) h =
-    let (first, rest) = neither-before (suc t) _ _ h in ap₂ _∷_ (dueless-write t (x .value) (x .waiting) first) (dueless-writes t xs rest)
+    let (first, rest) = neither-before (suc t) _ _ h in ap₂ _∷_ (dueless-write t x (x .waiting) first) (dueless-writes t xs rest)
 
 mutual
   unfolding dueInForest unmarkedForest dueOfForest
@@ -157,7 +158,7 @@ mutual
 
 -- ── the end of the marks ──────────────────────────────────────────────────────────────────────────
 pub unmarking-keeps-due : (xs : List Variable) → dueOfVariables (unmarked xs) ≡ dueOfVariables xs
-unfolding dueOfVariables unmarked
+unfolding dueOfVariables unmarked unmarkedOf
 unmarking-keeps-due [] = refl
 unmarking-keeps-due (x ∷ xs) = ap (earlier (dueOf (x .waiting))) (unmarking-keeps-due xs)
 
@@ -172,7 +173,7 @@ mutual
   unmarking-keeps-due-of-forest (more n f) = ap₂ earlier (unmarking-keeps-due-of-node n) (unmarking-keeps-due-of-forest f)
 
 pub unmarked-twice : (xs : List Variable) → unmarked (unmarked xs) ≡ unmarked xs
-unfolding unmarked
+unfolding unmarked unmarkedOf
 unmarked-twice [] = refl
 unmarked-twice (x ∷ xs) = ap₂ _∷_ refl (unmarked-twice xs)
 

@@ -24,12 +24,12 @@ doneOf (stopped k) = record { state = record { now = 0; environment = []; tree =
 doneOf (done d) = d
 
 unfoldable pub startOf : Run → Done
-unfolding State.fresh State._⊕_ State._>>=_ State.liveInNode Memory.variableAt Memory.writeAt Memory.scheduleAt Memory.addressOf
-    Memory.addressesOf Memory.anyWritten Memory.operate Memory.evaluatePiece Memory.evaluatePieces Memory.top Memory.evaluate
+unfolding State.noVariable State.newVariable State.writtenTo State.inputTo State.scheduledOn State.unmarkedOf State.madeIfDue State.dueWrite State.madeDue State._⊕_ State._>>=_ State.liveInNode Memory.variableAt Memory.writeAt Memory.inputAt Memory.scheduleAt Memory.addressOf
+    Memory.addressesOf Memory.anyWritten Memory.operate Memory.evaluatePiece Memory.evaluatePieces Memory.top Memory.evaluateBy Memory.evaluate
     Memory.consecutive Memory.bindNames Memory.ownVariables Walk.noRoutine Walk.routineAt Walk.instructionAt Walk.newRoutine
     Walk.newRoutines Walk.childCount Walk.enter Walk.sleep Walk.leave Walk.inTurn Walk.begin Walk.join Walk.asking
-    Walk.branchPlace Walk.move Walk.carryOut Walk.execute Walk.step Walk.run Walk.passedWait Walk.wake Walk.resume Walk.visit Instant.madeIfDue
-    Instant.dueWrite Instant.dueWrites Instant.applyInputs Instant.unmarked Instant.earlierOf Instant.earlier Instant.dueOf
+    Walk.branchPlace Walk.move Walk.carryOut Walk.execute Walk.step Walk.run Walk.passedWait Walk.wake Walk.resume Walk.visit
+    Instant.dueWrites Instant.applyInputs Instant.unmarked Instant.earlierOf Instant.earlier Instant.dueOf
     Instant.dueOfVariables Instant.nextDue Instant.listedIf Instant.writtenFrom Instant.writtenOutputs Instant.finish Instant.environmentSize
     Instant.mainCall Instant.environmentNames Instant.start Instant.instant Instant.dueInNode Instant.unmarkedNode Instant.dueOfNode
     Calls.outcomeNumber Calls.outcomeListed Calls.ask Calls.unstopped Calls.dueBefore Calls.inputsRise Calls.allowed Calls.answered

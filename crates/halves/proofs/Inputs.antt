@@ -9,8 +9,8 @@ use borrow.Author.Tests.{ltb-true}
 use lib.Dec.{ltb, leb}
 use lib.ListN.{length, take, length-set, List·getD-append}
 use lib.Seq.{set-append-left}
-use Rattle.walk.specs.State.{Variable, fresh}
-use Rattle.walk.specs.Memory.{variableAt, writeAt}
+use Rattle.walk.specs.State.{Variable, noVariable, inputTo, writtenTo}
+use Rattle.walk.specs.Memory.{variableAt, writeAt, inputAt}
 use Rattle.walk.specs.Instant.{dueWrites, Write, applyInputs, unmarked, dueOfVariables}
 use Rattle.walk.specs.Calls.{inputsRise}
 use Rattle.walk_laws.proofs.Booleans.{and-left, and-right}
@@ -36,19 +36,19 @@ unmarked-take (suc k) (x ∷ m) = ap₂ _∷_ refl (unmarked-take k m)
 
 -- ── inputs ────────────────────────────────────────────────────────────────────────────────────────
 pub length-inputs : (ws : List Write) (m : List Variable) → length (applyInputs ws m) ≡ length m
-unfolding applyInputs writeAt
+unfolding applyInputs inputAt
 length-inputs [] m = refl
-length-inputs (w ∷ ws) m = length-inputs ws (writeAt m (w .number) (w .value)) ∙ length-set m (w .number) _
+length-inputs (w ∷ ws) m = length-inputs ws (inputAt m (w .number) (w .value)) ∙ length-set m (w .number) _
 
 pub inputs-not-before : (t : ℕ) (ws : List Write) (m : List Variable) → NotBefore t (dueOfVariables m) → NotBefore t (dueOfVariables (applyInputs ws m))
-unfolding applyInputs writeAt variableAt
+unfolding applyInputs inputAt inputTo writtenTo variableAt
 inputs-not-before t [] m h = h
-inputs-not-before t (w ∷ ws) m h = inputs-not-before t ws (writeAt m (w .number) (w .value))
+inputs-not-before t (w ∷ ws) m h = inputs-not-before t ws (inputAt m (w .number) (w .value))
     (set-not-before t m (w .number) _ h (getD-not-before t m (w .number) h))
 
-write-append : (m own : List Variable) (a v : ℕ) → a < length m → writeAt m a v ++ own ≡ writeAt (m ++ own) a v
-unfolding writeAt variableAt
-write-append m own a v h = rw (List·getD-append m own (fresh 0) a h) (sym (set-append-left m own a _ h))
+input-append : (m own : List Variable) (a v : ℕ) → a < length m → inputAt m a v ++ own ≡ inputAt (m ++ own) a v
+unfolding inputAt inputTo writtenTo variableAt
+input-append m own a v h = rw (List·getD-append m own noVariable a h) (sym (set-append-left m own a _ h))
 
 pub inputs-append : (k least : ℕ) (ws : List Write) (m own : List Variable) → inputsRise k least ws ≡ true → k ≤ length m →
     applyInputs ws m ++ own ≡ applyInputs ws (m ++ own)
@@ -57,6 +57,6 @@ inputs-append k least [] m own e l = refl
 inputs-append k least (w ∷ ws) m own e l =
     let rest = and-right (leb least (w .number)) _ e in
     let below : w .number < k = ltb-true (w .number) k (and-left (ltb (w .number) k) _ rest) in
-    let same = write-append m own (w .number) (w .value) (omega arith) in
-    inputs-append k (suc (w .number)) ws (writeAt m (w .number) (w .value)) own (and-right (ltb (w .number) k) _ rest)
-    (unfold writeAt in simp length-set l) ∙ ap (applyInputs ws) same
+    let same = input-append m own (w .number) (w .value) (omega arith) in
+    inputs-append k (suc (w .number)) ws (inputAt m (w .number) (w .value)) own (and-right (ltb (w .number) k) _ rest)
+    (unfold inputAt in simp length-set l) ∙ ap (applyInputs ws) same

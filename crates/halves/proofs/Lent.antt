@@ -10,16 +10,16 @@ use native.Mathlib.Nat.{add-zero, add-suc, suc-add, zero-add}
 use lib.ListN.{length, getD, take, drop, set}
 use lib.Seq.{set-getD, ext-getD}
 use Rattle.listing.specs.Listing.{Call}
-use Rattle.walk.specs.State.{Variable, fresh}
-use Rattle.walk.specs.Memory.{variableAt, writeAt}
-use Rattle.walk.specs.Instant.{dueWrite, dueWrites, Write, applyInputs, unmarked, dueOf, dueOfVariables, listedIf, writtenFrom}
+use Rattle.walk.specs.State.{Variable, noVariable, newVariable, dueWrite, unmarkedOf, madeDue, inputTo, writtenTo}
+use Rattle.walk.specs.Memory.{variableAt, inputAt}
+use Rattle.walk.specs.Instant.{dueWrites, Write, applyInputs, unmarked, dueOf, dueOfVariables, listedIf, writtenFrom}
 use Rattle.walk.specs.Events.{Event, eventsAt}
 use Rattle.halves.specs.Halves.{among, keptIf, onlyOf}
 use Rattle.halves.proofs.Due.{NotBefore, nothing-due, both-not-before, neither-before}
 
 unfoldable pub shownIf : Bool → Variable → Variable
 shownIf true x = x
-shownIf false x = fresh 0
+shownIf false x = noVariable
 
 unfoldable pub lentFrom : List ℕ → ℕ → List Variable → List Variable
 lentFrom args n [] = []
@@ -37,8 +37,8 @@ unfoldable pub ownWrites : List ℕ → List Write → List Write
 ownWrites args [] = []
 ownWrites args (w ∷ ws) = writeIf (among (w .number) args) w (ownWrites args ws)
 
-shown-blank : (b : Bool) → shownIf b (fresh 0) ≡ fresh 0
-unfolding shownIf
+shown-blank : (b : Bool) → shownIf b noVariable ≡ noVariable
+unfolding shownIf newVariable noVariable
 shown-blank true = refl
 shown-blank false = refl
 
@@ -48,11 +48,11 @@ module _ (args : List ℕ) where
   length-lentFrom n [] = refl
   length-lentFrom n (x ∷ m) = ap suc (length-lentFrom (suc n) m)
 
-  getD-lentFrom : (n : ℕ) (m : List Variable) (x : ℕ) → getD (lentFrom args n m) x (fresh 0) ≡ shownIf (among (n + x) args) (getD m x (fresh 0))
-  unfolding lentFrom
+  getD-lentFrom : (n : ℕ) (m : List Variable) (x : ℕ) → getD (lentFrom args n m) x noVariable ≡ shownIf (among (n + x) args) (getD m x noVariable)
+  unfolding lentFrom newVariable among noVariable
   getD-lentFrom n [] x = sym (shown-blank _)
   getD-lentFrom n (y ∷ m) zero = rw (add-zero n)
-  getD-lentFrom n (y ∷ m) (suc x) = getD-lentFrom (suc n) m x ∙ ap (λ k. shownIf (among k args) (getD m x (fresh 0))) (suc-add n x ∙ sym (add-suc n x))
+  getD-lentFrom n (y ∷ m) (suc x) = getD-lentFrom (suc n) m x ∙ ap (λ k. shownIf (among k args) (getD m x noVariable)) (suc-add n x ∙ sym (add-suc n x))
 
   set-lentFrom : (n : ℕ) (m : List Variable) (a : ℕ) (x : Variable) → lentFrom args n (set m a x) ≡
       set (lentFrom args n m) a (shownIf (among (n + a) args) x)
@@ -74,9 +74,8 @@ module _ (args : List ℕ) where
   drop-lentFrom (suc k) n [] = refl
   drop-lentFrom (suc k) n (x ∷ m) = drop-lentFrom k (suc n) m ∙ ap (λ j. lentFrom args j (drop k m)) (suc-add n k ∙ sym (add-suc n k))
 
-  due-shown : (t : ℕ) (b : Bool) (x : Variable) → shownIf b (dueWrite t (x .value) (x .waiting)) ≡
-      dueWrite t ((shownIf b x) .value) ((shownIf b x) .waiting)
-  unfolding shownIf dueWrite fresh
+  due-shown : (t : ℕ) (b : Bool) (x : Variable) → shownIf b (madeDue t x) ≡ madeDue t (shownIf b x)
+  unfolding shownIf madeDue dueWrite unmarkedOf noVariable
   due-shown t true x = refl
   due-shown t false x = refl
 
@@ -86,16 +85,13 @@ module _ (args : List ℕ) where
   due-lentFrom t n (x ∷ m) = ap₂ _∷_ (due-shown t (among n args) x) (due-lentFrom t (suc n) m)
 
   unmarked-lentFrom : (n : ℕ) (m : List Variable) → lentFrom args n (unmarked m) ≡ unmarked (lentFrom args n m)
-  unfolding lentFrom unmarked
+  unfolding lentFrom unmarked unmarkedOf
   unmarked-lentFrom n [] = refl
   unmarked-lentFrom n (x ∷ m) = ap₂ _∷_ (go (among n args)) (unmarked-lentFrom (suc n) m)
     where
-      unmark : Variable → Variable
-      unmark y = record { value = y .value; written = false; waiting = y .waiting }
-
-      go : (b : Bool) → shownIf b (unmark x) ≡ unmark (shownIf b x)
+      go : (b : Bool) → shownIf b (unmarkedOf x) ≡ unmarkedOf (shownIf b x)
       go true = unfold shownIf in refl
-      go false = unfold shownIf fresh in refl
+      go false = unfold shownIf unmarkedOf noVariable in refl
 
   later-lentFrom : (t n : ℕ) (m : List Variable) → NotBefore t (dueOfVariables m) → NotBefore t (dueOfVariables (lentFrom args n m))
   unfolding lentFrom dueOfVariables
@@ -106,7 +102,7 @@ module _ (args : List ℕ) where
     where
       go : (b : Bool) → NotBefore t (dueOf (x .waiting)) → NotBefore t (dueOf ((shownIf b x) .waiting))
       go true k = unfold shownIf in k
-      go false k = unfold shownIf fresh dueOf in nothing-due
+      go false k = unfold shownIf noVariable dueOf in nothing-due
 
   -- Its reports are those of the variables lent to it.
   written-lentFrom : (n : ℕ) (m : List Variable) → ownWrites args (writtenFrom n m) ≡ writtenFrom n (lentFrom args n m)
@@ -119,9 +115,9 @@ module _ (args : List ℕ) where
           listedIf ((shownIf b (record { value = x .value; written = w; waiting = x .waiting })) .written) n ((shownIf b x) .value)
           (writtenFrom (suc n) (lentFrom args (suc n) m))
       go true true e h = unfold shownIf listedIf ownWrites writeIf in rw (e, h)
-      go true false e h = unfold shownIf fresh listedIf ownWrites writeIf in rw (e, h)
+      go true false e h = unfold shownIf noVariable listedIf ownWrites writeIf in rw (e, h)
       go false true e h = unfold shownIf listedIf in h
-      go false false e h = unfold shownIf fresh listedIf in h
+      go false false e h = unfold shownIf noVariable listedIf in h
 
   -- ── the same of whole memories ────────────────────────────────────────────────────────────────
   pub length-lent : (m : List Variable) → length (lent args m) ≡ length m
@@ -130,7 +126,7 @@ module _ (args : List ℕ) where
 
   pub variable-lent : (m : List Variable) (x : ℕ) → variableAt (lent args m) x ≡ shownIf (among x args) (variableAt m x)
   unfolding lent variableAt
-  variable-lent m x = getD-lentFrom 0 m x ∙ ap (λ k. shownIf (among k args) (getD m x (fresh 0))) (zero-add x)
+  variable-lent m x = getD-lentFrom 0 m x ∙ ap (λ k. shownIf (among k args) (getD m x noVariable)) (zero-add x)
 
   pub take-lent : (k : ℕ) (m : List Variable) → take k (lent args m) ≡ lent args (take k m)
   unfolding lent
@@ -165,7 +161,7 @@ module _ (args : List ℕ) where
       variableAt m x ≡ variableAt m′ x) → lent args m ≡ lent args m′
   unfolding variableAt
   same-shown m m′ l h =
-      ext-getD (fresh 0) (lent args m) (lent args m′) (length-lent m ∙ l ∙ sym (length-lent m′))
+      ext-getD noVariable (lent args m) (lent args m′) (length-lent m ∙ l ∙ sym (length-lent m′))
       λ x hx. variable-lent m x ∙ go x (omega (arith, length-lent m)) (among x args) refl ∙ sym (variable-lent m′ x)
     where
       go : (x : ℕ) → x < length m → (b : Bool) → among x args ≡ b → shownIf b (variableAt m x) ≡ shownIf b (variableAt m′ x)
@@ -174,21 +170,21 @@ module _ (args : List ℕ) where
 
   -- ── inputs ────────────────────────────────────────────────────────────────────────────────────
   write-lent : (m : List Variable) (w : Write) (b : Bool) → among (w .number) args ≡ b →
-      lent args (writeAt m (w .number) (w .value)) ≡ applyInputs (writeIf b w []) (lent args m)
-  unfolding writeAt lent writeIf applyInputs shownIf
+      lent args (inputAt m (w .number) (w .value)) ≡ applyInputs (writeIf b w []) (lent args m)
+  unfolding inputAt inputTo writtenTo lent writeIf applyInputs shownIf
   write-lent m w true e =
       set-lentFrom 0 m (w .number) _ ∙ rw (zero-add (w .number), e, variable-lent m (w .number), e)
   write-lent m w false e =
       set-lentFrom 0 m (w .number) _ ∙ rw (zero-add (w .number), e) (ap (set (lentFrom args 0 m) (w .number)) (sym blank) ∙
-      set-getD (lentFrom args 0 m) (w .number) (fresh 0))
+      set-getD (lentFrom args 0 m) (w .number) noVariable)
     where
-      blank : getD (lentFrom args 0 m) (w .number) (fresh 0) ≡ fresh 0
+      blank : getD (lentFrom args 0 m) (w .number) noVariable ≡ noVariable
       blank = getD-lentFrom 0 m (w .number) ∙ rw (zero-add (w .number), e)
 
   pub inputs-lent : (ws : List Write) (m : List Variable) → lent args (applyInputs ws m) ≡ applyInputs (ownWrites args ws) (lent args m)
   unfolding applyInputs ownWrites
   inputs-lent [] m = refl
-  inputs-lent (w ∷ ws) m = inputs-lent ws (writeAt m (w .number) (w .value)) ∙
+  inputs-lent (w ∷ ws) m = inputs-lent ws (inputAt m (w .number) (w .value)) ∙
       ap (applyInputs (ownWrites args ws)) (write-lent m w (among (w .number) args) refl) ∙ go (among (w .number) args)
     where
       go : (b : Bool) → applyInputs (ownWrites args ws) (applyInputs (writeIf b w []) (lent args m)) ≡

@@ -13,7 +13,7 @@ use lib.ListN.{length, replicate, List·getD-eq-default}
 use Rattle.listing.specs.Lists.{all}
 use Rattle.listing.specs.Questions.{isByReference}
 use Rattle.listing.specs.Listing.{Call, Kind, byReference, byValue}
-use Rattle.walk.specs.State.{Variable, fresh}
+use Rattle.walk.specs.State.{Variable, newVariable}
 use Rattle.walk.specs.Memory.{nowhere, addressOf, addressesOf, consecutive, bindNames, ownVariables}
 use Rattle.halves.specs.Halves.{among, shareNone, allApart}
 use Rattle.walk_laws.proofs.Booleans.{false-is-not-true, and-left, and-right}
@@ -71,12 +71,12 @@ all-references zero (k ∷ kinds) l h = absurd (omega arith)
 all-references (suc size) (byReference ∷ kinds) l h = ap (λ ks. byReference ∷ ks) (all-references size kinds (omega arith) h)
 all-references (suc size) (byValue ∷ kinds) l h = false-is-not-true h
 
-pub main-owns : (size : ℕ) (passed : List ℕ) (locals : ℕ) (m : List Variable) →
-    ownVariables (replicate size byReference) passed locals m ≡ replicate locals (fresh 0)
+pub main-owns : (size : ℕ) (arguments : List ℕ) (locals : ℕ) (name : ℕ → Variable) →
+    ownVariables (replicate size byReference) arguments locals name ≡ replicate locals (newVariable 0)
 unfolding ownVariables
-main-owns zero passed locals m = refl
-main-owns (suc size) [] locals m = main-owns size [] locals m
-main-owns (suc size) (a ∷ passed) locals m = main-owns size passed locals m
+main-owns zero arguments locals name = refl
+main-owns (suc size) [] locals name = main-owns size [] locals name
+main-owns (suc size) (n ∷ arguments) locals name = main-owns size arguments locals name
 
 -- ── names apart ───────────────────────────────────────────────────────────────────────────────────
 or-left : (a b : Bool) → a ≡ true → a || b ≡ true

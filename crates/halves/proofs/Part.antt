@@ -11,7 +11,7 @@ use native.Mathlib.Nat.{le-refl}
 use lib.ListN.{length, getD, take, drop, List·getD-eq-default}
 use lib.Seq.{take-take}
 use Rattle.listing.specs.Listing.{Listing, Call}
-use Rattle.walk.specs.State.{Variable, fresh, Forest, empty, more, Running, Turn, ok}
+use Rattle.walk.specs.State.{Variable, Forest, empty, more, Running, Turn, ok, noVariable, newVariable, unmarkedOf}
 use Rattle.walk.specs.Memory.{variableAt}
 use Rattle.walk.specs.Walk.{routineAt, visitForest}
 use Rattle.walk.specs.Instant.{dueWrites, dueInForest, Write, applyInputs, unmarked, unmarkedForest, NextDue, earlier, dueOfVariables, dueOfForest, listedIf, writtenFrom, environmentSize}
@@ -136,9 +136,9 @@ module _ (g : Grower) where
       let long : length m ≡ length m′ = sym (length-lent (args g) m) ∙ ap length e ∙ length-lent (args g) m′ in
       record { long = long; shown = go long; later = h }
     where
-      go : length m ≡ length m′ → (x : ℕ) → Mine g x → getD m x (fresh 0) ≡ getD m′ x (fresh 0)
+      go : length m ≡ length m′ → (x : ℕ) → Mine g x → getD m x noVariable ≡ getD m′ x noVariable
       go k x (a-name i) = shown-same (args g) m m′ e x i
-      go k x (past-main i) = List·getD-eq-default m (fresh 0) (omega arith) ∙ sym (List·getD-eq-default m′ (fresh 0) (omega arith))
+      go k x (past-main i) = List·getD-eq-default m noVariable (omega arith) ∙ sym (List·getD-eq-default m′ noVariable (omega arith))
 
   turns-same : (t : ℕ) (listing listing′ : Listing) → Has (its g) listing → Has (its g) listing′ → (f : Forest) (s s′ : Running) (a a′ : Turn) →
       MineAsleep f → NotBefore t (dueOfForest f) → Whole f (length (s .memory)) → NotBefore (suc t) (dueOfVariables (s .memory)) →
@@ -169,11 +169,11 @@ module _ (g : Grower) where
 
   -- ── nothing due and no input: the part stays, and nothing is reported ─────────────────────────
   sees-nothing-written : (m xs : List Variable) → length m ≡ floor g → lent (args g) m ≡ unmarked xs → Unwritten (mine g) (its g) m
-  unfolding variableAt shownIf fresh
+  unfolding variableAt shownIf noVariable newVariable
   sees-nothing-written m xs l e x (a-name i) =
       ap (λ (b : Bool). (shownIf b (variableAt m x)) .written) (sym i) ∙ ap (λ (y : Variable). y .written) (sym (variable-lent (args g) m x)) ∙
       ap (λ ys. (variableAt ys x) .written) e ∙ unmarked-is-unwritten xs x
-  sees-nothing-written m xs l e x (past-main i) = ap (λ (y : Variable). y .written) (List·getD-eq-default m (fresh 0) (omega arith))
+  sees-nothing-written m xs l e x (past-main i) = ap (λ (y : Variable). y .written) (List·getD-eq-default m noVariable (omega arith))
 
   stays : (t : ℕ) (listing : Listing) → Has (its g) listing → (f : Forest) (s : Running) (xs : List Variable) → MineAsleep f →
       Whole f (length (s .memory)) → trim f (lent (args g) (s .memory)) ≡ unmarked xs →
@@ -190,7 +190,7 @@ module _ (g : Grower) where
 
   -- No output of unmarked variables is listed.
   none-listed : (n j k : ℕ) (xs : List Variable) → writtenFrom n (drop j (take k (unmarked xs))) ≡ []
-  unfolding writtenFrom unmarked listedIf
+  unfolding writtenFrom unmarked listedIf unmarkedOf
   none-listed n zero zero xs = refl
   none-listed n (suc j) zero xs = refl
   none-listed n zero (suc k) [] = refl

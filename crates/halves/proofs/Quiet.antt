@@ -9,7 +9,7 @@ use native.Mathlib.Decide.{decLt}
 use lib.ListN.{length, getD, List·getD-append}
 use lib.Seq.{take-append-seam, drop-append-seam, getD-append-add}
 use Rattle.listing.specs.Listing.{Listing}
-use Rattle.walk.specs.State.{Variable, fresh, Node, Forest, empty, more, _⊕_, Running, ok, _>>=_}
+use Rattle.walk.specs.State.{Variable, Node, Forest, empty, more, _⊕_, Running, ok, _>>=_, noVariable, newVariable, unmarkedOf}
 use Rattle.walk.specs.Memory.{variableAt, addressOf, anyWritten}
 use Rattle.walk.specs.Walk.{instructionAt, enter, sleep, join, wake, resume, visit, visitForest}
 use Rattle.walk.specs.Instant.{dueInNode, dueInForest, unmarked, unmarkedNode, unmarkedForest}
@@ -17,8 +17,8 @@ use Rattle.halves.proofs.Reach as Reach
 use Rattle.halves.proofs.Reach.{Zone}
 use Rattle.halves.proofs.Twin.{Code, Has, Asleep, waits, joins, AllAsleep, none-asleep, more-asleep}
 
-written-of-unmarked : (xs : List Variable) (x : ℕ) → (getD (unmarked xs) x (fresh 0)) .written ≡ false
-unfolding unmarked fresh
+written-of-unmarked : (xs : List Variable) (x : ℕ) → (getD (unmarked xs) x noVariable) .written ≡ false
+unfolding unmarked noVariable newVariable unmarkedOf
 written-of-unmarked [] x = refl
 written-of-unmarked (y ∷ xs) zero = refl
 written-of-unmarked (y ∷ xs) (suc x) = written-of-unmarked xs x
@@ -35,12 +35,12 @@ module _ (zone : Zone) (code : Code) where
   unfolding variableAt
   append-unwritten m own h x i = go (decLt x (length m))
     where
-      go : Dec (x < length m) → (getD (m ++ unmarked own) x (fresh 0)) .written ≡ false
+      go : Dec (x < length m) → (getD (m ++ unmarked own) x noVariable) .written ≡ false
       go (yes k) = ap (λ (y : Variable). y .written) (List·getD-append m (unmarked own) _ x k) ∙ h x i
       go (no k) =
           let e : x ≡ length m + (x - length m) = omega arith in
-          ap (λ n. (getD (m ++ unmarked own) n (fresh 0)) .written) e ∙
-          ap (λ (y : Variable). y .written) (getD-append-add m (unmarked own) (x - length m) (fresh 0)) ∙ written-of-unmarked own (x - length m)
+          ap (λ n. (getD (m ++ unmarked own) n noVariable) .written) e ∙
+          ap (λ (y : Variable). y .written) (getD-append-add m (unmarked own) (x - length m) noVariable) ∙ written-of-unmarked own (x - length m)
 
   none-written : (m : List Variable) (names ns : List ℕ) → Unwritten m → Reach.Leads zone names → anyWritten m names ns ≡ false
   unfolding anyWritten

@@ -1,7 +1,7 @@
 -- Two memories that show the same to whoever reaches only some addresses, and what lies outside stays.
 -- Letters: zone says which addresses are reached; m and m′ are the two memories, own the variables of a routine, names its names,
 -- a and x addresses, v a value, t a moment, now the present one.
-use mathlib.Core.Path.{_≡_, refl, sym, ap, _∙_}
+use mathlib.Core.Path.{_≡_, refl, sym, ap, _∙_, fun-ext}
 use mathlib.Core.Bool.{Bool, true, false, _&&_}
 use mathlib.Core.List.{List, [], _∷_, _++_}
 use Prim.Native.Nat.{ℕ, zero, suc, _+_, _-_, _≤_, _<_}
@@ -13,8 +13,8 @@ use lib.ListN.{length, getD, take, drop, set, length-append, length-drop, length
 use lib.Seq.{getD-set-same, getD-set-other, set-out, getD-take, getD-drop, getD-append-add, ext-getD, length-take-le}
 use Rattle.words.specs.Words.{isPositive}
 use Rattle.listing.specs.Listing.{Piece, literal, valueOf, writtenMark, plus, minus, times, less, Kind, byReference, byValue}
-use Rattle.walk.specs.State.{Variable, fresh}
-use Rattle.walk.specs.Memory.{variableAt, writeAt, scheduleAt, nowhere, addressOf, addressesOf, anyWritten, evaluatePiece, evaluatePieces, top, evaluate, consecutive, bindNames, ownVariables}
+use Rattle.walk.specs.State.{Variable, noVariable, newVariable, writtenTo, scheduledOn}
+use Rattle.walk.specs.Memory.{variableAt, writeAt, scheduleAt, nowhere, addressOf, addressesOf, anyWritten, namedIn, evaluateBy, evaluate, consecutive, bindNames, ownVariables}
 use Rattle.walk.specs.Instant.{earlier, dueOf, dueOfVariables}
 use Rattle.walk_laws.proofs.Booleans.{false-is-not-true}
 use Rattle.halves.proofs.Due.{NotBefore, nothing-due, due-from, append-not-before, take-not-before, set-not-before, getD-not-before}
@@ -26,10 +26,10 @@ pub record Zone : Type 1 where
   pub up : (x : ℕ) → floor ≤ x → In x
   pub small : floor ≤ 65536
 
-past-the-first : (m own : List Variable) (x : ℕ) → length m ≤ x → getD (m ++ own) x (fresh 0) ≡ getD own (x - length m) (fresh 0)
+past-the-first : (m own : List Variable) (x : ℕ) → length m ≤ x → getD (m ++ own) x noVariable ≡ getD own (x - length m) noVariable
 past-the-first m own x h =
     let e : x ≡ length m + (x - length m) = omega arith in
-    ap (λ n. getD (m ++ own) n (fresh 0)) e ∙ getD-append-add m own (x - length m) (fresh 0)
+    ap (λ n. getD (m ++ own) n noVariable) e ∙ getD-append-add m own (x - length m) noVariable
 
 module _ (zone : Zone) where
   abbrev In : ℕ → Type 0
@@ -117,11 +117,11 @@ module _ (zone : Zone) where
     set-alike m m′ a x x′ g e h =
         record { long = simp length-set (g .long); shown = λ y hy. go y hy (ℕ-discrete y a); later = set-not-before (suc now) m a x (g .later) h }
       where
-        here : (y : ℕ) → In y → y ≡ a → Dec (a < length m) → getD (set m a x) y (fresh 0) ≡ getD (set m′ a x′) y (fresh 0)
+        here : (y : ℕ) → In y → y ≡ a → Dec (a < length m) → getD (set m a x) y noVariable ≡ getD (set m′ a x′) y noVariable
         here y hy p (yes k) = rw p (getD-set-same m a x _ k ∙ e ∙ sym (getD-set-same m′ a x′ _ (omega (arith, g .long))))
         here y hy p (no k) = rw (set-out m a x (omega arith), set-out m′ a x′ (omega (arith, g .long))) (g .shown y hy)
 
-        go : (y : ℕ) → In y → Dec (y ≡ a) → getD (set m a x) y (fresh 0) ≡ getD (set m′ a x′) y (fresh 0)
+        go : (y : ℕ) → In y → Dec (y ≡ a) → getD (set m a x) y noVariable ≡ getD (set m′ a x′) y noVariable
         go y hy (no d) = getD-set-other m a y x _ d ∙ g .shown y hy ∙ sym (getD-set-other m′ a y x′ _ d)
         go y hy (yes p) = here y hy p (decLt a (length m))
 
@@ -134,10 +134,10 @@ module _ (zone : Zone) where
           later = append-not-before (suc now) m own (g .later) h;
         }
       where
-        go : (x : ℕ) → In x → Dec (x < length m) → getD (m ++ own) x (fresh 0) ≡ getD (m′ ++ own) x (fresh 0)
+        go : (x : ℕ) → In x → Dec (x < length m) → getD (m ++ own) x noVariable ≡ getD (m′ ++ own) x noVariable
         go x hx (yes k) = List·getD-append m own _ x k ∙ g .shown x hx ∙ sym (List·getD-append m′ own _ x (omega (arith, g .long)))
         go x hx (no k) =
-            past-the-first m own x (omega arith) ∙ ap (λ n. getD own (x - n) (fresh 0)) (g .long) ∙
+            past-the-first m own x (omega arith) ∙ ap (λ n. getD own (x - n) noVariable) (g .long) ∙
             sym (past-the-first m′ own x (omega (arith, g .long)))
 
     pub take-alike : (m m′ : List Variable) (base : ℕ) → base ≤ length m → Alike m m′ → Alike (take base m) (take base m′)
@@ -149,7 +149,7 @@ module _ (zone : Zone) where
           later = take-not-before (suc now) base m (g .later);
         }
       where
-        go : (x : ℕ) → In x → Dec (x < base) → getD (take base m) x (fresh 0) ≡ getD (take base m′) x (fresh 0)
+        go : (x : ℕ) → In x → Dec (x < base) → getD (take base m) x noVariable ≡ getD (take base m′) x noVariable
         go x hx (yes k) = getD-take base m x _ k ∙ g .shown x hx ∙ sym (getD-take base m′ x _ k)
         go x hx (no k) =
             List·getD-eq-default (take base m) _ (omega (arith, length-take-le base m h)) ∙
@@ -158,30 +158,16 @@ module _ (zone : Zone) where
     pub drop-same : (m m′ : List Variable) (base : ℕ) → floor ≤ base → Alike m m′ → drop base m ≡ drop base m′
     unfolding variableAt
     drop-same m m′ base h g =
-        ext-getD (fresh 0) (drop base m) (drop base m′) (simp length-drop (omega (arith, g .long)))
+        ext-getD noVariable (drop base m) (drop base m′) (simp length-drop (omega (arith, g .long)))
         λ i hi. getD-drop base m i _ ∙ g .shown (base + i) (zone .up (base + i) (omega arith)) ∙ sym (getD-drop base m′ i _)
 
     -- ── expressions and waits read the same ───────────────────────────────────────────────────────
-    piece-same : (m m′ : List Variable) (names : List ℕ) → Alike m m′ → Leads names → (p : Piece) (held : List ℕ) →
-        evaluatePiece m names p held ≡ evaluatePiece m′ names p held
-    unfolding evaluatePiece
-    piece-same m m′ names g h (literal v) held = refl
-    piece-same m m′ names g h (valueOf n) held = rw (g .shown (addressOf names n) (h .to n))
-    piece-same m m′ names g h (writtenMark n) held = rw (g .shown (addressOf names n) (h .to n))
-    piece-same m m′ names g h plus held = refl
-    piece-same m m′ names g h minus held = refl
-    piece-same m m′ names g h times held = refl
-    piece-same m m′ names g h less held = refl
-
-    pieces-same : (m m′ : List Variable) (names : List ℕ) → Alike m m′ → Leads names → (ps : List Piece) (held : List ℕ) →
-        evaluatePieces m names ps held ≡ evaluatePieces m′ names ps held
-    unfolding evaluatePieces
-    pieces-same m m′ names g h [] held = refl
-    pieces-same m m′ names g h (p ∷ ps) held = pieces-same m m′ names g h ps _ ∙ ap (evaluatePieces m′ names ps) (piece-same m m′ names g h p held)
+    pub named-same : (m m′ : List Variable) (names : List ℕ) → Alike m m′ → Leads names → namedIn m names ≡ namedIn m′ names
+    named-same m m′ names g h = fun-ext λ n. g .shown (addressOf names n) (h .to n)
 
     pub evaluate-same : (m m′ : List Variable) (names : List ℕ) → Alike m m′ → Leads names → (e : List Piece) → evaluate m names e ≡ evaluate m′ names e
     unfolding evaluate
-    evaluate-same m m′ names g h e = ap top (pieces-same m m′ names g h e [])
+    evaluate-same m m′ names g h e = ap (λ (name : ℕ → Variable). evaluateBy name e) (named-same m m′ names g h)
 
     pub anyWritten-same : (m m′ : List Variable) (names : List ℕ) → Alike m m′ → Leads names → (ns : List ℕ) →
         anyWritten m names ns ≡ anyWritten m′ names ns
@@ -191,7 +177,7 @@ module _ (zone : Zone) where
 
     -- ── writes and waiting writes ─────────────────────────────────────────────────────────────────
     pub write-alike : (m m′ : List Variable) (a v v′ : ℕ) → In a → Alike m m′ → v ≡ v′ → Alike (writeAt m a v) (writeAt m′ a v′)
-    unfolding writeAt variableAt
+    unfolding writeAt variableAt writtenTo
     write-alike m m′ a v v′ h g e = set-alike m m′ a _ _ g (rw (e, g .shown a h)) (getD-not-before (suc now) m a (g .later))
 
     positive-is-later : (d : ℕ) → isPositive d ≡ true → suc now ≤ now + d
@@ -203,26 +189,16 @@ module _ (zone : Zone) where
 
     pub schedule-alike : (m m′ : List Variable) (a d v : ℕ) → isPositive d ≡ true → In a → Alike m m′ →
         Alike (scheduleAt m a (now + d) v) (scheduleAt m′ a (now + d) v)
-    unfolding scheduleAt dueOf
+    unfolding scheduleAt dueOf scheduledOn
     schedule-alike m m′ a d v p h g = set-alike m m′ a _ _ g (rw (g .shown a h)) (due-from (positive-is-later d p))
 
     -- ── new routines ──────────────────────────────────────────────────────────────────────────────
-    pub own-same : (m m′ : List Variable) → Alike m m′ → (kinds : List Kind) (passed : List ℕ) → AllIn passed → (locals : ℕ) →
-        ownVariables kinds passed locals m ≡ ownVariables kinds passed locals m′
-    unfolding ownVariables
-    own-same m m′ g [] passed h locals = refl
-    own-same m m′ g (byReference ∷ kinds) _ none-passed locals = own-same m m′ g kinds [] none-passed locals
-    own-same m m′ g (byReference ∷ kinds) _ (one-passed i h) locals = own-same m m′ g kinds _ h locals
-    own-same m m′ g (byValue ∷ kinds) _ none-passed locals = ap (λ l. fresh 0 ∷ l) (own-same m m′ g kinds [] none-passed locals)
-    own-same m m′ g (byValue ∷ kinds) _ (one-passed {a = a} {passed = passed} i h) locals =
-        rw (g .shown a i, own-same m m′ g kinds passed h locals)
-
-    pub own-later : (m : List Variable) (kinds : List Kind) (passed : List ℕ) (locals : ℕ) →
-        NotBefore (suc now) (dueOfVariables (ownVariables kinds passed locals m))
-    unfolding ownVariables dueOfVariables dueOf fresh earlier
-    own-later m [] passed zero = nothing-due
-    own-later m [] passed (suc locals) = own-later m [] passed locals
-    own-later m (byReference ∷ kinds) [] locals = own-later m kinds [] locals
-    own-later m (byReference ∷ kinds) (a ∷ passed) locals = own-later m kinds passed locals
-    own-later m (byValue ∷ kinds) [] locals = own-later m kinds [] locals
-    own-later m (byValue ∷ kinds) (a ∷ passed) locals = own-later m kinds passed locals
+    pub own-later : (kinds : List Kind) (arguments : List ℕ) (locals : ℕ) (name : ℕ → Variable) →
+        NotBefore (suc now) (dueOfVariables (ownVariables kinds arguments locals name))
+    unfolding ownVariables dueOfVariables dueOf newVariable earlier
+    own-later [] arguments zero name = nothing-due
+    own-later [] arguments (suc locals) name = own-later [] arguments locals name
+    own-later (byReference ∷ kinds) [] locals name = own-later kinds [] locals name
+    own-later (byReference ∷ kinds) (n ∷ arguments) locals name = own-later kinds arguments locals name
+    own-later (byValue ∷ kinds) [] locals name = own-later kinds [] locals name
+    own-later (byValue ∷ kinds) (n ∷ arguments) locals name = own-later kinds arguments locals name

@@ -9,7 +9,7 @@ use native.Mathlib.Omega.{arith}
 use lib.Dec.{leb}
 use lib.ListN.{length, replicate, length-replicate, length-append}
 use Rattle.listing.specs.Listing.{Listing, Call, Kind, byReference, fork, end}
-use Rattle.walk.specs.State.{Variable, fresh, node, Forest, empty, more, _⊕_, State, Running, Turn, ok, withMemory, withLeft, withLive, frame}
+use Rattle.walk.specs.State.{Variable, node, Forest, empty, more, _⊕_, State, Running, Turn, ok, withMemory, withLeft, withLive, frame, noVariable, newVariable}
 use Rattle.walk.specs.Memory.{addressOf, addressesOf, consecutive, bindNames, ownVariables}
 use Rattle.walk.specs.Walk.{routineAt, instructionAt, newRoutine, newRoutines, childCount, enter, forks, asking, move, Runner, inTurn, begin, carryOut, execute, step, run}
 use Rattle.walk.specs.Instant.{earlier, dueOf, dueOfVariables, Done, environmentSize, mainCall, environmentNames, start, atStart}
@@ -78,21 +78,21 @@ module _ (listing : Listing) (growers : List Call) (names : List ℕ) (base : �
 
 -- Main's memory at the start, and that nothing is due in it.
 unfoldable pub newMemory : ℕ → ℕ → List Variable
-newMemory size locals = replicate size (fresh 0) ++ replicate locals (fresh 0)
+newMemory size locals = replicate size (newVariable 0) ++ replicate locals (newVariable 0)
 
 length-new : (size locals : ℕ) → length (newMemory size locals) ≡ size + locals
 unfolding newMemory
-length-new size locals = length-append (replicate size (fresh 0)) (replicate locals (fresh 0)) ∙
-    ap₂ _+_ (length-replicate size (fresh 0)) (length-replicate locals (fresh 0))
+length-new size locals = length-append (replicate size (newVariable 0)) (replicate locals (newVariable 0)) ∙
+    ap₂ _+_ (length-replicate size (newVariable 0)) (length-replicate locals (newVariable 0))
 
-fresh-later : (n t : ℕ) → NotBefore t (dueOfVariables (replicate n (fresh 0)))
-unfolding dueOfVariables dueOf fresh earlier
+fresh-later : (n t : ℕ) → NotBefore t (dueOfVariables (replicate n (newVariable 0)))
+unfolding dueOfVariables dueOf noVariable newVariable earlier
 fresh-later zero t = nothing-due
 fresh-later (suc n) t = fresh-later n t
 
 new-later : (size locals t : ℕ) → NotBefore t (dueOfVariables (newMemory size locals))
 unfolding newMemory
-new-later size locals t = append-not-before t (replicate size (fresh 0)) (replicate locals (fresh 0)) (fresh-later size t) (fresh-later locals t)
+new-later size locals t = append-not-before t (replicate size (newVariable 0)) (replicate locals (newVariable 0)) (fresh-later size t) (fresh-later locals t)
 
 -- ── the start on a listing whose main is as stated ────────────────────────────────────────────────
 record Starts (listing : Listing) (growers : List Call) (size locals : ℕ) (d : Done) : Type 0 where
@@ -100,21 +100,20 @@ record Starts (listing : Listing) (growers : List Call) (size locals : ℕ) (d :
   forks : Forks listing growers (consecutive (size + locals) 0) size (newMemory size locals) x
   leaves : Leaves listing 0 x d
 
-begin-main : (listing : Listing) (go : Runner) (kinds : List Kind) (passed : List ℕ) (size locals : ℕ)
+begin-main : (listing : Listing) (go : Runner) (kinds : List Kind) (passed arguments : List ℕ) (size locals : ℕ) (name : ℕ → Variable)
     (s : Running) → kinds ≡ replicate size byReference →
-    passed ≡ addressesOf (consecutive size 0) (consecutive size 0) → s .memory ≡ replicate size (fresh 0) →
-    begin go 0 (node 0 0 (bindNames kinds passed locals (length (s .memory))) (ownVariables kinds passed locals (s .memory)) empty) s ≡
+    passed ≡ addressesOf (consecutive size 0) (consecutive size 0) → s .memory ≡ replicate size (newVariable 0) →
+    begin go 0 (node 0 0 (bindNames kinds passed locals (length (s .memory))) (ownVariables kinds arguments locals name) empty) s ≡
     go (frame 0 0 0 (consecutive (size + locals) 0) size) (withMemory s (newMemory size locals))
 unfolding begin enter newMemory
-begin-main listing go kinds passed size locals s k p m =
+begin-main listing go kinds passed arguments size locals name s k p m =
     rw (
       k,
       p,
       m,
-      length-replicate size (fresh 0),
+      length-replicate size (newVariable 0),
       main-bound size locals,
-      main-owns size
-          (addressesOf (consecutive size 0) (consecutive size 0)) locals (replicate size (fresh 0)),
+      main-owns size arguments locals name,
     )
 
 starts : (listing : Listing) (growers : List Call) (allowance : ℕ) (d : Done) → instructionAt listing 0 0 ≡ fork growers →
@@ -125,9 +124,9 @@ unfolding start newRoutine mainCall environmentNames
 starts listing growers allowance d at-fork then-ends kinds e =
     let size = environmentSize listing in
     let r : Running = atStart listing allowance in
-    let q = in-sequence (begin (run listing 0 allowance) 0 (newRoutine listing (replicate size (fresh 0)) (environmentNames listing)
+    let q = in-sequence (begin (run listing 0 allowance) 0 (newRoutine listing (replicate size (newVariable 0)) (environmentNames listing)
     (mainCall listing)) r) _ d e in
-    let began = begin-main listing (run listing 0 allowance) ((routineAt listing 0) .kinds) _ size ((routineAt listing 0) .locals) r kinds refl refl in
+    let began = begin-main listing (run listing 0 allowance) ((routineAt listing 0) .kinds) _ _ size ((routineAt listing 0) .locals) _ r kinds refl refl in
     record {
       x = q .a;
       forks = main-forks listing growers _ size at-fork then-ends allowance _ (q .a) (sym began ∙ q .came);
@@ -176,7 +175,7 @@ module _ (g : Grower) (listing : Listing) where
   mine-new =
       let passed = passed-in (mine g) (mainNames g) (args g) my-name in
       more-new (is-new its-own (bound-leads (mine g) _ _ _ (length (mainMemory g)) passed (omega (arith, long-new)))
-      (own-later (mine g) 0 (mainMemory g) _ _ _)) none-new
+      (own-later (mine g) 0 _ _ _ _)) none-new
 
   theirs-new : (ds : List Call) → Aside (args g) ds → AllNew (theirs g) (anyone listing) 0 (newRoutines listing (mainMemory g) (mainNames g) ds)
   unfolding newRoutines newRoutine
@@ -184,7 +183,7 @@ module _ (g : Grower) (listing : Listing) where
   theirs-new _ (one-aside {d = d} {cs = ds} h k) =
       let passed = passed-in (theirs g) (mainNames g) (d .arguments) (λ n e. their-name n (h n e)) in
       more-new (is-new tt (bound-leads (theirs g) _ _ _ (length (mainMemory g)) passed (omega (arith, long-new)))
-      (own-later (theirs g) 0 (mainMemory g) _ _ _))
+      (own-later (theirs g) 0 _ _ _ _))
       (theirs-new ds k)
 
   -- ── what the start leaves ─────────────────────────────────────────────────────────────────────

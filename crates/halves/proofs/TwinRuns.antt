@@ -14,7 +14,7 @@ use Rattle.walk.specs.Memory.{writeAt, scheduleAt, addressOf, addressesOf, eval
 use Rattle.walk.specs.Walk.{routineAt, instructionAt, instructionOf, newRoutine, newRoutines, enter, Runner, begin, Move, goesTo, sleeps, forks, ends, stops, asking, move, carryOut, execute, step, run, passedWait, wake, resume, visit, visitForest}
 use Rattle.walk.specs.Instant.{dueOfVariables, dueOfNode, dueOfForest}
 use Rattle.halves.proofs.Due.{NotBefore, nothing-due, neither-before}
-use Rattle.halves.proofs.Reach.{Zone, append-alike, evaluate-same, anyWritten-same, write-alike, schedule-alike, own-same, own-later, bound-leads, addresses-in, kept-refl, kept-then, write-keeps, schedule-keeps, append-keeps}
+use Rattle.halves.proofs.Reach.{Zone, append-alike, evaluate-same, anyWritten-same, write-alike, schedule-alike, named-same, own-later, bound-leads, addresses-in, kept-refl, kept-then, write-keeps, schedule-keeps, append-keeps}
 use Rattle.halves.proofs.Twin as Twin
 use Rattle.halves.proofs.Twin.{Both, first-stopped, second-stopped, both-went, both-then, AllIts, no-child, one-child, Code, Has, waits, more-asleep, is-new, none-new, more-new, from-before, sleep-twins, leave-twins, nobody-twins, then-twins, inTurn-twins, begin-twins, join-twins, parts-asleep, placed-at}
 
@@ -64,7 +64,7 @@ module _ (zone : Zone) (code : Code) (now : ℕ) where
     unfolding newRoutines newRoutine
     children-new m names _ h l no-child = none-new
     children-new m names _ h l (one-child {c = c} {cs = cs} i k) =
-        more-new (is-new i (bound-leads zone _ _ _ (length m) (addresses-in zone names h (c .arguments)) l) (own-later zone now m _ _ _))
+        more-new (is-new i (bound-leads zone _ _ _ (length m) (addresses-in zone names h (c .arguments)) l) (own-later zone now _ _ _ _))
         (children-new m names cs h l k)
 
     children-same : (m m′ : List Variable) (names : List ℕ) (cs : List Call) → Alike m m′ → Leads names → AllIts Its cs →
@@ -77,7 +77,7 @@ module _ (zone : Zone) (code : Code) (now : ℕ) where
           children-same m m′ names cs g h k,
           sym (has (c .callee) i) ∙ has′ (c .callee) i,
           g .long,
-          own-same zone now m m′ g (called .kinds) (addressesOf names (c .arguments)) (addresses-in zone names h (c .arguments)) (called .locals),
+          named-same zone now m m′ names g h,
         )
 
     -- ── one instruction ─────────────────────────────────────────────────────────────────────────

@@ -6,13 +6,12 @@ use mathlib.Core.List.{List, [], _∷_}
 use Prim.Native.Nat.{ℕ, zero, suc, _+_, _*_, _≤_, _<_, min}
 use native.Mathlib.Decide.{ℕ-discrete}
 use native.Mathlib.Omega.{arith}
-use Rattle.walk.specs.State.{Variable}
-use Rattle.walk.specs.Instant.{dueWrite, dueWrites}
+use Rattle.walk.specs.State.{Variable, madeDue, dueWrite}
+use Rattle.walk.specs.Instant.{dueWrites}
 use Rattle.scheduler.specs.Rows.{Row, withOwn}
 use Rattle.scheduler.specs.Beginning.{ownIf}
 use Rattle.blocks.specs.Tabulate.{tabulateFrom}
 use Rattle.blocks.specs.Blocks.{Block, nonzero, variableIn, variablesIn, bindingsIn, rowAt}
-use Rattle.blocks.specs.Store.{dueVariable}
 use Rattle.blocks.specs.Changes.{dueBlock}
 use Rattle.blocks.proofs.Tabulated.{tabulate-same}
 use Rattle.blocks.proofs.RowChanges.{variable-same, bindings-same}
@@ -52,20 +51,20 @@ module _ (b : Block) (t : ℕ) where
       variable-same b (dueFirst c t b) i (later-word c i 8 h l (omega arith) (omega arith)) (later-word c i 9 h l (omega arith) (omega arith))
       (later-word c i 10 h l (omega arith) (omega arith)) (later-word c i 11 h l (omega arith) (omega arith)) (later-mark c i h l)
 
-  pub done-variable : 0 < t → (c i : ℕ) → c ≤ 16 → i < c → variableIn (dueFirst c t b) i ≡ dueVariable t (variableIn b i)
+  pub done-variable : 0 < t → (c i : ℕ) → c ≤ 16 → i < c → variableIn (dueFirst c t b) i ≡ madeDue t (variableIn b i)
   unfolding dueFirst
   done-variable pos zero i l h = absurd (let z : ⊥ = omega arith in z)
   done-variable pos (suc c) i l h = go (ℕ-discrete i c) (λ g. done-variable pos c i (omega arith) g)
     where
-      go : Dec (i ≡ c) → (i < c → variableIn (dueFirst c t b) i ≡ dueVariable t (variableIn b i)) → variableIn (dueBlock c t (dueFirst c t b)) i ≡ dueVariable t (variableIn b i)
-      go (yes e) earlier = rw e (due-variable (dueFirst c t b) c l t pos ∙ ap (dueVariable t) (later-variable c c (omega arith) (omega arith)))
+      go : Dec (i ≡ c) → (i < c → variableIn (dueFirst c t b) i ≡ madeDue t (variableIn b i)) → variableIn (dueBlock c t (dueFirst c t b)) i ≡ madeDue t (variableIn b i)
+      go (yes e) earlier = rw e (due-variable (dueFirst c t b) c l t pos ∙ ap (madeDue t) (later-variable c c (omega arith) (omega arith)))
       go (no n) earlier = other-variable (dueFirst c t b) (dueBlock c t (dueFirst c t b)) c l (due-within (dueFirst c t b) c l t) i (omega arith) n ∙ earlier (omega arith)
 
 -- ── the list of variables ─────────────────────────────────────────────────────────────────────────
-due-tabulated : (t i n : ℕ) (f : ℕ → Variable) → dueWrites t (tabulateFrom i n f) ≡ tabulateFrom i n (λ j. dueVariable t (f j))
-unfolding dueWrites tabulateFrom dueVariable
+due-tabulated : (t i n : ℕ) (f : ℕ → Variable) → dueWrites t (tabulateFrom i n f) ≡ tabulateFrom i n (λ j. madeDue t (f j))
+unfolding dueWrites tabulateFrom
 due-tabulated t i zero f = refl
-due-tabulated t i (suc n) f = ap (λ (l : List Variable). dueWrite t ((f i) .value) ((f i) .waiting) ∷ l) (due-tabulated t (suc i) n f)
+due-tabulated t i (suc n) f = ap (λ (l : List Variable). madeDue t (f i) ∷ l) (due-tabulated t (suc i) n f)
 
 pub due-variables : (b : Block) (t n : ℕ) → 0 < t → variablesIn (dueFirst (min n 16) t b) n ≡ dueWrites t (variablesIn b n)
 unfolding variablesIn

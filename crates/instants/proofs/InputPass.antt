@@ -8,12 +8,11 @@ use native.Mathlib.Numerals.{add-one}
 use native.Mathlib.Omega.{arith}
 use lib.ListN.{length, getD, drop}
 use lib.Seq.{drop-cons, drop-length}
-use Rattle.walk.specs.State.{Variable}
-use Rattle.walk.specs.Memory.{variableAt, writeAt}
+use Rattle.walk.specs.State.{Variable, writtenTo, inputTo}
+use Rattle.walk.specs.Memory.{variableAt, inputAt}
 use Rattle.walk.specs.Instant.{Write, applyInputs}
 use Rattle.walk.specs.Calls.{inputsOf}
 use Rattle.scheduler.specs.Rows.{variableOf, rowsWith, environmentWith}
-use Rattle.scheduler.specs.Engine.{assigned}
 use Rattle.blocks.specs.Blocks.{Block, block, ownerAt, rowsOf, environmentOf}
 use Rattle.blocks.specs.Store.{Store, storeOf, variableFrom, withVariable}
 use Rattle.blocks.specs.Changes.{SameOutside, SameTriggers, InBlock, Changes, assignedBlock}
@@ -34,12 +33,12 @@ inputs-begun ns vs m =
     record { rows = refl; environment = λ n. refl; outside = outside-start m; triggers = triggers-start m; tidy = λ n h w. w }
 
 -- One input as the change of an environment variable.
-rows-assigned : (store : Store) (i v : ℕ) → (withVariable (ownerAt 64 i) (λ x. assigned x v) store) .rows ≡ store .rows
+rows-assigned : (store : Store) (i v : ℕ) → (withVariable (ownerAt 64 i) (λ x. writtenTo x v) store) .rows ≡ store .rows
 unfolding withVariable ownerAt rowsWith
 rows-assigned store i v = refl
 
-environment-assigned : (store : Store) (i v : ℕ) → (withVariable (ownerAt 64 i) (λ x. assigned x v) store) .environment ≡ writeAt (store .environment) i v
-unfolding withVariable ownerAt environmentWith variableFrom variableOf assigned writeAt
+environment-assigned : (store : Store) (i v : ℕ) → (withVariable (ownerAt 64 i) (λ x. writtenTo x v) store) .environment ≡ inputAt (store .environment) i v
+unfolding withVariable ownerAt environmentWith variableFrom variableOf inputTo writtenTo inputAt
 environment-assigned store i v = refl
 
 rows-of-store : (n : ℕ) (m : List ℕ) → (storeOf n m) .rows ≡ rowsOf m
@@ -50,16 +49,16 @@ environment-of-store : (n : ℕ) (m : List ℕ) → (storeOf n m) .environment �
 unfolding storeOf
 environment-of-store n m = refl
 
-inputs-cons : (n v : ℕ) (ns vs : List ℕ) (e : List Variable) → applyInputs (inputsOf (n ∷ ns) (v ∷ vs)) e ≡ applyInputs (inputsOf ns vs) (writeAt e n v)
+inputs-cons : (n v : ℕ) (ns vs : List ℕ) (e : List Variable) → applyInputs (inputsOf (n ∷ ns) (v ∷ vs)) e ≡ applyInputs (inputsOf ns vs) (inputAt e n v)
 unfolding applyInputs inputsOf
 inputs-cons n v ns vs e = refl
 
 module _ (ns vs : List ℕ) (k : ℕ) {a m m′ : List ℕ} (l : k < length ns) (same : length ns ≡ length vs) (done : InputsSoFar ns vs k a m)
-    (next : Changes 64 m m′ (assignedBlock (getD ns k 0) (getD vs k 0) (block m 64)) (withVariable (ownerAt 64 (getD ns k 0)) (λ x. assigned x (getD vs k 0)))) where
-  input-written : (n : ℕ) → environmentOf n m′ ≡ writeAt (environmentOf n m) (getD ns k 0) (getD vs k 0)
+    (next : Changes 64 m m′ (assignedBlock (getD ns k 0) (getD vs k 0) (block m 64)) (withVariable (ownerAt 64 (getD ns k 0)) (λ x. writtenTo x (getD vs k 0)))) where
+  input-written : (n : ℕ) → environmentOf n m′ ≡ inputAt (environmentOf n m) (getD ns k 0) (getD vs k 0)
   input-written n =
       sym (environment-of-store n m′) ∙ (ap (λ (x : Store). x .environment) (next .store n) ∙ (environment-assigned (storeOf n m) (getD ns k 0) (getD vs k 0)
-      ∙ ap (λ (e : List Variable). writeAt e (getD ns k 0) (getD vs k 0)) (environment-of-store n m)))
+      ∙ ap (λ (e : List Variable). inputAt e (getD ns k 0) (getD vs k 0)) (environment-of-store n m)))
 
   inputs-left : (n : ℕ) → applyInputs (inputsOf (drop (k + 1) ns) (drop (k + 1) vs)) (environmentOf n m′) ≡ applyInputs (inputsOf (drop k ns) (drop k vs)) (environmentOf n m)
   inputs-left n =

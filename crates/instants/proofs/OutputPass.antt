@@ -8,7 +8,7 @@ use native.Mathlib.Numerals.{add-one}
 use native.Mathlib.Omega.{arith}
 use lib.ListN.{length, getD, drop, set, length-append}
 use lib.Seq.{drop-cons, drop-length}
-use Rattle.walk.specs.State.{Variable, fresh}
+use Rattle.walk.specs.State.{Variable, noVariable}
 use Rattle.walk.specs.Instant.{Write, listedIf, writtenFrom}
 use Rattle.blocks.specs.Blocks.{Block, block, variableIn, variablesIn, environmentOf}
 use Rattle.blocks.proofs.Tabulated.{getD-tabulate, length-tabulate}
@@ -48,17 +48,17 @@ snoc-put f ws w l h =
     rw (map-snoc f ws w, length-snoc ws w) (rw e at p)
 
 written-next : (e : List Variable) (i : ℕ) → i < length e →
-    writtenFrom i (drop i e) ≡ listedIf ((getD e i (fresh 0)) .written) i ((getD e i (fresh 0)) .value) (writtenFrom (suc i) (drop (suc i) e))
+    writtenFrom i (drop i e) ≡ listedIf ((getD e i noVariable) .written) i ((getD e i noVariable) .value) (writtenFrom (suc i) (drop (suc i) e))
 unfolding writtenFrom
-written-next e i h = rw (drop-cons e i (fresh 0) h)
+written-next e i h = rw (drop-cons e i noVariable h)
 
 length-environment : (n : ℕ) (m : List ℕ) → n ≤ 16 → length (environmentOf n m) ≡ n
 unfolding environmentOf variablesIn
 length-environment n m h = length-tabulate 0 (min n 16) (variableIn (block m 64)) ∙ (let q : min n 16 ≡ n = omega arith in q)
 
-environment-at : (n : ℕ) (m : List ℕ) (i : ℕ) → n ≤ 16 → i < n → getD (environmentOf n m) i (fresh 0) ≡ variableIn (block m 64) i
+environment-at : (n : ℕ) (m : List ℕ) (i : ℕ) → n ≤ 16 → i < n → getD (environmentOf n m) i noVariable ≡ variableIn (block m 64) i
 unfolding environmentOf variablesIn
-environment-at n m i h l = getD-tabulate (min n 16) (variableIn (block m 64)) i (fresh 0) (omega arith)
+environment-at n m i h l = getD-tabulate (min n 16) (variableIn (block m 64)) i noVariable (omega arith)
 
 pub none-listed : (e : List Variable) (i : ℕ) (ns vs : List ℕ) → ListedSoFar (writtenFrom i (drop i e)) e i ns vs ns vs 0
 none-listed e i ns vs = record { ws = []; whole = refl; listed = record { count = refl; numbers = refl; values = refl }; few = omega arith }

@@ -10,7 +10,7 @@ use lib.ListN.{length, getD, set, length-set}
 use lib.Seq.{getD-set-same}
 use borrow.Author.Tests.{lt-ltb, le-ltb}
 use Rattle.listing.specs.Listing.{Listing}
-use Rattle.walk.specs.State.{Variable, fresh}
+use Rattle.walk.specs.State.{Variable, noVariable}
 use Rattle.walk.specs.Memory.{variableAt}
 use Rattle.scheduler.specs.Ready.{insert, insertAll}
 use Rattle.scheduler.specs.Rows.{Owner, inEnvironment, inSlot, Row, Rows, freeRow, withOwn, variableOf, rowsWith, environmentWith}
@@ -43,13 +43,13 @@ insert-append rows (s ∷ a) b l = insert-append rows a b (insert rows s l)
 read-back : (store : Store) (p : Owner) (x : Variable) (i : ℕ) → p ≡ inEnvironment i → i < length (store .environment) →
     variableOf (rowsWith (store .rows) p x) (environmentWith p (store .environment) x) p ≡ x
 unfolding variableOf environmentWith variableAt
-read-back store p x i e h = rw e (getD-set-same (store .environment) i x (fresh 0) h)
+read-back store p x i e h = rw e (getD-set-same (store .environment) i x noVariable h)
 
 read-back-slot : (store : Store) (p : Owner) (x : Variable) (s i : ℕ) → p ≡ inSlot s i → i < length ((store .rows s) .own) →
     variableOf (rowsWith (store .rows) p x) (environmentWith p (store .environment) x) p ≡ x
 unfolding variableOf rowsWith variableAt withOwn
 read-back-slot store p x s i e h =
-    rw (e, with-row-same (store .rows) s (withOwn (store .rows s) (set ((store .rows s) .own) i x))) (getD-set-same ((store .rows s) .own) i x (fresh 0) h)
+    rw (e, with-row-same (store .rows) s (withOwn (store .rows s) (set ((store .rows s) .own) i x))) (getD-set-same ((store .rows s) .own) i x noVariable h)
 
 module _ (store : Store) (s i : ℕ) (low : s ≤ 64) (inside : i < length (variablesBeside store (ownerAt s i))) (x : Variable) where
   back : variableOf (rowsWith (store .rows) (ownerAt s i) x) (environmentWith (ownerAt s i) (store .environment) x) (ownerAt s i) ≡ x

@@ -9,14 +9,13 @@ use native.Mathlib.Numerals.{add-one}
 use native.Mathlib.Omega.{arith}
 use lib.ListN.{length}
 use borrow.Author.Tests.{lt-ltb}
-use Rattle.walk.specs.State.{Variable}
+use Rattle.walk.specs.State.{Variable, writtenTo, madeDue}
 use Rattle.scheduler.specs.Rows.{Owner, Row, rowsWith}
-use Rattle.scheduler.specs.Engine.{assigned}
 use Rattle.scheduler.specs.Ready.{insertAll}
 use Rattle.blocks.specs.Blocks.{Block, block, variableIn, ownerAt, rowAt, rowsOf, environmentOf}
 use Rattle.variables.specs.Bindings.{variablesBeside}
 use Rattle.blocks.specs.Changes.{InBlock, Changes, dueBlock, assignedBlock}
-use Rattle.blocks.specs.Store.{Store, storeOf, variableFrom, withVariable, dueVariable}
+use Rattle.blocks.specs.Store.{Store, storeOf, variableFrom, withVariable}
 use Rattle.variables.proofs.Readings.{variable-of, length-variables}
 use Rattle.blocks.proofs.RowChanges.{row-of}
 use Rattle.variables.proofs.VariableBlocks.{due-variable}
@@ -82,7 +81,7 @@ pub none-due-yet : (s count t : ℕ) (m q : List ℕ) → Ordered (rowsOf m) q �
 none-due-yet s count t m q o = record { words = no-variable-done t m s; order = o; reaches = λ n h u. reaches-none n m q }
 
 module _ (s count t i : ℕ) (low : s ≤ 64) (few : count ≤ 16) (pos : 0 < t) (l : i < count) {a m m′ q₀ q q′ : List ℕ} (done : DueSoFar s count t i a m q₀ q)
-    (C : Changes s m m′ (dueBlock i t (block m s)) (withVariable (ownerAt s i) (λ x. dueVariable t x))) (O : ReachesOne m′ s i q q′) where
+    (C : Changes s m m′ (dueBlock i t (block m s)) (withVariable (ownerAt s i) (λ x. madeDue t x))) (O : ReachesOne m′ s i q q′) where
   due-reaches : (n : ℕ) → count ≤ length (variablesBeside (storeOf n a) (ownerAt s 0)) → Unwritten count (block a s) → Reaches n m m′ q q′
   due-reaches n long u =
       let four : block m s 4 ≡ block a s 4 = ap (λ (b : Block). b 4) (done .words .words) ∙ first-words-stay (block a s) t i 4 (omega arith) (omega arith) in
@@ -92,9 +91,9 @@ module _ (s count t i : ℕ) (low : s ≤ 64) (few : count ≤ 16) (pos : 0 < t)
       let before : variableIn (block m s) i ≡ variableIn (block a s) i =
       ap (λ (b : Block). variableIn b i) (done .words .words) ∙ later-variable (block a s) t i i (omega arith) (omega arith) in
       let off : (variableFrom (storeOf n m) (ownerAt s i)) .written ≡ false = ap (λ (x : Variable). x .written) (read ∙ before) ∙ u .none i l in
-      let then : variableIn (block m′ s) i ≡ dueVariable t (variableFrom (storeOf n m) (ownerAt s i)) =
-      ap (λ (b : Block). variableIn b i) (C .inBlock .words) ∙ (due-variable (block m s) i (omega arith) t pos ∙ ap (dueVariable t) (sym read)) in
-      reaches-one n m m′ s i (λ x. dueVariable t x) low (omega arith) (C .store n) (C .triggers) inside
+      let then : variableIn (block m′ s) i ≡ madeDue t (variableFrom (storeOf n m) (ownerAt s i)) =
+      ap (λ (b : Block). variableIn b i) (C .inBlock .words) ∙ (due-variable (block m s) i (omega arith) t pos ∙ ap (madeDue t) (sym read)) in
+      reaches-one n m m′ s i (λ x. madeDue t x) low (omega arith) (C .store n) (C .triggers) inside
       (λ on. absurd (let z : _≡_ {A = Bool} true false = sym on ∙ off in let w : _≡_ {A = ℕ} 0 1 = cc in let v : ⊥ = omega arith in v)) q q′
       ((variableIn (block m′ s) i) .written) (ap (λ (x : Variable). x .written) then) (O .slots)
 
@@ -144,15 +143,15 @@ all-reach n t {m = m} few slots first outer N =
     reaches-then (first n N) (outer n (omega arith) (rw (slots .others 64 (omega arith) (omega arith)) (N .environment)))
 
 -- ── an input ──────────────────────────────────────────────────────────────────────────────────────
-assigned-marks : (x : Variable) (v : ℕ) → (assigned x v) .written ≡ true
-unfolding assigned
+assigned-marks : (x : Variable) (v : ℕ) → (writtenTo x v) .written ≡ true
+unfolding writtenTo
 assigned-marks x v = refl
 
-pub input-reaches : (n i v : ℕ) {m m′ q q′ : List ℕ} → i < 16 → i < n → Changes 64 m m′ (assignedBlock i v (block m 64)) (withVariable (ownerAt 64 i) (λ x. assigned x v)) →
+pub input-reaches : (n i v : ℕ) {m m′ q q′ : List ℕ} → i < 16 → i < n → Changes 64 m m′ (assignedBlock i v (block m 64)) (withVariable (ownerAt 64 i) (λ x. writtenTo x v)) →
     q′ ≡ insertAll (rowsOf m′) (triggeredFrom (rowsOf m′) 0 (triggersAt m′ 64 i)) q → Reaches n m m′ q q′
 unfolding reachedIf
 input-reaches n i v {m} {m′} {q} {q′} few l C e =
     let size = port-length n m i in
     let x = variableFrom (storeOf n m) (ownerAt 64 i) in
-    reaches-one n m m′ 64 i (λ x. assigned x v) (omega arith) few (C .store n) (C .triggers) (omega arith) (λ on. assigned-marks x v) q q′ true
+    reaches-one n m m′ 64 i (λ x. writtenTo x v) (omega arith) few (C .store n) (C .triggers) (omega arith) (λ on. assigned-marks x v) q q′ true
     (sym (assigned-marks x v)) e

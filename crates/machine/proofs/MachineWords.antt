@@ -9,7 +9,7 @@ use lib.Seq.{ext-getD}
 use borrow.Author.Tests.{lt-leb}
 use native.Mathlib.Omega.{arith}
 use Rattle.listing.specs.Listing.{Listing}
-use Rattle.walk.specs.State.{Variable, fresh, empty, liveInForest, State}
+use Rattle.walk.specs.State.{Variable, empty, liveInForest, State, newVariable}
 use Rattle.walk.specs.Memory.{consecutive}
 use Rattle.walk.specs.Instant.{environmentSize, environmentNames, mainCall, nextDue}
 use Rattle.walk.specs.Question7.{allAtRest, atRest, dueAfter, no-more, ended, IsState}
@@ -45,7 +45,7 @@ halted-case false false k j t e = let z : _≡_ {A = ℕ} 0 1 = cc in absurd (le
 
 not-stopped : (w : List ℕ) → getD w 0 0 ≡ 0 → stoppedWords w ≡ false
 unfolding stoppedWords isStop
-not-stopped w e = rw (e, lt-leb 13 0 (omega arith))
+not-stopped w e = rw e
 
 -- ── what is read is a state, laid out at distinct slots ───────────────────────────────────────────
 -- The words are the layout of the state's records at slots of their own: they are determined by the state, the slot of
@@ -245,15 +245,15 @@ read-halted-is-the-stopped-form listing w k l e =
 
 -- ── all words 0: moment 0, main ended, all values 0, nothing waiting ──────────────────────────────
 unfoldable pub zeroState : Listing → State
-zeroState listing = record { now = 0; environment = replicate (environmentSize listing) (fresh 0); tree = empty }
+zeroState listing = record { now = 0; environment = replicate (environmentSize listing) (newVariable 0); tree = empty }
 
-fresh-rest : (n : ℕ) → allAtRest 0 (replicate n (fresh 0)) ≡ true
-unfolding allAtRest atRest fresh dueAfter
+fresh-rest : (n : ℕ) → allAtRest 0 (replicate n (newVariable 0)) ≡ true
+unfolding allAtRest atRest newVariable dueAfter
 fresh-rest zero = refl
 fresh-rest (suc n) = fresh-rest n
 
-fresh-words : (n j : ℕ) → getD (variablesWords (replicate n (fresh 0))) j 0 ≡ 0
-unfolding variablesWords fresh waitingValue waitingMoment
+fresh-words : (n j : ℕ) → getD (variablesWords (replicate n (newVariable 0))) j 0 ≡ 0
+unfolding variablesWords newVariable waitingValue waitingMoment
 fresh-words zero j = getD-nil j
 fresh-words (suc n) zero = refl
 fresh-words (suc n) (suc zero) = refl
@@ -267,7 +267,7 @@ zero-state : (listing : Listing) → IsState listing (zeroState listing)
 unfolding zeroState liveInForest
 zero-state listing = record {
   moment = omega arith;
-  size = length-replicate (environmentSize listing) (fresh 0);
+  size = length-replicate (environmentSize listing) (newVariable 0);
   resting = fresh-rest (environmentSize listing);
   tree = ended no-more;
   few = omega arith;
@@ -281,7 +281,7 @@ zero-header (suc (suc zero)) = refl
 zero-header (suc (suc (suc zero))) = refl
 zero-header (suc (suc (suc (suc j)))) = getD-nil j
 
-zero-outer : (n j : ℕ) → getD (environmentWords (replicate n (fresh 0))) j 0 ≡ 0
+zero-outer : (n j : ℕ) → getD (environmentWords (replicate n (newVariable 0))) j 0 ≡ 0
 unfolding environmentWords
 zero-outer n zero = refl
 zero-outer n (suc zero) = refl

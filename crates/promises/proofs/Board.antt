@@ -103,7 +103,7 @@ pub record WentThrough (listing : Listing) (allowance : ℕ) (o : Outcome) : Typ
 answered-0-is-done : {r : Result Done} → Answers.Answered r → outcomeNumber (answered r) ≡ 0 → (d : Done) × (answered r ≡ done d)
 unfolding answered outcomeNumber
 answered-0-is-done (Answers.done {a = d}) e = (d, refl)
-answered-0-is-done (Answers.stopped k low high) e = absurd (let z : ⊥ = omega arith in z)
+answered-0-is-done (Answers.stopped k h) e = absurd (let positive = Answers.stop-is-not-0 k h in let z : ⊥ = omega arith in z)
 
 ask-0-goes-on : (n : ℕ) (b : Bool) (next : Outcome) → outcomeNumber (ask (suc n) b next) ≡ 0 → ask (suc n) b next ≡ next
 unfolding ask outcomeNumber

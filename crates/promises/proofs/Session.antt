@@ -37,13 +37,9 @@ ask-stopped n k true next e = e
 ask-stopped n k false next e = absurd (never-equal n k e)
 
 pub answered-stopped : (k : ℕ) {r : Result Done} → Answers.Answered r → answered r ≡ stopped k → isStop k ≡ true
-unfolding answered isStop
+unfolding answered
 answered-stopped k Answers.done e = let z : _≡_ {A = ℕ} 0 1 = cc in absurd (omega arith)
-answered-stopped k (Answers.stopped j low high) e =
-    let q : j ≡ k = cc in
-    let a : 13 ≤ k = omega arith in
-    let b : k ≤ 17 = omega arith in
-    rw (le-leb 13 k a, le-leb k 17 b)
+answered-stopped k (Answers.stopped j h) e = let q : j ≡ k = cc in rw q at h
 
 module _ (listing : Listing) where
   pub instant-stops-numbered : (s : State) → IsState listing s → (t : ℕ) (inputs : List Write) (allowance k : ℕ) →

@@ -15,6 +15,7 @@ use Rattle.walk.specs.Question7.{IsState}
 use Rattle.walk.specs.Calls.{Words32, Layout, running, isStop, haltedWords, memoryWords, firstWords, laterWords}
 use Rattle.walk_laws.proofs.Booleans.{and-right}
 use Rattle.promises.specs.Exact.{ExactMachine, MachineWords}
+use Rattle.walk_laws.proofs.Answers.{stop-is-word}
 
 pub words-of-both : (xs ys : List ℕ) → Words32 xs → Words32 ys → Words32 (xs ++ ys)
 words-of-both [] ys a b k = b k
@@ -34,8 +35,8 @@ number-then k words h small zero = h
 number-then k words h small (suc j) = small j
 
 pub halted-are-words : (k : ℕ) → isStop k ≡ true → Words32 (haltedWords k)
-unfolding isStop haltedWords
-halted-are-words k h = let most : k ≤ 17 = leb-true k 17 (and-right (leb 13 k) (leb k 17) h) in number-then k (replicate 12287 0) (omega arith) (zeros-are-words 12287)
+unfolding haltedWords
+halted-are-words k h = number-then k (replicate 12287 0) (stop-is-word k h) (zeros-are-words 12287)
 
 -- A memory that is long enough can hold any state of the walk: words for it, and behind them what stood there.
 pub record Holding (layout : Layout) (listing : Listing) (before : List ℕ) (s : State) : Type 0 where

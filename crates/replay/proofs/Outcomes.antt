@@ -31,7 +31,7 @@ ask-numbered k l false next n = by-refusal l
 answer-numbered : (r : Result Done) → Answered r → Numbered (answered r)
 unfolding answered
 answer-numbered _ Answers.done = without
-answer-numbered _ (Answers.stopped k l m) = by-stop {k = k} (omega arith)
+answer-numbered _ (Answers.stopped k h) = by-stop {k = k} (Answers.stop-is-not-0 k h)
 
 pub start-numbered : (l : Listing) (allowance : ℕ) → Numbered (startOn l allowance)
 unfolding startOn

@@ -13,7 +13,6 @@ use Rattle.table.specs.Decode.{word, namesOf, sizeOf, tableListing}
 use Rattle.table.specs.Question6.{isTable}
 use Rattle.table.proofs.Bounds.{bounds}
 use Rattle.scheduler.specs.Rows.{Owner, Row, Rows}
-use Rattle.scheduler.specs.Engine.{chooseBits, fewestBits}
 use Rattle.scheduler.proofs.Place.{nil, Frame, memoryOf}
 use Rattle.scheduler.proofs.Held.{pathOf, rowFor, path-length}
 use Rattle.scheduler.proofs.Standing.{head-of}
@@ -41,16 +40,8 @@ use Rattle.run.specs.Placed.{GoesOn, Placed}
 use Rattle.run.proofs.Reaching.{ordered-of-rise, slots-of-order}
 use Rattle.run.proofs.ReadyLive.{live-few, ready-live}
 use Rattle.run.proofs.Parents.{parent-apart, parent-children}
-
-few-bits : (n : ℕ) → fewestBits n ≤ 3
-unfolding fewestBits chooseBits
-few-bits n = go (ltb 1 n) (ltb 2 n) (ltb 4 n)
-  where
-    go : (a b c : Bool) → chooseBits a b c ≤ 3
-    go false b c = omega arith
-    go true false c = omega arith
-    go true true false = omega arith
-    go true true true = omega arith
+use Rattle.words.specs.ForkBits.{forkBits}
+use Rattle.words.proofs.ForkBits.{fork-bits-are-at-most-three}
 
 module _ (t w : List ℕ) (n moment : ℕ) (triggers : Owner → List ℕ) (T : TableFits (tableListing t)) (left : ℕ) (u : Running) (table : isTable t ≡ true)
     (R : Reached (tableListing t) moment triggers T left (rowsOf w) (environmentOf n w) (slotsOf (u .ready)) (u .live) (u .woken) (u .me)) where
@@ -97,7 +88,7 @@ module _ (t w : List ℕ) (n moment : ℕ) (triggers : Owner → List ℕ) (T : 
               (parent-children (tableListing t) moment triggers T left (rowsOf w) (environmentOf n w) (slotsOf (u .ready)) (u .live) (u .woken) (u .me) R k e)),
         );
         divides = λ k few level.
-            let b = few-bits k in let c = bits-left in let d = bound-by .base in
+            let b = fork-bits-are-at-most-three k in let c = bits-left in let d = bound-by .base in
             record { level = level; base = omega arith; most = few; bits = omega arith; range = bound-by .priorities };
         counted = R .sound .used;
         room = bound-by .room;

@@ -7,18 +7,18 @@ use native.Mathlib.Omega.{arith}
 use lib.Dec.{eqb, ltb, leb}
 use Rattle.words.specs.Words.{isPositive}
 use Rattle.listing.specs.Listing.{Piece, Instruction, assign, schedule, branch, jump, wait, fork, end}
-use Rattle.walk.specs.State.{Variable}
+use Rattle.walk.specs.State.{Variable, writtenTo, scheduledOn}
 use Rattle.walk.specs.Walk.{instructionAt, childCount, branchPlace}
 use Rattle.table.specs.Decode.{word, sizeOf, namesOf, tableListing, instructionEntry, callsAt, headAfter}
 use Rattle.table.specs.Entry.{ChildStands}
 use Rattle.table.specs.Question6.{isTable}
 use Rattle.table.proofs.Entry.{fetched}
 use Rattle.scheduler.specs.Rows.{Owner, Row, Rows, withRow, atPlace, freeRow, rowsWith, ownerOf, variableOf, named}
-use Rattle.scheduler.specs.Engine.{assigned, scheduled, forkRows, executeRows}
-use Rattle.scheduler.specs.Expressions.{evaluateBy}
+use Rattle.scheduler.specs.Engine.{forkRows, executeRows}
 use Rattle.run.specs.Placed.{GoesOn, Placed}
 use Rattle.run.proofs.Keeping.{placed-on, placed-free, placed-variable, placed-count}
 use Rattle.run.proofs.Placing.{saying, KeptBy, go-kept, halt-kept, pop-kept, ended-kept, news-placed, same-routine, same-children}
+use Rattle.walk.specs.Memory.{evaluateBy}
 
 -- A number from 1 to 7.
 by-kind : {G : Type 0} (k : ℕ) → 1 ≤ k → k ≤ 7 → (k ≡ 1 → G) → (k ≡ 2 → G) → (k ≡ 3 → G) → (k ≡ 4 → G) → (k ≡ 5 → G) → (k ≡ 6 → G) → (k ≡ 7 → G) → G
@@ -53,7 +53,7 @@ module _ (t : List ℕ) (moment : ℕ) (triggers : Owner → List ℕ) (left : �
   assign-kept n e next =
       go-kept t left woken _ _ _ live woken me
       (changed-placed (ownerOf ((σ me) .bindings) n)
-      (assigned (variableOf σ environment (ownerOf ((σ me) .bindings) n)) (evaluateBy (named σ environment ((σ me) .bindings)) e)) next) (omega arith)
+      (writtenTo (variableOf σ environment (ownerOf ((σ me) .bindings) n)) (evaluateBy (named σ environment ((σ me) .bindings)) e)) next) (omega arith)
 
   schedule-kept : (n : ℕ) (d e : List Piece) → GoesBehind → KeptAt (schedule n d e)
   unfolding executeRows
@@ -62,7 +62,7 @@ module _ (t : List ℕ) (moment : ℕ) (triggers : Owner → List ℕ) (left : �
       halt-kept t left woken (isPositive delay) 16 _ (halt-kept t left woken (ltb (moment + delay) 18446744073709551616) 17 _
       (go-kept t left woken _ _ q live woken me
       (changed-placed (ownerOf ((σ me) .bindings) n)
-      (scheduled (variableOf σ environment (ownerOf ((σ me) .bindings) n)) (moment + delay) (evaluateBy (named σ environment ((σ me) .bindings)) e)) next) (omega arith)))
+      (scheduledOn (variableOf σ environment (ownerOf ((σ me) .bindings) n)) (moment + delay) (evaluateBy (named σ environment ((σ me) .bindings)) e)) next) (omega arith)))
 
   moved-kept : (place : ℕ) → place < sizeOf t ((σ me) .routine) →
       KeptBy t left woken (saying left (withRow σ me (atPlace (σ me) place)) environment q live woken me)

@@ -13,7 +13,7 @@ use lib.Seq.{getD-append-add}
 use borrow.Author.Tests.{ltb-true, ltb-false}
 use Rattle.listing.specs.Listing.{Listing}
 use Rattle.walk.specs.Memory.{addressOf, anyWritten, variableAt}
-use Rattle.walk.specs.State.{Result, Turn, Variable, _>>=_, _⊕_, empty, fresh, ok, stop}
+use Rattle.walk.specs.State.{Result, Turn, Variable, _>>=_, _⊕_, empty, ok, stop, noVariable}
 use Rattle.walk.specs.Walk.{instructionAt, visitForest}
 use Rattle.scheduler.specs.Rows.{Owner, Row, Rows, inSlot, named, ownerOf, variableOf}
 use Rattle.scheduler.specs.Ready.{insertAll, insert, insertIf}
@@ -53,12 +53,12 @@ module _ (listing : Listing) where
   sees-in σ environment p m s o e S = record { look = λ a. go a (ltb a (length m)) refl; shorter = simp length-append (omega (arith, S .shorter)) }
     where
       go : (a : ℕ) (w : Bool) → ltb a (length m) ≡ w → variableOf σ environment (pickOwner w (ownerAt p a) (inSlot s (a - length m))) ≡ getD (m ++ o)
-          a (fresh 0)
-      go a true h = S .look a ∙ sym (List·getD-append m o (fresh 0) a (ltb-true a (length m) h))
+          a noVariable
+      go a true h = S .look a ∙ sym (List·getD-append m o noVariable a (ltb-true a (length m) h))
       go a false h =
           let g : length m ≤ a = ltb-false a (length m) h in
           let q : a ≡ length m + (a - length m) = omega arith in
-          rw e (sym (ap (λ z. getD (m ++ o) z (fresh 0)) q ∙ getD-append-add m o (a - length m) (fresh 0)))
+          rw e (sym (ap (λ z. getD (m ++ o) z noVariable) q ∙ getD-append-add m o (a - length m) noVariable))
 
   sees-bound : (σ : Rows) (environment : List Variable) (p : List Entry) (m : List Variable) → length m ≤ 65536 → Sees σ environment p m →
       (ns : List ℕ) (w : ℕ) → named σ environment (ownersAt p ns) w ≡ variableAt m (addressOf ns w)
@@ -66,7 +66,7 @@ module _ (listing : Listing) where
   sees-bound σ environment p m small S [] w = let l : length environment ≤ 65536 = omega (
     arith,
     S .shorter,
-  ) in List·getD-eq-default environment (fresh 0) l ∙ sym (List·getD-eq-default m (fresh 0) small)
+  ) in List·getD-eq-default environment noVariable l ∙ sym (List·getD-eq-default m noVariable small)
   sees-bound σ environment p m small S (a ∷ ns) zero = S .look a
   sees-bound σ environment p m small S (a ∷ ns) (suc w) = sees-bound σ environment p m small S ns w
 

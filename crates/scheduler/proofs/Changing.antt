@@ -7,7 +7,7 @@ use Prim.Native.Nat.{ℕ, suc, _+_}
 use lib.ListN.{length, length-set}
 use Rattle.listing.specs.Listing.{Listing}
 use Rattle.walk.specs.State.{Variable, Node, node, Forest, empty, more, liveInNode, liveInForest}
-use Rattle.walk.specs.Memory.{writeAt}
+use Rattle.walk.specs.Memory.{writeAt, inputAt}
 use Rattle.walk.specs.Instant.{dueWrites, dueInNode, dueInForest, unmarked, unmarkedNode, unmarkedForest, Write, applyInputs}
 use Rattle.scheduler.specs.Rows.{Row, Rows, withOwn}
 use Rattle.scheduler.specs.Beginning.{ownIf, dueInRows, unmarkedRows}
@@ -76,9 +76,9 @@ unmarked-length [] = refl
 unmarked-length (x ∷ xs) = ap suc (unmarked-length xs)
 
 pub inputs-length : (ws : List Write) (xs : List Variable) → length (applyInputs ws xs) ≡ length xs
-unfolding applyInputs writeAt
+unfolding applyInputs inputAt
 inputs-length [] xs = refl
-inputs-length (w ∷ ws) xs = inputs-length ws (writeAt xs (w .number) (w .value)) ∙ length-set xs (w .number) _
+inputs-length (w ∷ ws) xs = inputs-length ws (inputAt xs (w .number) (w .value)) ∙ length-set xs (w .number) _
 
 -- ── what stays ──────────────────────────────────────────────────────────────────────────────────
 module _ (g : List Variable → List Variable) (same : (xs : List Variable) → length (g xs) ≡ length xs) where

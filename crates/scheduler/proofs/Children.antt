@@ -1,6 +1,6 @@
 -- A child's row from its parent's bindings; free slots by a count.
 -- Letters as in Place and Held.
-use mathlib.Core.Path.{_≡_, refl, sym, ap, ap₂, _∙_}
+use mathlib.Core.Path.{_≡_, refl, sym, ap, ap₂, _∙_, fun-ext}
 use mathlib.Core.Bool.{Bool, true, false}
 use mathlib.Core.List.{List, [], _∷_}
 use Prim.Native.Nat.{ℕ, zero, suc, _+_, _-_, _≤_, _<_}
@@ -10,10 +10,10 @@ use native.Mathlib.Decide.{ℕ-discrete}
 use lib.ListN.{length}
 use borrow.Author.Tests.{lt-ltb, le-ltb}
 use Rattle.listing.specs.Listing.{Kind, byReference, byValue, Call, Listing}
-use Rattle.walk.specs.Memory.{addressOf, addressesOf, bindNames, consecutive, ownVariables, variableAt}
-use Rattle.walk.specs.State.{Variable, fresh}
+use Rattle.walk.specs.Memory.{addressOf, addressesOf, bindNames, consecutive, ownVariables, variableAt, namedIn}
+use Rattle.walk.specs.State.{Variable, newVariable}
 use Rattle.walk.specs.Walk.{routineAt}
-use Rattle.scheduler.specs.Engine.{Caller, childBindings, childRow, childVariables, freeElse, freeSlot, ownBindings}
+use Rattle.scheduler.specs.Engine.{Caller, childBindings, childRow, freeElse, freeSlot, ownBindings}
 use Rattle.scheduler.specs.Rows.{Row, Rows, inSlot, withRow}
 use Rattle.scheduler.proofs.Priority.{newChild}
 use Rattle.scheduler.proofs.Held.{Entry, ownerAt, ownersAt, pickOwner, parentSlot, rowFor, withRow-same, withRow-other}
@@ -49,13 +49,8 @@ module _ (s b : ℕ) (P : List Entry) (ns : List ℕ) (near : (x : ℕ) → x < 
       bind-same ks xs loc (suc i) r)
 
 module _ (rd : ℕ → Variable) (m : List Variable) (ns : List ℕ) (same : (n : ℕ) → rd n ≡ variableAt m (addressOf ns n)) where
-  pub own-same : (ks : List Kind) (xs : List ℕ) (loc : ℕ) → ownVariables ks (addressesOf ns xs) loc m ≡ childVariables ks xs loc rd
-  unfolding ownVariables addressesOf childVariables
-  own-same [] xs loc = refl
-  own-same (byReference ∷ ks) [] loc = own-same ks [] loc
-  own-same (byReference ∷ ks) (x ∷ xs) loc = own-same ks xs loc
-  own-same (byValue ∷ ks) [] loc = ap (λ l. fresh 0 ∷ l) (own-same ks [] loc)
-  own-same (byValue ∷ ks) (x ∷ xs) loc = ap₂ (λ v l. fresh (v .value) ∷ l) (sym (same x)) (own-same ks xs loc)
+  pub own-same : (ks : List Kind) (xs : List ℕ) (loc : ℕ) → ownVariables ks xs loc (namedIn m ns) ≡ ownVariables ks xs loc rd
+  own-same ks xs loc = sym (ap (λ (name : ℕ → Variable). ownVariables ks xs loc name) (fun-ext same))
 
 unfoldable pub callerOn : List Entry → List Variable → List ℕ → ℕ → ℕ → (ℕ → Variable) → Caller
 callerOn P m ns low b name = record {
@@ -80,7 +75,7 @@ child-row listing m ns c i s low d P rd same near fit =
     sym (bind-same s (length m) P ns near (q .kinds) (c .arguments) (q .locals) 0 fit) ∙
     ap (λ z. ownersAt (record { slot = s; base = length m } ∷ P) (bindNames (q .kinds) (addressesOf ns (c .arguments)) (q .locals) z))
     (add-zero (length m)) in
-    let o : childVariables (q .kinds) (c .arguments) (q .locals) rd ≡ ownVariables (q .kinds) (addressesOf ns (c .arguments)) (q .locals) m =
+    let o : ownVariables (q .kinds) (c .arguments) (q .locals) rd ≡ ownVariables (q .kinds) (c .arguments) (q .locals) (namedIn m ns) =
     sym (own-same rd m ns same (q .kinds) (c .arguments) (q .locals)) in
     rw (b, o)
 

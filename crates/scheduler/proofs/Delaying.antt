@@ -11,11 +11,9 @@ use lib.ListN.{length, getD, set, length-append, List·getD-append}
 use lib.Seq.{getD-set-same, getD-set-other, set-out, set-append-left}
 use Rattle.words.specs.Words.{isPositive}
 use Rattle.listing.specs.Listing.{Listing, Piece, branch, schedule}
-use Rattle.walk.specs.Memory.{addressOf, anyWritten, evaluate, variableAt}
-use Rattle.walk.specs.State.{Result, Turn, Variable, fresh}
+use Rattle.walk.specs.Memory.{addressOf, anyWritten, evaluate, variableAt, evaluateBy}
+use Rattle.walk.specs.State.{Result, Turn, Variable, noVariable, scheduledOn}
 use Rattle.walk.specs.Walk.{instructionAt, branchPlace}
-use Rattle.scheduler.specs.Engine.{scheduled}
-use Rattle.scheduler.specs.Expressions.{evaluateBy}
 use Rattle.scheduler.specs.Rows.{Owner, Rows, atPlace, environmentWith, named, ownerOf, rowsWith, variableOf, withRow}
 use Rattle.scheduler.specs.Triggers.{awaited, consIf}
 use Rattle.scheduler.proofs.Place.{Record, Tree, nil, put, Frame, plug, memoryOf, key, willRun, ready, readyUp}
@@ -34,9 +32,9 @@ at-keep : (m : List Variable) (a x : ℕ) (v : Variable) → a < length m → v 
 unfolding variableAt
 at-keep m a x v h e = go (ℕ-discrete x a)
   where
-    go : Dec (x ≡ a) → (getD (set m a v) x (fresh 0)) .written ≡ (getD m x (fresh 0)) .written
-    go (yes p) = rw (p, getD-set-same m a v (fresh 0) h) e
-    go (no p) = rw (getD-set-other m a x v (fresh 0) p)
+    go : Dec (x ≡ a) → (getD (set m a v) x noVariable) .written ≡ (getD m x noVariable) .written
+    go (yes p) = rw (p, getD-set-same m a v noVariable h) e
+    go (no p) = rw (getD-set-other m a x v noVariable p)
 
 anyWritten-keep : (m : List Variable) (ns ws : List ℕ) (a : ℕ) (v : Variable) → a < length m → v .written ≡ (variableAt m a) .written →
     anyWritten (set m a v) ns ws ≡ anyWritten m ns ws
@@ -46,7 +44,7 @@ anyWritten-keep m ns (w ∷ ws) a v h e = ap₂ _||_ (at-keep m a (addressOf ns 
 
 at-left : (m o : List Variable) (a : ℕ) → a < length m → variableAt m a ≡ variableAt (m ++ o) a
 unfolding variableAt
-at-left m o a h = sym (List·getD-append m o (fresh 0) a h)
+at-left m o a h = sym (List·getD-append m o noVariable a h)
 
 module _ (listing : Listing) where
   willRun-keep : (m : List Variable) (x : Record) (a : ℕ) (v : Variable) → a < length m → v .written ≡ (variableAt m a) .written →
@@ -160,13 +158,13 @@ module _ (listing : Listing) (now : ℕ) (triggers : Owner → List ℕ) (hi : �
         waiting = evaluateBy (named σ environment ((σ me) .bindings)) d
 
         abbrev put-in : Variable
-        put-in = scheduled (variableOf σ environment target) (now + waiting) (evaluateBy (named σ environment ((σ me) .bindings)) e)
+        put-in = scheduledOn (variableOf σ environment target) (now + waiting) (evaluateBy (named σ environment ((σ me) .bindings)) e)
 
         abbrev a : ℕ
         a = addressOf ns n
 
         abbrev v : Variable
-        v = scheduled (variableAt m a) (now + evaluate m ns d) (evaluate m ns e)
+        v = scheduledOn (variableAt m a) (now + evaluate m ns d) (evaluate m ns e)
 
         abbrev rows-A : Rows
         rows-A = withRow (rowsWith σ target put-in) me (atPlace (rowsWith σ target put-in me) (suc ((f .self) .place)))
@@ -186,8 +184,8 @@ module _ (listing : Listing) (now : ℕ) (triggers : Owner → List ℕ) (hi : �
 
         v-is : put-in ≡ v
         unfolding named
-        v-is = ap₂ (λ o t. scheduled o (now + t) (evaluateBy (named σ environment ((σ me) .bindings)) e)) (reads n) (evaluates d) ∙
-            ap (scheduled (variableAt m a) (now + evaluate m ns d)) (evaluates e)
+        v-is = ap₂ (λ o t. scheduledOn o (now + t) (evaluateBy (named σ environment ((σ me) .bindings)) e)) (reads n) (evaluates d) ∙
+            ap (scheduledOn (variableAt m a) (now + evaluate m ns d)) (evaluates e)
 
         held₁ : HeldUp (rowsWith σ target put-in) (set environment a v) 0 (g ∷ fs′)
         unfolding setUp focus
@@ -202,7 +200,7 @@ module _ (listing : Listing) (now : ℕ) (triggers : Owner → List ℕ) (hi : �
             (atPlace (rowsWith σ target put-in me) (suc ((f .self) .place))) (atPlace-asleep (rowsWith σ target put-in me) (suc ((f .self) .place))))
 
         queue₁ : q ≡ slotsIn (readyUp listing (set environment a v) (f′ ∷ fs′))
-        unfolding setUp focus readyUp scheduled
+        unfolding setUp focus readyUp scheduledOn
         queue₁ = R .queue ∙ ap slotsIn (sym (readyUp-keep listing environment (f ∷ fs) a v refl))
 
         pub runs-A : isPositive waiting ≡ true → ltb (now + waiting) 18446744073709551616 ≡ true →

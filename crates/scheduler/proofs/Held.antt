@@ -11,7 +11,7 @@ use lib.ListN.{length, getD, set, length-append, length-set, List·getD-append}
 use lib.Seq.{getD-append-add, set-out}
 use borrow.Author.Tests.{ltb-true, ltb-false, le-ltb, eq-eqb, ne-eqb}
 use Rattle.walk.specs.Memory.{variableAt}
-use Rattle.walk.specs.State.{Variable, fresh}
+use Rattle.walk.specs.State.{Variable, noVariable}
 use Rattle.scheduler.specs.Rows.{Row, Rows, chooseRow, inSlot, rowsWith, variableOf, withOwn, withRow}
 use Rattle.scheduler.proofs.Place.{Record, width, Tree, put, _⋈_, Frame, plug, memoryOf}
 use Rattle.scheduler.proofs.Priority.{Range, range-put, range-le, range-join, Split, range-split, Parts, parts}
@@ -30,13 +30,13 @@ read-path σ environment n _ a (held-under {f = f} {fs = fs} e d t u) = go (ltb 
     (read-path σ environment _ fs a u)
   where
     go : (w : Bool) → ltb a (length (memoryOf environment fs)) ≡ w →
-        variableOf σ environment (ownerAt (pathOf environment fs) a) ≡ getD (memoryOf environment fs) a (fresh 0) →
+        variableOf σ environment (ownerAt (pathOf environment fs) a) ≡ getD (memoryOf environment fs) a noVariable →
         variableOf σ environment (pickOwner w (ownerAt (pathOf environment fs) a) (inSlot ((f .self) .slot) (a - length (memoryOf environment fs)))) ≡
-        getD (memoryOf environment fs ++ (f .self) .own) a (fresh 0)
-    go true h up = up ∙ sym (List·getD-append (memoryOf environment fs) ((f .self) .own) (fresh 0) a (ltb-true _ _ h))
+        getD (memoryOf environment fs ++ (f .self) .own) a noVariable
+    go true h up = up ∙ sym (List·getD-append (memoryOf environment fs) ((f .self) .own) noVariable a (ltb-true _ _ h))
     go false h up = let g : length (memoryOf environment fs) ≤ a = ltb-false a (length (memoryOf environment fs)) h in
-        rw e (sym (ap (λ z. getD (memoryOf environment fs ++ (f .self) .own) z (fresh 0)) same ∙
-        getD-append-add (memoryOf environment fs) ((f .self) .own) (a - length (memoryOf environment fs)) (fresh 0)))
+        rw e (sym (ap (λ z. getD (memoryOf environment fs ++ (f .self) .own) z noVariable) same ∙
+        getD-append-add (memoryOf environment fs) ((f .self) .own) (a - length (memoryOf environment fs)) noVariable))
       where
         same : a ≡ length (memoryOf environment fs) + (a - length (memoryOf environment fs))
         same = let g : length (memoryOf environment fs) ≤ a = ltb-false a (length (memoryOf environment fs)) h in omega arith

@@ -7,7 +7,7 @@ use Prim.Native.Nat.{ℕ, _+_, _*_, _^_, _≤_, _<_}
 use native.Mathlib.Nat.{le-refl, zero-add, zero-mul}
 use native.Mathlib.Omega.{arith}
 use Rattle.listing.specs.Listing.{Listing}
-use Rattle.walk.specs.State.{Variable, Node, node, Forest, empty, more, liveInForest, State}
+use Rattle.walk.specs.State.{Variable, Node, node, Forest, empty, more, liveInForest, State, unmarkedOf}
 use Rattle.walk.specs.Walk.{childCount}
 use Rattle.walk.specs.Instant.{unmarked, unmarkedNode, unmarkedForest, earlier, dueOf, dueOfVariables, dueOfNode, dueOfForest, nextDue}
 use Rattle.scheduler.specs.Rows.{Row, Rows}
@@ -94,7 +94,7 @@ unmarked-holds {marks} {listing} {σ} {environment} {state} H = rw (unmarked-row
 })
 
 due-unmarked : (xs : List Variable) → dueOfVariables (unmarked xs) ≡ dueOfVariables xs
-unfolding dueOfVariables unmarked
+unfolding dueOfVariables unmarked unmarkedOf
 due-unmarked [] = refl
 due-unmarked (x ∷ xs) = ap (earlier (dueOf (x .waiting))) (due-unmarked xs)
 

@@ -10,16 +10,15 @@ use lib.ListN.{length, set, length-append, length-set}
 use borrow.Author.Tests.{leb-true}
 use Rattle.words.specs.Words.{isPositive}
 use Rattle.listing.specs.Listing.{Call, Instruction, Listing, Piece, assign, branch, end, fork, jump, schedule, wait}
-use Rattle.walk.specs.Memory.{addressOf, evaluate, variableAt}
-use Rattle.walk.specs.State.{Result, Turn, Variable}
+use Rattle.walk.specs.Memory.{addressOf, evaluate, variableAt, evaluateBy}
+use Rattle.walk.specs.State.{Result, Turn, Variable, writtenTo, scheduledOn}
 use Rattle.walk.specs.Walk.{childCount, instructionAt, branchPlace}
-use Rattle.scheduler.specs.Engine.{RowsRunner, callerAt, RowsResult, assigned, endRows, executeRows, fewestBits, forkRows, newSlots, nextReady, orHalt, runRows, scheduled}
-use Rattle.scheduler.specs.Expressions.{evaluateBy}
+use Rattle.scheduler.specs.Engine.{RowsRunner, callerAt, RowsResult, endRows, executeRows, forkRows, newSlots, nextReady, orHalt, runRows}
 use Rattle.scheduler.specs.Ready.{insertAll}
 use Rattle.scheduler.specs.Rows.{Owner, Rows, atPlace, environmentWith, freeRow, named, ownerOf, rowsWith, variableOf, withChildren, withRow}
 use Rattle.scheduler.specs.Triggers.{triggered}
 use Rattle.scheduler.proofs.Place.{Tree, nil, put, _⋈_, Frame, plug, memoryOf}
-use Rattle.scheduler.proofs.Priority.{newChildren, bits-three, fork-fits}
+use Rattle.scheduler.proofs.Priority.{newChildren, fork-fits}
 use Rattle.scheduler.proofs.Sorted.{In, Either, this, that}
 use Rattle.scheduler.proofs.Writing.{setUp, recordWithOwn, setFrom}
 use Rattle.scheduler.proofs.Held.{Entry, ownersAt, pathOf, rootCount, rowFor, parentSlot, HeldUp, withRow-same, path-length, up-keep, hole, hole-in}
@@ -35,6 +34,8 @@ use Rattle.scheduler.proofs.Children.{callerOn, usedBelow}
 use Rattle.scheduler.proofs.Taking.{withRow-used, used-keep, owner-used, atPlace-used, withChildren-used, rootCount-over, rootCount-set, length-environmentWith, Keeps, Taken, taken}
 use Rattle.scheduler.proofs.Steady.{CallsFit, Above, aboveOf, aboveUp, above-at, TableFits, SteadyRecord, Steady, steady-record, steady-set, steady-children, steady-hole}
 use Rattle.scheduler.proofs.Outcomes.{sound-placed, Goal, filled, end-as-walk, move-in, stops-alike, AsWalk, idle-as-walk, Sound}
+use Rattle.words.specs.ForkBits.{forkBits}
+use Rattle.words.proofs.ForkBits.{fork-bits-are-at-most-three}
 
 module _ (listing : Listing) (now : ℕ) (triggers : Owner → List ℕ) (hi : ℕ) (T : TableFits listing) where
   module _ {G : RowsResult → Type 0} {go : RowsRunner} (j : ℕ) (whole : Result Turn) (D : Goal listing now triggers hi T j whole G go) (σ : Rows)
@@ -135,7 +136,7 @@ module _ (listing : Listing) (now : ℕ) (triggers : Owner → List ℕ) (hi : �
 
     good-S : (n : ℕ) (e : List Piece) → instructionAt listing ((f .self) .routine) ((f .self) .place) ≡ assign n e →
         let o = ownerOf ((σ me) .bindings) n in
-        let v = assigned (variableOf σ environment o) (evaluateBy (named σ environment ((σ me) .bindings)) e) in
+        let v = writtenTo (variableOf σ environment o) (evaluateBy (named σ environment ((σ me) .bindings)) e) in
         G (go
         (withRow (rowsWith σ o v) me (atPlace (rowsWith σ o v me) (suc ((f .self) .place)))) (environmentWith o environment v)
         (insertAll σ (triggered σ ((σ me) .low) (triggers o)) q) l woken me)
@@ -144,15 +145,15 @@ module _ (listing : Listing) (now : ℕ) (triggers : Owner → List ℕ) (hi : �
         let isName : n < length ((f .self) .names) = omega (arith, fine .many, T .sets ((f .self) .routine) ((f .self) .place) n e i) in
         let near : addressOf ((f .self) .names) n < length (memoryOf environment fs) + length ((f .self) .own) = fine .near n isName in
         D .deep _ _ _ l woken _ _ (runs-S listing now triggers hi n e R i isName small (omega (arith, near, fine .short, fine .high)))
-        (sound-set (ownerOf ((σ me) .bindings) n) (assigned (variableOf σ environment (ownerOf ((σ me) .bindings) n))
+        (sound-set (ownerOf ((σ me) .bindings) n) (writtenTo (variableOf σ environment (ownerOf ((σ me) .bindings) n))
         (evaluateBy (named σ environment ((σ me) .bindings)) e)) (addressOf ((f .self) .names) n)
-        (assigned (variableAt (memoryOf environment (f ∷ fs)) (addressOf ((f .self) .names) n))
+        (writtenTo (variableAt (memoryOf environment (f ∷ fs)) (addressOf ((f .self) .names) n))
         (evaluate (memoryOf environment (f ∷ fs)) ((f .self) .names) e)))
 
     good-A : (n : ℕ) (d e : List Piece) → instructionAt listing ((f .self) .routine) ((f .self) .place) ≡ schedule n d e →
         let o = ownerOf ((σ me) .bindings) n in
         let t = evaluateBy (named σ environment ((σ me) .bindings)) d in
-        let v = scheduled (variableOf σ environment o) (now + t) (evaluateBy (named σ environment ((σ me) .bindings)) e) in
+        let v = scheduledOn (variableOf σ environment o) (now + t) (evaluateBy (named σ environment ((σ me) .bindings)) e) in
         G (orHalt (isPositive t) 16
         (orHalt (ltb (now + t) 18446744073709551616) 17 (go
         (withRow (rowsWith σ o v) me (atPlace (rowsWith σ o v me) (suc ((f .self) .place)))) (environmentWith o environment v) q l woken me)))
@@ -169,7 +170,7 @@ module _ (listing : Listing) (now : ℕ) (triggers : Owner → List ℕ) (hi : �
         o = ownerOf ((σ me) .bindings) n
 
         v : Variable
-        v = scheduled (variableOf σ environment o) (now + t) (evaluateBy (named σ environment ((σ me) .bindings)) e)
+        v = scheduledOn (variableOf σ environment o) (now + t) (evaluateBy (named σ environment ((σ me) .bindings)) e)
 
         isName : n < length ((f .self) .names)
         isName = omega (arith, fine .many, T .delays ((f .self) .routine) ((f .self) .place) n d e i)
@@ -183,7 +184,7 @@ module _ (listing : Listing) (now : ℕ) (triggers : Owner → List ℕ) (hi : �
             p) (ap (λ z. ltb (now + z) 18446744073709551616) (sym te) ∙ r))
         cases true true p r =
             D .deep _ _ _ l woken _ _ (runs-A listing now triggers hi σ environment q j l woken f fs whole R small n d e i isName p r)
-            (sound-set o v (addressOf ((f .self) .names) n) (scheduled (variableAt (memoryOf environment (f ∷ fs)) (addressOf ((f .self) .names) n))
+            (sound-set o v (addressOf ((f .self) .names) n) (scheduledOn (variableAt (memoryOf environment (f ∷ fs)) (addressOf ((f .self) .names) n))
             (now + evaluate (memoryOf environment (f ∷ fs)) ((f .self) .names) d)
             (evaluate (memoryOf environment (f ∷ fs)) ((f .self) .names) e)))
 
@@ -207,12 +208,12 @@ module _ (listing : Listing) (now : ℕ) (triggers : Owner → List ℕ) (hi : �
 
     caller-of : (τ : Rows) (n : ℕ) → τ me ≡ rowFor false (pathOf environment fs) (length (memoryOf environment fs)) n (f .self) →
         callerAt τ environment me n ≡ callerOn (pathOf environment (f ∷ fs)) (memoryOf environment (f ∷ fs)) ((f .self) .names) ((f .self) .low)
-        ((f .self) .bits - fewestBits n) (named τ environment (ownersAt (pathOf environment (f ∷ fs)) ((f .self) .names)))
+        ((f .self) .bits - forkBits n) (named τ environment (ownersAt (pathOf environment (f ∷ fs)) ((f .self) .names)))
     unfolding callerAt callerOn rowFor pathOf memoryOf parentSlot
     caller-of τ n e =
         rw (e, length-append (memoryOf environment fs) ((f .self) .own))
 
-    fork-steady : (cs : List Call) (ss : List ℕ) (b : ℕ) → b ≡ (f .self) .bits - fewestBits (childCount cs) →
+    fork-steady : (cs : List Call) (ss : List ℕ) (b : ℕ) → b ≡ (f .self) .bits - forkBits (childCount cs) →
         instructionAt listing ((f .self) .routine) ((f .self) .place) ≡ fork cs → length fs ≤ 9 → CallsFit listing (length ((f .self) .names)) cs →
         Steady listing (aboveUp listing (f ∷ fs)) (length (f ∷ fs)) (length (memoryOf environment (f ∷ fs)))
         (newChildren listing (memoryOf environment (f ∷ fs)) ((f .self) .names) cs ss 0 ((f .self) .low) b)
@@ -220,7 +221,7 @@ module _ (listing : Listing) (now : ℕ) (triggers : Owner → List ℕ) (hi : �
     fork-steady cs ss b e i shallow called =
         subst (λ z. Steady listing z (suc (length fs)) (length m) (newChildren listing m ((f .self) .names) cs ss 0 ((f .self) .low) b))
         (sym above-is)
-        (steady-children listing T u m (suc (length fs)) (omega (arith, bits-three (childCount cs), fine .deep, shallow, e)) near short (omega arith)
+        (steady-children listing T u m (suc (length fs)) (omega (arith, fork-bits-are-at-most-three (childCount cs), fine .deep, shallow, e)) near short (omega arith)
         cs ss 0 refl called)
       where
         m : List Variable
@@ -283,10 +284,10 @@ module _ (listing : Listing) (now : ℕ) (triggers : Owner → List ℕ) (hi : �
         shallow = leb-true (length fs) 9 r
 
         b : ℕ
-        b = (f .self) .bits - fewestBits (childCount cs)
+        b = (f .self) .bits - forkBits (childCount cs)
 
-        enough : fewestBits (childCount cs) ≤ (f .self) .bits
-        enough = omega (arith, bits-three (childCount cs), fine .deep, shallow)
+        enough : forkBits (childCount cs) ≤ (f .self) .bits
+        enough = omega (arith, fork-bits-are-at-most-three (childCount cs), fine .deep, shallow)
 
         fits : childCount cs * 2 ^ b ≤ 2 ^ (f .self) .bits
         fits = fork-fits (childCount cs) ((f .self) .bits) (eight .1) enough

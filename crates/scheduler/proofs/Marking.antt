@@ -9,7 +9,7 @@ use lib.ListN.{set}
 use lib.Seq.{getD-set-other}
 use Rattle.listing.specs.Listing.{Listing}
 use Rattle.walk.specs.Memory.{variableAt}
-use Rattle.walk.specs.State.{Variable, fresh}
+use Rattle.walk.specs.State.{Variable, noVariable}
 use Rattle.scheduler.specs.Rows.{Owner, inEnvironment, inSlot, Row, Rows, withOwn, withRow, variableOf, rowsWith, environmentWith, ownerOf, named}
 use Rattle.scheduler.specs.Triggers.{sameOwner, awaitedBy, listIf, triggersBelow, triggersOf, anyNamedWritten, wakesNow}
 use Rattle.scheduler.proofs.Sorted.{In, Either, this, that}
@@ -68,7 +68,7 @@ triggers-same listing σ p x o = below-same listing σ p x o 64
 pub variable-other : (σ : Rows) (environment : List Variable) (p : Owner) (x : Variable) (q : Owner) → (q ≡ p → ⊥) →
     variableOf (rowsWith σ p x) (environmentWith p environment x) q ≡ variableOf σ environment q
 unfolding variableOf rowsWith environmentWith variableAt withOwn
-variable-other σ environment (inEnvironment a) x (inEnvironment b) h = getD-set-other environment a b x (fresh 0) (λ e. h (ap inEnvironment e))
+variable-other σ environment (inEnvironment a) x (inEnvironment b) h = getD-set-other environment a b x noVariable (λ e. h (ap inEnvironment e))
 variable-other σ environment (inEnvironment a) x (inSlot s i) h = refl
 variable-other σ environment (inSlot n j) x (inEnvironment b) h = refl
 variable-other σ environment (inSlot n j) x (inSlot s i) h = go (ℕ-discrete s n)
@@ -79,7 +79,7 @@ variable-other σ environment (inSlot n j) x (inSlot s i) h = go (ℕ-discrete s
     go : Dec (s ≡ n) → variableAt ((withRow σ n r s) .own) i ≡ variableAt ((σ s) .own) i
     go (yes e) =
         rw e (ap (λ (y : Row). variableAt (y .own) i) (withRow-same σ n r) ∙
-        getD-set-other ((σ n) .own) j i x (fresh 0) (λ d. h (rw (e, d))))
+        getD-set-other ((σ n) .own) j i x noVariable (λ d. h (rw (e, d))))
     go (no d) = ap (λ (y : Row). variableAt (y .own) i) (withRow-other σ n r s d)
 
 -- ── who wakes: asleep, and a variable it awaits is written ──────────────────────────────────────

@@ -10,9 +10,8 @@ use lib.Seq.{take-append-seam, drop-append-seam}
 use Rattle.words.specs.Words.{isPositive}
 use Rattle.listing.specs.Listing.{Call, Listing, Piece, assign, branch, end, fork, jump, schedule, wait}
 use Rattle.walk.specs.Memory.{addressOf, anyWritten, evaluate, scheduleAt, variableAt, writeAt}
-use Rattle.walk.specs.State.{Variable, _>>=_, stop}
+use Rattle.walk.specs.State.{Variable, _>>=_, stop, writtenTo, scheduledOn}
 use Rattle.walk.specs.Walk.{passedWait, begin, branchPlace, asking, move, carryOut, childCount, enter, execute, instructionAt, join, leave, resume, run, sleep, step, visit, visitForest, wake}
-use Rattle.scheduler.specs.Engine.{assigned, scheduled}
 use Rattle.scheduler.specs.Triggers.{awaited}
 use Rattle.scheduler.proofs.Agenda.{Task, back, outer, beyond, news, rest, rest-F, ⊕-none}
 use Rattle.scheduler.proofs.Place.{Record, Tree, nil, put, erase, _⋈_, erase-⋈, Frame, memoryOf, first, tasks, up, dones, willRun, between}
@@ -80,11 +79,11 @@ module _ (listing : Listing) (now : ℕ) where
       instructionAt listing ((f .self) .routine) ((f .self) .place) ≡ assign n e →
       let m = memoryOf environment (f ∷ fs) in
       let a = addressOf ((f .self) .names) n in
-      let v = assigned (variableAt m a) (evaluate m ((f .self) .names) e) in
+      let v = writtenTo (variableAt m a) (evaluate m ((f .self) .names) e) in
       goingOn listing now environment (suc j) l woken f fs ≡ goingOn listing now (set environment a v) j l woken
       (focus (placed (recordWithOwn (f .self) (setFrom (length (memoryOf environment fs)) ((f .self) .own) a v)) (suc ((f .self) .place)))
       (f .done) (f .todo)) (setUp environment fs a v)
-  unfolding goingOn rest run step execute move carryOut placed focus recordWithOwn memoryOf writeAt assigned
+  unfolding goingOn rest run step execute move carryOut placed focus recordWithOwn memoryOf writeAt writtenTo
   move-S environment j l woken f fs n e i = rw (
     i,
     tasks-set environment fs _ _,
@@ -100,12 +99,12 @@ module _ (listing : Listing) (now : ℕ) where
       let m = memoryOf environment (f ∷ fs) in
       let a = addressOf ((f .self) .names) n in
       let k = evaluate m ((f .self) .names) d in
-      let v = scheduled (variableAt m a) (now + k) (evaluate m ((f .self) .names) e) in
+      let v = scheduledOn (variableAt m a) (now + k) (evaluate m ((f .self) .names) e) in
       isPositive k ≡ true → ltb (now + k) 18446744073709551616 ≡ true →
       goingOn listing now environment (suc j) l woken f fs ≡ goingOn listing now (set environment a v) j l woken
       (focus (placed (recordWithOwn (f .self) (setFrom (length (memoryOf environment fs)) ((f .self) .own) a v)) (suc ((f .self) .place)))
       (f .done) (f .todo)) (setUp environment fs a v)
-  unfolding goingOn rest run step execute move carryOut asking placed focus recordWithOwn memoryOf scheduleAt scheduled
+  unfolding goingOn rest run step execute move carryOut asking placed focus recordWithOwn memoryOf scheduleAt scheduledOn
   move-A environment j l woken f fs n d e i p q = rw (
     i,
     p,

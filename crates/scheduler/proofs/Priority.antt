@@ -10,13 +10,14 @@ use lib.Dec.{ltb}
 use lib.ListN.{length}
 use borrow.Author.Tests.{ltb-true, ltb-false}
 use Rattle.listing.specs.Listing.{Call, Listing}
-use Rattle.walk.specs.Memory.{addressesOf, bindNames, ownVariables, top}
+use Rattle.walk.specs.Memory.{addressesOf, bindNames, ownVariables, top, namedIn}
 use Rattle.walk.specs.State.{Variable}
 use Rattle.walk.specs.Walk.{childCount, newRoutine, newRoutines, routineAt}
-use Rattle.scheduler.specs.Engine.{chooseBits, fewestBits}
 use Rattle.scheduler.specs.Triggers.{consIf}
 use Rattle.scheduler.proofs.Place.{Record, width, Tree, nil, put, _⋈_, Frame, plug, memoryOf, key, ready, readyUp, willRun, erase}
 pub use Rattle.scheduler.specs.Tree.{Range, range-nil, range-put}
+use Rattle.words.specs.ForkBits.{forkBits}
+use Rattle.words.proofs.ForkBits.{fork-bits-are-fewest}
 
 -- strictly rising, in [a, b)
 pub data Rising : ℕ → ℕ → List ℕ → Type 0 where
@@ -175,51 +176,18 @@ module _ (listing : Listing) where
 
 -- ── a fork's children ───────────────────────────────────────────────────────────────────────────
 
-pub bits-enough : (n : ℕ) → n ≤ 8 → n ≤ 2 ^ fewestBits n
-unfolding fewestBits chooseBits
-bits-enough n h = go (ltb 1 n) (ltb 2 n) (ltb 4 n) refl refl refl
-  where
-    go : (a b c : Bool) → ltb 1 n ≡ a → ltb 2 n ≡ b → ltb 4 n ≡ c → n ≤ 2 ^ chooseBits a b c
-    go false b c p q r = ltb-false 1 n p
-    go true false c p q r = ltb-false 2 n q
-    go true true false p q r = ltb-false 4 n r
-    go true true true p q r = h
-
-pub bits-fewest : (n b : ℕ) → b < fewestBits n → 2 ^ b < n
-unfolding fewestBits chooseBits
-bits-fewest n b h = go (ltb 1 n) (ltb 2 n) (ltb 4 n) refl refl refl b h
-  where
-    go : (x y z : Bool) → ltb 1 n ≡ x → ltb 2 n ≡ y → ltb 4 n ≡ z → (b : ℕ) → b < chooseBits x y z → 2 ^ b < n
-    go false y z p q r b h = absurd (omega arith)
-    go true false z p q r zero h = ltb-true 1 n p
-    go true false z p q r (suc b) h = absurd (omega arith)
-    go true true false p q r zero h = ltb-true 1 n p
-    go true true false p q r (suc zero) h = ltb-true 2 n q
-    go true true false p q r (suc (suc b)) h = absurd (omega arith)
-    go true true true p q r zero h = ltb-true 1 n p
-    go true true true p q r (suc zero) h = ltb-true 2 n q
-    go true true true p q r (suc (suc zero)) h = ltb-true 4 n r
-    go true true true p q r (suc (suc (suc b))) h = absurd (omega arith)
-
-pub bits-three : (n : ℕ) → fewestBits n ≤ 3
-unfolding fewestBits chooseBits
-bits-three n = go (ltb 1 n) (ltb 2 n) (ltb 4 n)
-  where
-    go : (x y z : Bool) → chooseBits x y z ≤ 3
-    go false y z = omega arith
-    go true false z = omega arith
-    go true true false = omega arith
-    go true true true = omega arith
+pub bits-enough : (n : ℕ) → n ≤ 8 → n ≤ 2 ^ forkBits n
+bits-enough n h = (fork-bits-are-fewest n h) .enough
 
 pub pow-add : (a b : ℕ) → 2 ^ (a + b) ≡ 2 ^ a * 2 ^ b
 pow-add a zero = rw (add-zero a) (sym (mul-one (2 ^ a)))
 pow-add a (suc b) = rw (add-suc a b, pow-succ' 2 (a + b), pow-succ' 2 b, pow-add a b) (mul-left-comm 2 (2 ^ a) (2 ^ b))
 
 -- the children of a routine of width 2 ^ d fit into it, n of width 2 ^ (d - bits n)
-pub fork-fits : (n d : ℕ) → n ≤ 8 → fewestBits n ≤ d → n * 2 ^ (d - fewestBits n) ≤ 2 ^ d
+pub fork-fits : (n d : ℕ) → n ≤ 8 → forkBits n ≤ d → n * 2 ^ (d - forkBits n) ≤ 2 ^ d
 fork-fits n d h l =
-    let e : d ≡ fewestBits n + (d - fewestBits n) = omega arith in
-    rw (← pow-add (fewestBits n) (d - fewestBits n), ← e) at (mul-le-mul-right (2 ^ (d - fewestBits n)) (bits-enough n h))
+    let e : d ≡ forkBits n + (d - forkBits n) = omega arith in
+    rw (← pow-add (forkBits n) (d - forkBits n), ← e) at (mul-le-mul-right (2 ^ (d - forkBits n)) (bits-enough n h))
 
 -- ── the new routines of a fork ──────────────────────────────────────────────────────────────────
 unfoldable pub laterSlots : List ℕ → List ℕ
@@ -240,7 +208,7 @@ newChild listing m ns c i s low b =
       routine = c .callee;
       place = 0;
       names = bindNames (q .kinds) xs (q .locals) (length m);
-      own = ownVariables (q .kinds) xs (q .locals) m;
+      own = ownVariables (q .kinds) (c .arguments) (q .locals) (namedIn m ns);
     }
 
 unfoldable pub newChildren : Listing → List Variable → List ℕ → List Call → List ℕ → ℕ → ℕ → ℕ → Tree

@@ -1,6 +1,6 @@
 -- Reading by names and evaluating expressions: in the rows as in the memory of the path.
 -- Letters as in Place and Held.
-use mathlib.Core.Path.{_≡_, refl, sym, ap, _∙_}
+use mathlib.Core.Path.{_≡_, refl, sym, ap, _∙_, fun-ext}
 use mathlib.Core.Bool.{Bool, true, false}
 use mathlib.Core.List.{List, [], _∷_}
 use Prim.Native.Nat.{ℕ, zero, suc, _-_, _≤_, _<_}
@@ -10,9 +10,8 @@ use lib.Dec.{ltb}
 use lib.ListN.{length, set, length-append, List·getD-eq-default}
 use borrow.Author.Tests.{ltb-false}
 use Rattle.listing.specs.Listing.{Piece, less, literal, minus, plus, times, valueOf, writtenMark}
-use Rattle.walk.specs.Memory.{addressOf, evaluate, evaluatePiece, evaluatePieces, top, variableAt}
-use Rattle.walk.specs.State.{Variable, fresh}
-use Rattle.scheduler.specs.Expressions.{evaluateBy, pieceBy, piecesBy}
+use Rattle.walk.specs.Memory.{addressOf, evaluate, evaluatePiece, evaluatePieces, top, variableAt, evaluateBy}
+use Rattle.walk.specs.State.{Variable, noVariable}
 use Rattle.scheduler.specs.Rows.{Rows, environmentWith, inSlot, named, ownerOf, variableOf}
 use Rattle.scheduler.proofs.Place.{Frame, memoryOf, up}
 use Rattle.scheduler.proofs.Held.{Entry, ownerAt, ownersAt, pickOwner, pathOf, HeldUp, read-path, environment-past}
@@ -20,24 +19,9 @@ use Rattle.scheduler.proofs.Held.{Entry, ownerAt, ownersAt, pickOwner, 
 -- ── expressions by a reader of names ────────────────────────────────────────────────────────────
 
 module _ (rd : ℕ → Variable) (m : List Variable) (ns : List ℕ) (same : (n : ℕ) → rd n ≡ variableAt m (addressOf ns n)) where
-  pieceBy-same : (p : Piece) (s : List ℕ) → pieceBy rd p s ≡ evaluatePiece m ns p s
-  unfolding pieceBy evaluatePiece
-  pieceBy-same (literal v) s = refl
-  pieceBy-same (valueOf n) s = rw (same n)
-  pieceBy-same (writtenMark n) s = rw (same n)
-  pieceBy-same plus s = refl
-  pieceBy-same minus s = refl
-  pieceBy-same times s = refl
-  pieceBy-same less s = refl
-
-  piecesBy-same : (ps : List Piece) (s : List ℕ) → piecesBy rd ps s ≡ evaluatePieces m ns ps s
-  unfolding piecesBy evaluatePieces
-  piecesBy-same [] s = refl
-  piecesBy-same (p ∷ ps) s = rw (pieceBy-same p s) (piecesBy-same ps (evaluatePiece m ns p s))
-
   pub evaluateBy-same : (e : List Piece) → evaluateBy rd e ≡ evaluate m ns e
-  unfolding evaluateBy evaluate
-  evaluateBy-same e = ap top (piecesBy-same e [])
+  unfolding evaluate
+  evaluateBy-same e = ap (λ (name : ℕ → Variable). evaluateBy name e) (fun-ext same)
 
 -- ── reading by a binding ────────────────────────────────────────────────────────────────────────
 
@@ -52,7 +36,7 @@ pub read-bound : (σ : Rows) (environment : List Variable) (n : ℕ) (fs : List 
 unfolding named ownerOf ownersAt addressOf variableOf variableAt
 read-bound σ environment n fs small h [] w =
     let l : length environment ≤ 65536 = omega (arith, environment-shorter environment fs) in
-    List·getD-eq-default environment (fresh 0) l ∙ sym (List·getD-eq-default (memoryOf environment fs) (fresh 0) small)
+    List·getD-eq-default environment noVariable l ∙ sym (List·getD-eq-default (memoryOf environment fs) noVariable small)
 read-bound σ environment n fs small h (a ∷ ns) zero = read-path σ environment n fs a h
 read-bound σ environment n fs small h (a ∷ ns) (suc w) = read-bound σ environment n fs small h ns w
 

@@ -13,16 +13,17 @@ use Rattle.walk.specs.Memory.{addressOf}
 use Rattle.walk.specs.Walk.{routineAt, instructionAt, childCount}
 use Rattle.walk.specs.Question7.{ownedCount, ownedBy, boundNames, MadeBy, Asleep, waits, joins, LiveChildren, no-more, ended, lives}
 use Rattle.scheduler.specs.Rows.{Rows}
-use Rattle.scheduler.specs.Engine.{fewestBits}
 use Rattle.scheduler.specs.Records.{noCall, Kept, keptOfRow, keptIn, keptOfNode, keptOf}
 use Rattle.scheduler.proofs.Place.{Record, width, Tree, nil, put, erase}
-use Rattle.scheduler.proofs.Priority.{Range, range-nil, range-put, range-low, range-high, bits-three, fork-fits, pow-pos}
+use Rattle.scheduler.proofs.Priority.{Range, range-nil, range-put, range-low, range-high, fork-fits, pow-pos}
 use Rattle.scheduler.proofs.Sorted.{In, here, there, in-left, in-right}
 use Rattle.scheduler.proofs.Kept.{slotsOf}
 use Rattle.scheduler.proofs.Children.{Passed}
 use Rattle.scheduler.proofs.Steady.{nameCount, CallsFit, calls-put, TableFits, Above, aboveOf, above-at, SteadyRecord, Steady, steady-nil, steady-put, names-length, owned-few, names-near, from-field}
 use Rattle.scheduler.proofs.Begun.{AllBegun, begun-nil, begun-put}
 use Rattle.scheduler.proofs.Filling.{KeptRow, KeptRows, kept-nil, kept-put}
+use Rattle.words.specs.ForkBits.{forkBits}
+use Rattle.words.proofs.ForkBits.{fork-bits-are-at-most-three}
 
 -- ── lists of what is kept ───────────────────────────────────────────────────────────────────────
 pub record Parted (σ : Rows) (ss : List ℕ) (xs ys : List Kept) : Type 0 where
@@ -224,8 +225,8 @@ module _ (listing : Listing) (T : TableFits listing) (rest : List Variable → B
       subst (λ a. Parent a (x .names) (suc level) (c + length (x .own))) (sym (above-at listing x cs i))
       (record { named = refl; deep = deep; near = st .near; short = short′; high = high })
     where
-      deep : 32 ≤ x .bits - fewestBits (childCount cs) + 3 * suc level
-      deep = omega (arith, bits-three (childCount cs), st .deep, l)
+      deep : 32 ≤ x .bits - forkBits (childCount cs) + 3 * suc level
+      deep = omega (arith, fork-bits-are-at-most-three (childCount cs), st .deep, l)
 
       short′ : c + length (x .own) + 16 ≤ 16 * (suc level + 2)
       short′ = omega (arith, st .short)
@@ -243,10 +244,10 @@ module _ (listing : Listing) (T : TableFits listing) (rest : List Variable → B
       (above-at listing x cs i) r))
     where
       w : ℕ
-      w = 2 ^ (x .bits - fewestBits (childCount cs))
+      w = 2 ^ (x .bits - forkBits (childCount cs))
 
-      enough : fewestBits (childCount cs) ≤ x .bits
-      enough = omega (arith, bits-three (childCount cs), st .deep, l)
+      enough : forkBits (childCount cs) ≤ x .bits
+      enough = omega (arith, fork-bits-are-at-most-three (childCount cs), st .deep, l)
 
       fits : childCount cs * w ≤ 2 ^ x .bits
       fits = fork-fits (childCount cs) (x .bits) (T .some (x .routine) (x .place) cs i .1) enough

@@ -9,7 +9,7 @@ use native.Mathlib.Decide.{ℕ-discrete, decLt}
 use native.Mathlib.Omega.{arith}
 use lib.ListN.{length, getD, replicate, length-replicate, List·getD-eq-default}
 use Rattle.listing.specs.Listing.{Listing, byReference}
-use Rattle.walk.specs.State.{Variable, fresh, _⊕_, Turn, Result, stop, ok, _>>=_}
+use Rattle.walk.specs.State.{Variable, _⊕_, Turn, Result, stop, ok, _>>=_, noVariable, newVariable}
 use Rattle.walk.specs.Memory.{variableAt, nowhere, addressOf, consecutive}
 use Rattle.walk.specs.Walk.{routineAt, newRoutine, enter, begin, childCount}
 use Rattle.walk.specs.Instant.{environmentSize, environmentNames, mainCall, start, startTurn}
@@ -54,12 +54,12 @@ same-name : (xs : List Variable) (n : ℕ) → length xs ≤ 65536 → variableA
 unfolding variableAt
 same-name xs n small = go (decLt n (length xs))
   where
-    go : Dec (n < length xs) → getD xs n (fresh 0) ≡ getD xs (addressOf (consecutive (length xs) 0) n) (fresh 0)
-    go (yes h) = ap (λ a. getD xs a (fresh 0)) (sym (address-consecutive (length xs) 0 n h ∙ zero-add n))
+    go : Dec (n < length xs) → getD xs n noVariable ≡ getD xs (addressOf (consecutive (length xs) 0) n) noVariable
+    go (yes h) = ap (λ a. getD xs a noVariable) (sym (address-consecutive (length xs) 0 n h ∙ zero-add n))
     go (no h) =
         let l : length xs ≤ n = omega arith in
-        List·getD-eq-default xs (fresh 0) l ∙ sym (ap (λ a. getD xs a (fresh 0)) (address-past (length xs) 0 n l) ∙
-        List·getD-eq-default xs (fresh 0) small)
+        List·getD-eq-default xs noVariable l ∙ sym (ap (λ a. getD xs a noVariable) (address-past (length xs) 0 n l) ∙
+        List·getD-eq-default xs noVariable small)
 
 passed-references : (k a n : ℕ) → a + k ≤ n → Passed n (replicate k byReference) (consecutive k a)
 unfolding consecutive
@@ -142,7 +142,7 @@ module _ (listing : Listing) (T : TableFits listing) (s : ℕ) (small : s < 64) 
 
   size : length environment ≡ environmentSize listing
   unfolding newEnvironment
-  size = length-replicate (environmentSize listing) (fresh 0)
+  size = length-replicate (environmentSize listing) (newVariable 0)
 
   abbrev main : Record
   main = newChild listing environment (environmentNames listing) (mainCall listing) 0 s 0 32

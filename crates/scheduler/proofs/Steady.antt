@@ -10,11 +10,10 @@ use native.Mathlib.Omega.{arith}
 use lib.Dec.{ltb}
 use lib.ListN.{length, getD, set, drop, length-append, length-set, length-replicate}
 use Rattle.listing.specs.Listing.{Listing, Kind, byReference, byValue, Call, fork}
-use Rattle.walk.specs.State.{Variable, fresh}
-use Rattle.walk.specs.Memory.{addressOf, addressesOf, bindNames, ownVariables, consecutive, top}
+use Rattle.walk.specs.State.{Variable, newVariable}
+use Rattle.walk.specs.Memory.{addressOf, addressesOf, bindNames, ownVariables, consecutive, top, namedIn}
 use Rattle.walk.specs.Walk.{routineAt, instructionAt, childCount}
 use Rattle.walk.specs.Question7.{ownedCount, ownedBy, boundNames}
-use Rattle.scheduler.specs.Engine.{fewestBits}
 use Rattle.scheduler.specs.Records.{callsOf, noCall}
 use Rattle.scheduler.proofs.Place.{Record, Tree, nil, put, _⋈_, Frame, plug, memoryOf}
 use Rattle.scheduler.proofs.Priority.{newChild, newChildren, laterSlots}
@@ -23,10 +22,12 @@ use Rattle.scheduler.proofs.Moves.{placed, focus}
 use Rattle.scheduler.proofs.Children.{Passed, passed-nil, passed-put}
 pub use Rattle.scheduler.specs.Steady.{CallsFit, calls-nil, calls-put, TableFits, Above, SteadyRecord, Steady, steady-nil, steady-put, SteadyTree}
 unfoldable pub use Rattle.scheduler.specs.Steady.{nameCount, aboveMain, aboveOf}
+use Rattle.words.specs.ForkBits.{forkBits}
+use Rattle.walk_laws.proofs.AtRest.{length-own}
 
 -- ── what children see of their parent ───────────────────────────────────────────────────────────
 pub above-at : (listing : Listing) (x : Record) (cs : List Call) → instructionAt listing (x .routine) (x .place) ≡ fork cs →
-    aboveOf listing x ≡ record { calls = cs; names = x .names; low = x .low; bits = x .bits - fewestBits (childCount cs) }
+    aboveOf listing x ≡ record { calls = cs; names = x .names; low = x .low; bits = x .bits - forkBits (childCount cs) }
 unfolding aboveOf callsOf
 above-at listing x cs i = rw i
 
@@ -180,13 +181,6 @@ module _ (listing : Listing) where
   names-length ns loc b (passed-put {k = byReference} h p) = let d = names-length ns loc b p in omega arith
   names-length ns loc b (passed-put {k = byValue} h p) = let d = names-length ns loc (suc b) p in omega arith
 
-  pub own-length : {n : ℕ} {ks : List Kind} {xs : List ℕ} (ns : List ℕ) (loc : ℕ) (m : List Variable) → Passed n ks xs →
-      length (ownVariables ks (addressesOf ns xs) loc m) ≡ ownedCount ks loc
-  unfolding ownVariables addressesOf ownedCount
-  own-length ns loc m passed-nil = length-replicate loc (fresh 0)
-  own-length ns loc m (passed-put {k = byReference} h p) = own-length ns loc m p
-  own-length ns loc m (passed-put {k = byValue} h p) = ap suc (own-length ns loc m p)
-
   pub owned-few : (ks : List Kind) (loc : ℕ) → ownedCount ks loc ≤ length ks + loc
   unfolding ownedCount
   owned-few [] loc = omega arith
@@ -230,8 +224,8 @@ module _ (listing : Listing) where
     unfolding newChild nameCount boundNames ownedBy
     steady-child c i s e h g =
         let q = routineAt listing (c .callee) in
-        let ol : length (ownVariables (q .kinds) (addressesOf (u .names) (c .arguments)) (q .locals) m) ≡ ownedCount (q .kinds) (q .locals) =
-        own-length (u .names) (q .locals) m g in
+        let ol : length (ownVariables (q .kinds) (c .arguments) (q .locals) (namedIn m (u .names))) ≡ ownedCount (q .kinds) (q .locals) =
+        length-own (q .kinds) (c .arguments) (q .locals) (namedIn m (u .names)) in
         let of : ownedCount (q .kinds) (q .locals) ≤ length (q .kinds) + q .locals = owned-few (q .kinds) (q .locals) in
         let fw : length (q .kinds) + q .locals ≤ 16 = T .few (c .callee) in
         record {

@@ -7,11 +7,9 @@ use Prim.Native.Nat.{ℕ, suc, _+_, _%_, _≤_, _<_}
 use native.Mathlib.Omega.{arith}
 use lib.ListN.{length, set}
 use Rattle.listing.specs.Listing.{Listing, Piece, assign, jump, wait}
-use Rattle.walk.specs.Memory.{addressOf, evaluate, variableAt}
-use Rattle.walk.specs.State.{Result, Turn, Variable}
+use Rattle.walk.specs.Memory.{addressOf, evaluate, variableAt, evaluateBy}
+use Rattle.walk.specs.State.{Result, Turn, Variable, writtenTo}
 use Rattle.walk.specs.Walk.{instructionAt}
-use Rattle.scheduler.specs.Engine.{assigned}
-use Rattle.scheduler.specs.Expressions.{evaluateBy}
 use Rattle.scheduler.specs.Ready.{insertAll}
 use Rattle.scheduler.specs.Rows.{Owner, Rows, atPlace, environmentWith, named, ownerOf, rowsWith, variableOf, withRow}
 use Rattle.scheduler.specs.Triggers.{triggered}
@@ -67,7 +65,7 @@ module _ (listing : Listing) (now : ℕ) (triggers : Owner → List ℕ) (hi : �
     target = ownerOf ((σ me) .bindings) n
 
     abbrev put-in : Variable
-    put-in = assigned (variableOf σ environment target) (evaluateBy (named σ environment ((σ me) .bindings)) e)
+    put-in = writtenTo (variableOf σ environment target) (evaluateBy (named σ environment ((σ me) .bindings)) e)
 
     abbrev rows-S : Rows
     rows-S = withRow (rowsWith σ target put-in) me (atPlace (rowsWith σ target put-in me) (suc ((f .self) .place)))
@@ -84,14 +82,14 @@ module _ (listing : Listing) (now : ℕ) (triggers : Owner → List ℕ) (hi : �
     a = addressOf ((f .self) .names) n
 
     abbrev v : Variable
-    v = assigned (variableAt (memoryOf environment (f ∷ fs)) a) (evaluate (memoryOf environment (f ∷ fs)) ((f .self) .names) e)
+    v = writtenTo (variableAt (memoryOf environment (f ∷ fs)) a) (evaluate (memoryOf environment (f ∷ fs)) ((f .self) .names) e)
 
     target-is : target ≡ ownerAt (pathOf environment (f ∷ fs)) a
     target-is = ap (λ z. ownerOf z n) bindings-are ∙ bound-owner (pathOf environment (f ∷ fs)) ((f .self) .names) n isName
 
     v-is : put-in ≡ v
     unfolding named
-    v-is = ap₂ assigned (reads n) (evaluateBy-same (named σ environment ((σ me) .bindings)) (memoryOf environment (f ∷ fs)) ((f .self) .names) reads
+    v-is = ap₂ writtenTo (reads n) (evaluateBy-same (named σ environment ((σ me) .bindings)) (memoryOf environment (f ∷ fs)) ((f .self) .names) reads
         e)
 
     abbrev fs′ : List Frame
@@ -127,7 +125,7 @@ module _ (listing : Listing) (now : ℕ) (triggers : Owner → List ℕ) (hi : �
     waking = triggered σ ((f .self) .low) (triggers (ownerAt (pathOf environment (f ∷ fs)) a))
 
     keys-after : insertKeys (keysAt σ waking) (readyUp listing environment (f ∷ fs)) ≡ readyUp listing (set environment a v) (f′ ∷ fs′)
-    unfolding readyUp focus wokenUp plug assigned
+    unfolding readyUp focus wokenUp plug writtenTo
     keys-after =
         written-ready listing environment 0 hi fs (f .done) (f .self) (f .todo) a v (keysAt σ waking) (R .range) refl
         (triggered-sound listing σ triggers environment 0 0 hi f fs nil (R .listsRight) M (R .range) (R .held) a aimed)

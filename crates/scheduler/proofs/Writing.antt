@@ -13,7 +13,7 @@ use lib.Seq.{getD-set-same, getD-set-other, set-out, set-append-left}
 use borrow.Author.Tests.{ltb-true, ltb-false, lt-ltb, le-ltb, eq-eqb, ne-eqb}
 use Rattle.listing.specs.Listing.{Listing}
 use Rattle.walk.specs.Memory.{addressOf, anyWritten, variableAt}
-use Rattle.walk.specs.State.{Variable, fresh}
+use Rattle.walk.specs.State.{Variable, noVariable}
 use Rattle.walk.specs.Walk.{instructionAt}
 use Rattle.scheduler.specs.Triggers.{awaited, consIf}
 use Rattle.scheduler.proofs.Place.{Record, Tree, nil, put, _⋈_, Frame, plug, memoryOf, key, ready, readyUp, willRun}
@@ -95,9 +95,9 @@ at-set m a x v h e = go (ℕ-discrete x a)
     or-no true = refl
     or-no false = refl
 
-    go : Dec (x ≡ a) → (getD (set m a v) x (fresh 0)) .written ≡ (getD m x (fresh 0)) .written || eqb x a
-    go (yes p) = rw (eq-eqb x a p, p, getD-set-same m a v (fresh 0) h, e) (sym (or-true ((getD m a (fresh 0)) .written)))
-    go (no p) = rw (ne-eqb x a p, getD-set-other m a x v (fresh 0) p) (sym (or-no ((getD m x (fresh 0)) .written)))
+    go : Dec (x ≡ a) → (getD (set m a v) x noVariable) .written ≡ (getD m x noVariable) .written || eqb x a
+    go (yes p) = rw (eq-eqb x a p, p, getD-set-same m a v noVariable h, e) (sym (or-true ((getD m a noVariable) .written)))
+    go (no p) = rw (ne-eqb x a p, getD-set-other m a x v noVariable p) (sym (or-no ((getD m x noVariable) .written)))
 
 pub anyWritten-set : (m : List Variable) (ns ws : List ℕ) (a : ℕ) (v : Variable) → a < length m → v .written ≡ true →
     anyWritten (set m a v) ns ws ≡ anyWritten m ns ws || awaitsAddress ns ws a

@@ -4,7 +4,7 @@ use mathlib.Core.List.{List, [], _∷_}
 use Prim.Native.Nat.{ℕ, zero, suc}
 use lib.ListN.{length, replicate}
 use Rattle.listing.specs.Listing.{Listing}
-use Rattle.walk.specs.State.{Variable, fresh}
+use Rattle.walk.specs.State.{Variable, newVariable}
 use Rattle.walk.specs.Memory.{variableAt}
 use Rattle.walk.specs.Instant.{dueWrites, unmarked, Write, applyInputs, NextDue, never, earlier, dueOfVariables, environmentSize, mainCall}
 use Rattle.scheduler.specs.Rows.{Owner, inEnvironment, Row, Rows, noRows, withRow, withOwn}
@@ -65,7 +65,7 @@ module _ (listing : Listing) where
   mainRow environment s = childRow listing (environmentCaller environment) (mainCall listing) 0 s
 
   unfoldable pub newEnvironment : List Variable
-  newEnvironment = replicate (environmentSize listing) (fresh 0)
+  newEnvironment = replicate (environmentSize listing) (newVariable 0)
 
   -- "The start is the instant 0, with main newly called and no inputs": no rows but main's, in slot s, which runs at once.
   unfoldable pub startOnRows : ℕ → ℕ → RowsResult

@@ -8,12 +8,13 @@ use lib.ListN.{length, replicate}
 use Rattle.words.specs.Words.{isPositive}
 use Rattle.words.specs.Moments.{momentRange}
 use Rattle.listing.specs.Listing.{Listing, Call, Kind, byReference, byValue, Instruction, assign, schedule, branch, jump, wait, fork, end}
-use Rattle.walk.specs.State.{Variable, due, fresh}
+use Rattle.walk.specs.State.{Variable, due, newVariable, writtenTo, scheduledOn}
 use Rattle.walk.specs.Walk.{routineAt, instructionAt, childCount, branchPlace}
 use Rattle.scheduler.specs.Rows.{Owner, inSlot, Row, Rows, freeRow, withRow, atPlace, withChildren, variableOf, rowsWith, environmentWith, ownerOf, named}
-use Rattle.scheduler.specs.Expressions.{evaluateBy}
 use Rattle.scheduler.specs.Ready.{insertAll}
 use Rattle.scheduler.specs.Triggers.{triggered}
+use Rattle.words.specs.ForkBits.{forkBits}
+use Rattle.walk.specs.Memory.{evaluateBy, ownVariables}
 
 -- Stopped under a number; or ended, with rows, environment, steps left, live routines and waits passed.
 pub data RowsResult : Type 0 where
@@ -43,13 +44,6 @@ unfoldable pub orHalt : Bool → ℕ → RowsResult → RowsResult
 orHalt true k next = next
 orHalt false k next = halts k
 
--- ── `S` and `A` ───────────────────────────────────────────────────────────────────────────────────────
-unfoldable pub assigned : Variable → ℕ → Variable
-assigned x v = record { value = v; written = true; waiting = x .waiting }
-
-unfoldable pub scheduled : Variable → ℕ → ℕ → Variable
-scheduled x t v = record { value = x .value; written = x .written; waiting = due t v }
-
 -- ── `E` ───────────────────────────────────────────────────────────────────────────────────────────
 -- The routine's row is free already; `p` is the parent's slot. The last child's end lets the parent go on at once.
 unfoldable pub joinRows : Bool → RowsRunner → ℕ → Rows → List Variable → List ℕ → ℕ → ℕ → ℕ → RowsResult
@@ -64,16 +58,6 @@ endRows true go left rows environment ready live woken p = ends rows environment
 endRows false go left rows environment ready live woken p = joinRows (eqb ((rows p) .children) 1) go left rows environment ready live woken p
 
 -- ── `F` ───────────────────────────────────────────────────────────────────────────────────────────
--- The fewest bits that number n children, 1 to 8.
-unfoldable pub chooseBits : Bool → Bool → Bool → ℕ
-chooseBits false two four = 0
-chooseBits true false four = 1
-chooseBits true true false = 2
-chooseBits true true true = 3
-
-unfoldable pub fewestBits : ℕ → ℕ
-fewestBits n = chooseBits (ltb 1 n) (ltb 2 n) (ltb 4 n)
-
 -- The lowest free slot of the last n.
 unfoldable pub freeElse : Bool → ℕ → ℕ → ℕ
 freeElse true s later = later
@@ -96,14 +80,6 @@ childBindings (byReference ∷ ks) (n ∷ arguments) locals caller s i = ownerOf
 childBindings (byValue ∷ ks) [] locals caller s i = []
 childBindings (byValue ∷ ks) (n ∷ arguments) locals caller s i = inSlot s i ∷ childBindings ks arguments locals caller s (suc i)
 
--- The child's own variables; `name` reads the caller's names.
-unfoldable pub childVariables : List Kind → List ℕ → ℕ → (ℕ → Variable) → List Variable
-childVariables [] arguments locals name = replicate locals (fresh 0)
-childVariables (byReference ∷ ks) [] locals name = childVariables ks [] locals name
-childVariables (byReference ∷ ks) (n ∷ arguments) locals name = childVariables ks arguments locals name
-childVariables (byValue ∷ ks) [] locals name = fresh 0 ∷ childVariables ks [] locals name
-childVariables (byValue ∷ ks) (n ∷ arguments) locals name = fresh ((name n) .value) ∷ childVariables ks arguments locals name
-
 -- What a new routine takes from its caller: the caller's slot, the new routine's level and first own address, the lowest priority
 -- and the bits of the children, the caller's bindings and what its names stand for.
 pub record Caller : Type 0 where
@@ -124,7 +100,7 @@ callerAt rows environment me n =
       level = suc (r .level);
       base = r .base + length (r .own);
       low = r .low;
-      bits = r .bits - fewestBits n;
+      bits = r .bits - forkBits n;
       bindings = r .bindings;
       name = named rows environment (r .bindings);
     }
@@ -147,7 +123,7 @@ module _ (listing : Listing) where
         routine = c .callee;
         place = 0;
         bindings = childBindings (called .kinds) (c .arguments) (called .locals) (caller .bindings) s 0;
-        own = childVariables (called .kinds) (c .arguments) (called .locals) (caller .name);
+        own = ownVariables (called .kinds) (c .arguments) (called .locals) (caller .name);
       }
 
   -- The rows with one new child of `me`, one of n, in the lowest free slot.
@@ -177,14 +153,14 @@ module _ (listing : Listing) where
     executeRows go left (assign n e) rows environment ready live woken me =
         let r = rows me in
         let o = ownerOf (r .bindings) n in
-        let x = assigned (variableOf rows environment o) (evaluateBy (named rows environment (r .bindings)) e) in
+        let x = writtenTo (variableOf rows environment o) (evaluateBy (named rows environment (r .bindings)) e) in
         go (withRow (rowsWith rows o x) me (atPlace (rowsWith rows o x me) (suc (r .place)))) (environmentWith o environment x)
         (insertAll rows (triggered rows (r .low) (triggers o)) ready) live woken me
     executeRows go left (schedule n d e) rows environment ready live woken me =
         let r = rows me in
         let o = ownerOf (r .bindings) n in
         let delay = evaluateBy (named rows environment (r .bindings)) d in
-        let x = scheduled (variableOf rows environment o) (now + delay) (evaluateBy (named rows environment (r .bindings)) e) in
+        let x = scheduledOn (variableOf rows environment o) (now + delay) (evaluateBy (named rows environment (r .bindings)) e) in
         orHalt (isPositive delay) 16 (orHalt (ltb (now + delay) momentRange) 17
         (go (withRow (rowsWith rows o x) me (atPlace (rowsWith rows o x me) (suc (r .place)))) (environmentWith o environment x) ready live woken me))
     executeRows go left (branch e k) rows environment ready live woken me =

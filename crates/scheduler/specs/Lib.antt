@@ -1,5 +1,4 @@
 pub mod Rows
-pub mod Expressions
 pub mod Ready
 pub mod Triggers
 pub mod Engine

@@ -10,9 +10,9 @@ use Rattle.walk.specs.Memory.{addressOf}
 use Rattle.walk.specs.Walk.{routineAt, instructionAt, childCount}
 use Rattle.walk.specs.Instant.{environmentSize, environmentNames, mainCall}
 use Rattle.walk.specs.Question7.{ownedBy, boundNames}
-use Rattle.scheduler.specs.Engine.{fewestBits}
 use Rattle.scheduler.specs.Records.{callsOf, noCall}
 use Rattle.scheduler.specs.Tree.{Record, Tree, nil, put}
+use Rattle.words.specs.ForkBits.{forkBits}
 
 -- as many arguments as letters, each a name of the caller
 pub data Passed (n : ℕ) : List Kind → List ℕ → Type 0 where
@@ -49,7 +49,7 @@ aboveMain listing = record { calls = mainCall listing ∷ []; names = environmen
 unfoldable pub aboveOf : Listing → Record → Above
 aboveOf listing x =
     let cs = callsOf (instructionAt listing (x .routine) (x .place)) in
-    record { calls = cs; names = x .names; low = x .low; bits = x .bits - fewestBits (childCount cs) }
+    record { calls = cs; names = x .names; low = x .low; bits = x .bits - forkBits (childCount cs) }
 
 -- a routine at level lv, its first own address c
 pub record SteadyRecord (listing : Listing) (u : Above) (level c : ℕ) (x : Record) : Type 0 where

@@ -9,12 +9,11 @@ use lib.ListN.{length}
 use Rattle.words.specs.Words.{isPositive}
 use Rattle.words.specs.Moments.{LaterMoment, laterAt, stopsWith, laterMoment}
 use Rattle.listing.specs.Listing.{Listing, Piece, assign, schedule}
-use Rattle.walk.specs.State.{Variable}
+use Rattle.walk.specs.State.{Variable, writtenTo, scheduledOn}
 use Rattle.scheduler.specs.Rows.{Owner, ownerOf, named}
-use Rattle.scheduler.specs.Expressions.{evaluateBy}
 use Rattle.scheduler.specs.Ready.{insertAll}
 use Rattle.scheduler.specs.Triggers.{triggered}
-use Rattle.scheduler.specs.Engine.{RowsRunner, assigned, scheduled, orHalt, executeRows}
+use Rattle.scheduler.specs.Engine.{RowsRunner, orHalt, executeRows}
 use Rattle.blocks.specs.Blocks.{ownerAt, rowsOf, environmentOf}
 use Rattle.variables.specs.Bindings.{BoundTo}
 use Rattle.variables.specs.declared.Binding.{Binding}
@@ -27,10 +26,11 @@ use Rattle.steps.specs.declared.running.Stepped.{Stepped}
 use Rattle.steps.specs.Outcome.{left-by, RunsLive, Reading, Executes, ChangesName}
 use Rattle.steps.proofs.Stores.{stays-start}
 use Rattle.steps.proofs.Writing.{newVariable, rows-named, environment-named}
+use Rattle.walk.specs.Memory.{evaluateBy}
 
 -- "`S|n|e` writes expression e to name n", and wakes.
 pub assigns : {a m : List ℕ} (u v : Running) (name x : ℕ) (e : List Piece) (binding : Binding)
-    → ChangesName a m u name (λ y. assigned y x) (record { answer = Goes; running = u })
+    → ChangesName a m u name (λ y. writtenTo y x) (record { answer = Goes; running = u })
     → BoundTo (rowsOf a (u .me)) name binding → name < length (bindingsOf a (u .me)) → FromNames a (u .me) (λ names. evaluateBy names e) x
     → slotsOf (v .ready) ≡ insertAll (rowsOf a) (triggered (rowsOf a) ((rowsOf a (u .me)) .low) (triggersAt a (binding .block) (binding .index))) (slotsOf (u .ready))
     → v .live ≡ u .live → v .woken ≡ u .woken → v .me ≡ u .me
@@ -90,7 +90,7 @@ module _ {a : List ℕ} (u : Running) (name delay x present : ℕ) (d e : List P
         }
 
     -- "`A|n|d|e` puts a waiting write of e on n, d milliseconds from now".
-    pub schedules : {m : List ℕ} (t : ℕ) {r : Stepped} → ChangesName a m u name (λ y. scheduled y t x) r → FromNames a (u .me) (λ names. evaluateBy names e) x
+    pub schedules : {m : List ℕ} (t : ℕ) {r : Stepped} → ChangesName a m u name (λ y. scheduledOn y t x) r → FromNames a (u .me) (λ names. evaluateBy names e) x
         → ltb (present + delay) 18446744073709551616 ≡ true → t ≡ present + delay → Executes listing present (schedule name d e) a m u r
     unfolding left-by executeRows orHalt RunsLive named
     schedules t {r} p value below is =

@@ -8,7 +8,6 @@ use native.Mathlib.Omega.{arith}
 use lib.Dec.{eqb}
 use Rattle.listing.specs.Listing.{Listing, Piece, branch, jump, wait}
 use Rattle.scheduler.specs.Rows.{Owner, Row, Rows, withRow, atPlace, named}
-use Rattle.scheduler.specs.Expressions.{evaluateBy}
 use Rattle.scheduler.specs.Engine.{RowsRunner, firstPlace, countIf, nextReady, executeRows}
 use Rattle.blocks.specs.Blocks.{block, rowsOf, environmentOf}
 use Rattle.blocks.specs.Store.{withSlot}
@@ -23,6 +22,7 @@ use Rattle.steps.specs.Outcome.{left-by, RunsLive, Reading, Pops, Execut
 use Rattle.steps.specs.Asked.{Slots, slots-one}
 use Rattle.steps.proofs.Stores.{rows-changed, environment-kept, change-stays, stays-start, placed-tidy}
 use Rattle.walk.specs.Walk.{branchPlace}
+use Rattle.walk.specs.Memory.{evaluateBy}
 
 none-left : (q : ReadyList) → q .count ≡ 0 → slotsOf q ≡ []
 unfolding slotsOf falling

@@ -1,7 +1,7 @@
 // The instructions that change a variable: `S` and `A`.
 ghost use Prim.Native.Nat.{ℕ, _+_, _*_, _<_};
 ghost use Rattle.listing.specs.Listing.{Listing, assign, schedule};
-ghost use Rattle.scheduler.specs.Engine.{scheduled};
+ghost use Rattle.walk.specs.State.{scheduledOn};
 ghost use Rattle.table.specs.Decode.{piecesAt};
 ghost use Rattle.evaluate.specs.Evaluable.{Evaluable};
 ghost use Rattle.steps.specs.Asked.{MayChange};
@@ -55,7 +55,7 @@ pub fn assign_step(
 // moment due is looked for in just those blocks where it is.
 fn schedule_at(m: &mut [u32], running: Running, name: usize, moment: Moment, value: u32) -> Stepped
     requires { ⌜ (MayChange (now m) running name) × (0 < moment .0) ⌝ }
-    ensures { λ r. ⌜ ChangesName (now (m .entry)) (now (m .exit)) running name (λ x. scheduled x (moment .0) value) r ⌝ }
+    ensures { λ r. ⌜ ChangesName (now (m .entry)) (now (m .exit)) running name (λ x. scheduledOn x (moment .0) value) r ⌝ }
 {
     let me = running.me;
     let binding = variables::owner(m, me, name);

@@ -6,15 +6,13 @@ use Prim.Native.Nat.{ℕ, zero, suc, _+_, _*_, _/_, _%_, _≤_, _<_}
 use native.Mathlib.Decide.{ℕ-discrete}
 use native.Mathlib.Omega.{arith}
 use borrow.Author.Tests.{eq-eqb, ne-eqb}
-use Rattle.walk.specs.Instant.{dueWrite, madeIfDue}
-use Rattle.walk.specs.State.{Variable, idle, due}
+use Rattle.walk.specs.State.{Variable, idle, due, writtenTo, scheduledOn, unmarkedOf, madeDue, dueWrite, madeIfDue}
 use Rattle.machine.specs.Words.{waitingOf}
-use Rattle.scheduler.specs.Engine.{assigned, scheduled}
 use Rattle.blocks.proofs.Puts.{put-same, put-other}
 use Rattle.variables.proofs.VariableChanges.{InVariable, changes-variable}
 use Rattle.blocks.specs.Blocks.{Block, block, nonzero, variableIn, ownerAt}
 use Rattle.blocks.specs.Changes.{InBlock, Changes, putIn, assignedBlock, scheduledBlock, madeBlock, unmarkedBlock, dueBlock}
-use Rattle.blocks.specs.Store.{withVariable, unmarkedVariable, dueVariable}
+use Rattle.blocks.specs.Store.{withVariable}
 
 -- A word put outside of the words looked at.
 module _ (b : Block) (i : ℕ) where
@@ -37,8 +35,8 @@ module _ (b : Block) (i : ℕ) where
     unfolding assignedBlock
     assigned-within v = in-variable-mark _ (in-variable-word b in-variable-start (8 + i * 6) v (omega arith) (omega arith)) 1 few
 
-    pub assigned-variable : (v : ℕ) → variableIn (assignedBlock i v b) i ≡ assigned (variableIn b i) v
-    unfolding assignedBlock variableIn assigned nonzero
+    pub assigned-variable : (v : ℕ) → variableIn (assignedBlock i v b) i ≡ writtenTo (variableIn b i) v
+    unfolding assignedBlock variableIn writtenTo nonzero
     assigned-variable v =
         let c = putIn b (8 + i * 6) v in
         rw (
@@ -65,8 +63,8 @@ module _ (b : Block) (i : ℕ) where
     waiting-some zero v h = absurd (let z : ⊥ = omega arith in z)
     waiting-some (suc t) v h = let e : suc t % 4294967296 + suc t / 4294967296 * 4294967296 ≡ suc t = omega arith in rw e
 
-    pub scheduled-variable : (t v : ℕ) → 0 < t → variableIn (scheduledBlock i t v b) i ≡ scheduled (variableIn b i) t v
-    unfolding scheduledBlock variableIn scheduled
+    pub scheduled-variable : (t v : ℕ) → 0 < t → variableIn (scheduledBlock i t v b) i ≡ scheduledOn (variableIn b i) t v
+    unfolding scheduledBlock variableIn scheduledOn
     scheduled-variable t v h =
         let c = putIn b (9 + i * 6) v in
         let d = putIn c (10 + i * 6) (t % 4294967296) in
@@ -89,8 +87,8 @@ module _ (b : Block) (i : ℕ) where
     unfolding unmarkedBlock
     unmarked-within = in-variable-mark b in-variable-start 0 few
 
-    pub unmarked-variable : variableIn (unmarkedBlock i b) i ≡ unmarkedVariable (variableIn b i)
-    unfolding unmarkedBlock variableIn unmarkedVariable nonzero
+    pub unmarked-variable : variableIn (unmarkedBlock i b) i ≡ unmarkedOf (variableIn b i)
+    unfolding unmarkedBlock variableIn unmarkedOf nonzero
     unmarked-variable =
         rw (
           put-other b (128 + i) 0 (8 + i * 6) (λ e. omega arith),
@@ -128,15 +126,15 @@ module _ (b : Block) (i : ℕ) where
           put-same c₃ (11 + i * 6) 0,
         )
 
-    due-now : (t d v old : ℕ) → 0 < t → d ≡ t → dueWrite t old (waitingOf d v) ≡ record { value = v; written = true; waiting = idle }
+    due-now : (t d v : ℕ) (x : Variable) → 0 < t → d ≡ t → dueWrite t x (waitingOf d v) ≡ record { value = v; written = true; waiting = idle }
     unfolding dueWrite waitingOf madeIfDue
-    due-now t zero v old h e = absurd (let z : ⊥ = omega arith in z)
-    due-now t (suc d) v old h e = rw (eq-eqb (suc d) t e)
+    due-now t zero v x h e = absurd (let z : ⊥ = omega arith in z)
+    due-now t (suc d) v x h e = rw (eq-eqb (suc d) t e)
 
-    due-later : (t d v old : ℕ) → (d ≡ t → ⊥) → dueWrite t old (waitingOf d v) ≡ record { value = old; written = false; waiting = waitingOf d v }
+    due-later : (t d v : ℕ) (x : Variable) → (d ≡ t → ⊥) → dueWrite t x (waitingOf d v) ≡ unmarkedOf x
     unfolding dueWrite waitingOf madeIfDue
-    due-later t zero v old e = refl
-    due-later t (suc d) v old e = rw (ne-eqb (suc d) t e)
+    due-later t zero v x e = refl
+    due-later t (suc d) v x e = rw (ne-eqb (suc d) t e)
 
     abbrev moment : ℕ
     moment = b (10 + i * 6) + b (11 + i * 6) * 4294967296
@@ -156,39 +154,39 @@ module _ (b : Block) (i : ℕ) where
         go (yes e) = rw (due-block-made t e) made-within
         go (no e) = rw (due-block-later t e) unmarked-within
 
-    made-is-due : (t : ℕ) → 0 < t → moment ≡ t → variableIn (madeBlock i b) i ≡ dueVariable t (variableIn b i)
-    unfolding dueVariable variableIn
-    made-is-due t h e = made-variable ∙ sym (due-now t moment (b (9 + i * 6)) (b (8 + i * 6)) h e)
+    made-is-due : (t : ℕ) → 0 < t → moment ≡ t → variableIn (madeBlock i b) i ≡ madeDue t (variableIn b i)
+    unfolding madeDue variableIn
+    made-is-due t h e = made-variable ∙ sym (due-now t moment (b (9 + i * 6)) (variableIn b i) h e)
 
-    unmarked-is-due : (t : ℕ) → (moment ≡ t → ⊥) → variableIn (unmarkedBlock i b) i ≡ dueVariable t (variableIn b i)
-    unfolding dueVariable variableIn unmarkedVariable
-    unmarked-is-due t e = unmarked-variable ∙ sym (due-later t moment (b (9 + i * 6)) (b (8 + i * 6)) e)
+    unmarked-is-due : (t : ℕ) → (moment ≡ t → ⊥) → variableIn (unmarkedBlock i b) i ≡ madeDue t (variableIn b i)
+    unfolding madeDue variableIn unmarkedOf
+    unmarked-is-due t e = unmarked-variable ∙ sym (due-later t moment (b (9 + i * 6)) (variableIn b i) e)
 
-    pub due-variable : (t : ℕ) → 0 < t → variableIn (dueBlock i t b) i ≡ dueVariable t (variableIn b i)
+    pub due-variable : (t : ℕ) → 0 < t → variableIn (dueBlock i t b) i ≡ madeDue t (variableIn b i)
     due-variable t h = go (ℕ-discrete moment t)
       where
-        go : Dec (moment ≡ t) → variableIn (dueBlock i t b) i ≡ dueVariable t (variableIn b i)
+        go : Dec (moment ≡ t) → variableIn (dueBlock i t b) i ≡ madeDue t (variableIn b i)
         go (yes e) = rw (due-block-made t e) (made-is-due t h e)
         go (no e) = rw (due-block-later t e) (unmarked-is-due t e)
 
 -- ── the changes that the code makes ───────────────────────────────────────────────────────────────
 module _ {a m : List ℕ} (s i : ℕ) where
   pub assign-changes : (v : ℕ) → s ≤ 64 → i < 16 → InBlock s a m (assignedBlock i v (block a s))
-      → Changes s a m (assignedBlock i v (block a s)) (withVariable (ownerAt s i) (λ x. assigned x v))
+      → Changes s a m (assignedBlock i v (block a s)) (withVariable (ownerAt s i) (λ x. writtenTo x v))
   assign-changes v h few p =
-      changes-variable p i few (assigned-within (block a s) i few v) (λ (x : Variable). assigned x v) (assigned-variable (block a s) i few v) h
+      changes-variable p i few (assigned-within (block a s) i few v) (λ (x : Variable). writtenTo x v) (assigned-variable (block a s) i few v) h
 
   pub schedule-changes : (t v : ℕ) → s ≤ 64 → i < 16 → 0 < t → InBlock s a m (scheduledBlock i t v (block a s))
-      → Changes s a m (scheduledBlock i t v (block a s)) (withVariable (ownerAt s i) (λ x. scheduled x t v))
+      → Changes s a m (scheduledBlock i t v (block a s)) (withVariable (ownerAt s i) (λ x. scheduledOn x t v))
   schedule-changes t v h few some p =
-      changes-variable p i few (scheduled-within (block a s) i few t v) (λ (x : Variable). scheduled x t v) (scheduled-variable (block a s) i few t v some) h
+      changes-variable p i few (scheduled-within (block a s) i few t v) (λ (x : Variable). scheduledOn x t v) (scheduled-variable (block a s) i few t v some) h
 
   pub unmark-changes : s ≤ 64 → i < 16 → InBlock s a m (unmarkedBlock i (block a s))
-      → Changes s a m (unmarkedBlock i (block a s)) (withVariable (ownerAt s i) (λ x. unmarkedVariable x))
+      → Changes s a m (unmarkedBlock i (block a s)) (withVariable (ownerAt s i) (λ x. unmarkedOf x))
   unmark-changes h few p =
-      changes-variable p i few (unmarked-within (block a s) i few) (λ (x : Variable). unmarkedVariable x) (unmarked-variable (block a s) i few) h
+      changes-variable p i few (unmarked-within (block a s) i few) (λ (x : Variable). unmarkedOf x) (unmarked-variable (block a s) i few) h
 
   pub due-changes : (t : ℕ) → s ≤ 64 → i < 16 → 0 < t → InBlock s a m (dueBlock i t (block a s))
-      → Changes s a m (dueBlock i t (block a s)) (withVariable (ownerAt s i) (λ x. dueVariable t x))
+      → Changes s a m (dueBlock i t (block a s)) (withVariable (ownerAt s i) (λ x. madeDue t x))
   due-changes t h few some p =
-      changes-variable p i few (due-within (block a s) i few t) (λ (x : Variable). dueVariable t x) (due-variable (block a s) i few t some) h
+      changes-variable p i few (due-within (block a s) i few t) (λ (x : Variable). madeDue t x) (due-variable (block a s) i few t some) h

@@ -7,7 +7,7 @@ use native.Mathlib.Omega.{arith}
 use lib.ListN.{set}
 use borrow.Author.Tests.{lt-ltb, le-ltb}
 use Rattle.walk.specs.Memory.{variableAt}
-use Rattle.walk.specs.State.{Variable, fresh}
+use Rattle.walk.specs.State.{Variable, noVariable}
 use Rattle.scheduler.specs.Rows.{Row, withOwn, variableOf, rowsWith, environmentWith}
 use Rattle.blocks.proofs.InBlocks.{same-outside, same-triggers}
 use Rattle.blocks.proofs.RowChanges.{row-of, rows-in-block, environment-stays, rows-stay, environment-in-block, variable-same, bindings-same}
@@ -24,7 +24,7 @@ pub record InVariable (a b : Block) (i : ℕ) : Type 0 where
 -- The variable in a list of variables of a block, if the list goes so far.
 pub variable-listed : (b : Block) (n i : ℕ) → i < min n 16 → variableAt (variablesIn b n) i ≡ variableIn b i
 unfolding variableAt variablesIn
-variable-listed b n i h = getD-tabulate (min n 16) (variableIn b) i (fresh 0) h
+variable-listed b n i h = getD-tabulate (min n 16) (variableIn b) i noVariable h
 
 module _ (a b : Block) (i : ℕ) (few : i < 16) (v : InVariable a b i) where
   pub other-variable : (j : ℕ) → j < 16 → (j ≡ i → ⊥) → variableIn b j ≡ variableIn a j

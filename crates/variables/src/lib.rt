@@ -3,9 +3,9 @@
 ghost use Prim.Native.Nat.{_≤_, _<_};
 ghost use Rattle.machine.specs.Words.{HasMachine};
 ghost use Rattle.machine.specs.Layout.{waitingMoment};
-ghost use Rattle.scheduler.specs.Engine.{assigned, scheduled};
+ghost use Rattle.walk.specs.State.{writtenTo, scheduledOn, madeDue, unmarkedOf};
 ghost use Rattle.blocks.specs.Blocks.{block, ownerAt, rowsOf};
-ghost use Rattle.blocks.specs.Store.{withVariable, dueVariable, unmarkedVariable};
+ghost use Rattle.blocks.specs.Store.{withVariable};
 ghost use Rattle.blocks.specs.Changes.{InBlock, Changes, madeBlock, assignedBlock, scheduledBlock, dueBlock, unmarkedBlock};
 ghost use Rattle.variables.specs.Bindings.{ReadOf, BoundTo};
 use blocks::put_word;
@@ -76,7 +76,7 @@ pub fn due(m: &[u32], s: usize, index: usize) -> u64
 // A write: the value, and the mark of this instant.
 pub fn assign(m: &mut [u32], s: usize, index: usize, v: u32)
     requires { ⌜ HasMachine (now m) × (s ≤ 64) × (index < 16) ⌝ }
-    ensures { λ _. ⌜ Changes s (now (m .entry)) (now (m .exit)) (assignedBlock index v (block (now (m .entry)) s)) (withVariable (ownerAt s index) (λ x. assigned x v)) ⌝ }
+    ensures { λ _. ⌜ Changes s (now (m .entry)) (now (m .exit)) (assignedBlock index v (block (now (m .entry)) s)) (withVariable (ownerAt s index) (λ x. writtenTo x v)) ⌝ }
 {
     put_word(m, s, VALUE + index * VARIABLE_WORDS, v);
     put_word(m, s, WRITTEN + index, 1);
@@ -86,7 +86,7 @@ pub fn assign(m: &mut [u32], s: usize, index: usize, v: u32)
 pub fn schedule(m: &mut [u32], s: usize, index: usize, moment: Moment, v: u32)
     requires { ⌜ HasMachine (now m) × (s ≤ 64) × (index < 16) × (0 < moment .0) ⌝ }
     ensures { λ _. ⌜ Changes s (now (m .entry)) (now (m .exit)) (scheduledBlock index (moment .0) v (block (now (m .entry)) s))
-        (withVariable (ownerAt s index) (λ x. scheduled x (moment .0) v)) ⌝ }
+        (withVariable (ownerAt s index) (λ x. scheduledOn x (moment .0) v)) ⌝ }
 {
     put_word(m, s, WAITING + index * VARIABLE_WORDS, v);
     put_word(
@@ -120,7 +120,7 @@ fn make(m: &mut [u32], s: usize, index: usize)
 pub fn make_due(m: &mut [u32], s: usize, index: usize, present: Moment)
     requires { ⌜ HasMachine (now m) × (s ≤ 64) × (index < 16) × (0 < present .0) ⌝ }
     ensures { λ _. ⌜ Changes s (now (m .entry)) (now (m .exit)) (dueBlock index (present .0) (block (now (m .entry)) s))
-        (withVariable (ownerAt s index) (λ x. dueVariable (present .0) x)) ⌝ }
+        (withVariable (ownerAt s index) (λ x. madeDue (present .0) x)) ⌝ }
 {
     if due(m, s, index) == present.0 {
         make(m, s, index);
@@ -132,7 +132,7 @@ pub fn make_due(m: &mut [u32], s: usize, index: usize, present: Moment)
 // The mark of this instant taken away.
 pub fn unmark(m: &mut [u32], s: usize, index: usize)
     requires { ⌜ HasMachine (now m) × (s ≤ 64) × (index < 16) ⌝ }
-    ensures { λ _. ⌜ Changes s (now (m .entry)) (now (m .exit)) (unmarkedBlock index (block (now (m .entry)) s)) (withVariable (ownerAt s index) (λ x. unmarkedVariable x)) ⌝ }
+    ensures { λ _. ⌜ Changes s (now (m .entry)) (now (m .exit)) (unmarkedBlock index (block (now (m .entry)) s)) (withVariable (ownerAt s index) (λ x. unmarkedOf x)) ⌝ }
 {
     put_word(m, s, WRITTEN + index, 0);
 }

@@ -5,22 +5,14 @@ use Prim.Native.Nat.{ℕ, suc, _+_, _-_}
 use lib.Dec.{eqb, leb}
 use lib.ListN.{drop, replicate}
 use Rattle.listing.specs.Listing.{Listing, Call}
-use Rattle.walk.specs.State.{Waiting, idle, due, Variable, fresh, Node, node, Forest, empty, more, liveInForest, State, Running, newRunning, Turn, Result, ok, _>>=_}
-use Rattle.walk.specs.Memory.{writeAt, consecutive}
+use Rattle.walk.specs.State.{Waiting, idle, due, Variable, newVariable, madeDue, unmarkedOf, Node, node, Forest, empty, more, liveInForest, State, Running, newRunning, Turn, Result, ok, _>>=_}
+use Rattle.walk.specs.Memory.{inputAt, consecutive}
 use Rattle.walk.specs.Walk.{newRoutine, begin, run, visitForest}
 
 -- ── rule 1: "Every waiting write due at t is made, and is gone." ──────────────────────────────────
-unfoldable pub madeIfDue : Bool → ℕ → ℕ → ℕ → Variable
-madeIfDue true old m v = record { value = v; written = true; waiting = idle }
-madeIfDue false old m v = record { value = old; written = false; waiting = due m v }
-
-unfoldable pub dueWrite : ℕ → ℕ → Waiting → Variable
-dueWrite t old idle = record { value = old; written = false; waiting = idle }
-dueWrite t old (due m v) = madeIfDue (eqb m t) old m v
-
 unfoldable pub dueWrites : ℕ → List Variable → List Variable
 dueWrites t [] = []
-dueWrites t (x ∷ xs) = dueWrite t (x .value) (x .waiting) ∷ dueWrites t xs
+dueWrites t (x ∷ xs) = madeDue t x ∷ dueWrites t xs
 
 unfoldable mutual
   pub dueInNode : Node → ℕ → Node
@@ -38,12 +30,12 @@ pub record Write : Type 0 where
 -- "Then the call's inputs are written."
 unfoldable pub applyInputs : List Write → List Variable → List Variable
 applyInputs [] environment = environment
-applyInputs (w ∷ ws) environment = applyInputs ws (writeAt environment (w .number) (w .value))
+applyInputs (w ∷ ws) environment = applyInputs ws (inputAt environment (w .number) (w .value))
 
 -- ── after the visit: the marks of this instant go ─────────────────────────────────────────────────
 unfoldable pub unmarked : List Variable → List Variable
 unmarked [] = []
-unmarked (x ∷ xs) = record { value = x .value; written = false; waiting = x .waiting } ∷ unmarked xs
+unmarked (x ∷ xs) = unmarkedOf x ∷ unmarked xs
 
 unfoldable mutual
   pub unmarkedNode : Node → Node
@@ -129,7 +121,7 @@ environmentNames listing = consecutive (environmentSize listing) 0
 
 -- "The start is the instant 0, with main newly called and no inputs": main, what is running then, and main's turn.
 abbrev pub newEnvironment : Listing → List Variable
-newEnvironment listing = replicate (environmentSize listing) (fresh 0)
+newEnvironment listing = replicate (environmentSize listing) (newVariable 0)
 
 abbrev pub newMain : Listing → Node
 newMain listing = newRoutine listing (newEnvironment listing) (environmentNames listing) (mainCall listing)

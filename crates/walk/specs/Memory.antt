@@ -5,20 +5,21 @@ use Prim.Native.Nat.{ℕ, zero, suc}
 use lib.ListN.{length, getD, set, replicate}
 use Rattle.words.specs.Words.{bit, wrappingAdd, wrappingSubtract, wrappingMultiply, signedLess}
 use Rattle.listing.specs.Listing.{Piece, literal, valueOf, writtenMark, plus, minus, times, less, Kind, byReference, byValue}
-use Rattle.walk.specs.State.{Variable, Waiting, idle, due, fresh}
+use Rattle.walk.specs.State.{Variable, noVariable, newVariable, writtenTo, inputTo, scheduledOn}
 
--- The variable at an address; past the last one, a fresh one.
+-- The variable at an address; past the last one there is none.
 unfoldable pub variableAt : List Variable → ℕ → Variable
-variableAt memory a = getD memory a (fresh 0)
+variableAt memory a = getD memory a noVariable
 
--- A write: the new value, the mark; "`S` and inputs leave [the waiting write] there".
+-- The variable at an address changed: by a write, by an input, by a waiting write.
 unfoldable pub writeAt : List Variable → ℕ → ℕ → List Variable
-writeAt memory a v = set memory a (record { value = v; written = true; waiting = (variableAt memory a) .waiting })
+writeAt memory a v = set memory a (writtenTo (variableAt memory a) v)
 
--- A waiting write of v due at t: "a new `A` on it replaces the old one, earlier or later".
+unfoldable pub inputAt : List Variable → ℕ → ℕ → List Variable
+inputAt memory a v = set memory a (inputTo (variableAt memory a) v)
+
 unfoldable pub scheduleAt : List Variable → ℕ → ℕ → ℕ → List Variable
-scheduleAt memory a t v =
-    set memory a (record { value = (variableAt memory a) .value; written = (variableAt memory a) .written; waiting = due t v })
+scheduleAt memory a t v = set memory a (scheduledOn (variableAt memory a) t v)
 
 -- No variable has this address: there is none past 16 environment variables and 11 times 16 owned ones.
 -- Only a name that is not there (question 4) would have it.
@@ -33,6 +34,10 @@ unfoldable pub addressesOf : List ℕ → List ℕ → List ℕ
 addressesOf names [] = []
 addressesOf names (n ∷ ns) = addressOf names n ∷ addressesOf names ns
 
+-- What a name stands for.
+abbrev pub namedIn : List Variable → List ℕ → ℕ → Variable
+namedIn memory names n = variableAt memory (addressOf names n)
+
 -- "if a name of that wait has been written in this instant before its turn"
 unfoldable pub anyWritten : List Variable → List ℕ → List ℕ → Bool
 anyWritten memory names [] = false
@@ -45,27 +50,31 @@ operate f [] = []
 operate f (y ∷ []) = []
 operate f (y ∷ (x ∷ held)) = f x y ∷ held
 
--- "`#v` (a signed 32-bit literal), `n` (a name's value), `@n` (1 if it was written in this instant, else 0), `+ - * <`"
-unfoldable pub evaluatePiece : List Variable → List ℕ → Piece → List ℕ → List ℕ
-evaluatePiece memory names (literal v) held = v ∷ held
-evaluatePiece memory names (valueOf n) held = (variableAt memory (addressOf names n)) .value ∷ held
-evaluatePiece memory names (writtenMark n) held = bit ((variableAt memory (addressOf names n)) .written) ∷ held
-evaluatePiece memory names plus held = operate wrappingAdd held
-evaluatePiece memory names minus held = operate wrappingSubtract held
-evaluatePiece memory names times held = operate wrappingMultiply held
-evaluatePiece memory names less held = operate (λ x y. bit (signedLess x y)) held
+-- "`#v` (a signed 32-bit literal), `n` (a name's value), `@n` (1 if it was written in this instant, else 0), `+ - * <`";
+-- `name` says what each name stands for.
+unfoldable pub evaluatePiece : (ℕ → Variable) → Piece → List ℕ → List ℕ
+evaluatePiece name (literal v) held = v ∷ held
+evaluatePiece name (valueOf n) held = (name n) .value ∷ held
+evaluatePiece name (writtenMark n) held = bit ((name n) .written) ∷ held
+evaluatePiece name plus held = operate wrappingAdd held
+evaluatePiece name minus held = operate wrappingSubtract held
+evaluatePiece name times held = operate wrappingMultiply held
+evaluatePiece name less held = operate (λ x y. bit (signedLess x y)) held
 
-unfoldable pub evaluatePieces : List Variable → List ℕ → List Piece → List ℕ → List ℕ
-evaluatePieces memory names [] held = held
-evaluatePieces memory names (p ∷ ps) held = evaluatePieces memory names ps (evaluatePiece memory names p held)
+unfoldable pub evaluatePieces : (ℕ → Variable) → List Piece → List ℕ → List ℕ
+evaluatePieces name [] held = held
+evaluatePieces name (p ∷ ps) held = evaluatePieces name ps (evaluatePiece name p held)
 
 unfoldable pub top : List ℕ → ℕ
 top [] = 0
 top (x ∷ held) = x
 
 -- "It leaves one value."
+unfoldable pub evaluateBy : (ℕ → Variable) → List Piece → ℕ
+evaluateBy name e = top (evaluatePieces name e [])
+
 unfoldable pub evaluate : List Variable → List ℕ → List Piece → ℕ
-evaluate memory names e = top (evaluatePieces memory names e [])
+evaluate memory names e = evaluateBy (namedIn memory names) e
 
 -- ── names: "Names in a routine are its arguments, then its locals, numbered from 0." ──────────────
 -- k addresses from a on
@@ -83,9 +92,10 @@ bindNames (byValue ∷ ks) [] locals base = base ∷ bindNames ks [] locals (suc
 bindNames (byValue ∷ ks) (a ∷ passed) locals base = base ∷ bindNames ks passed locals (suc base)
 
 -- The variables that a new routine owns: one for each argument by value, holding what was passed, and its locals.
-unfoldable pub ownVariables : List Kind → List ℕ → ℕ → List Variable → List Variable
-ownVariables [] passed locals memory = replicate locals (fresh 0)
-ownVariables (byReference ∷ ks) [] locals memory = ownVariables ks [] locals memory
-ownVariables (byReference ∷ ks) (a ∷ passed) locals memory = ownVariables ks passed locals memory
-ownVariables (byValue ∷ ks) [] locals memory = fresh 0 ∷ ownVariables ks [] locals memory
-ownVariables (byValue ∷ ks) (a ∷ passed) locals memory = fresh ((variableAt memory a) .value) ∷ ownVariables ks passed locals memory
+-- `name` says what each of the caller's names stands for.
+unfoldable pub ownVariables : List Kind → List ℕ → ℕ → (ℕ → Variable) → List Variable
+ownVariables [] arguments locals name = replicate locals (newVariable 0)
+ownVariables (byReference ∷ ks) [] locals name = ownVariables ks [] locals name
+ownVariables (byReference ∷ ks) (n ∷ arguments) locals name = ownVariables ks arguments locals name
+ownVariables (byValue ∷ ks) [] locals name = newVariable 0 ∷ ownVariables ks [] locals name
+ownVariables (byValue ∷ ks) (n ∷ arguments) locals name = newVariable ((name n) .value) ∷ ownVariables ks arguments locals name

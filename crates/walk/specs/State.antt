@@ -1,8 +1,9 @@
 -- The state of the walk: variables with their waiting writes, and the tree of live routines.
 -- A state is said by structure alone: nothing in it tells where a record sits.
-use mathlib.Core.Bool.{Bool, false}
+use mathlib.Core.Bool.{Bool, true, false}
 use mathlib.Core.List.{List}
 use Prim.Native.Nat.{ℕ, suc, _+_}
+use lib.Dec.{eqb}
 
 -- "Each variable has at most one waiting write": none, or one with its due moment and its value.
 pub data Waiting : Type 0 where
@@ -15,9 +16,41 @@ pub record Variable : Type 0 where
   pub written : Bool
   pub waiting : Waiting
 
+-- What is read where there is no variable.
+unfoldable pub noVariable : Variable
+noVariable = record { value = 0; written = false; waiting = idle }
+
+-- ── all changes of a variable ─────────────────────────────────────────────────────────────────────
 -- "New variables hold 0, or the passed value for `v`, and are not written."
-unfoldable pub fresh : ℕ → Variable
-fresh v = record { value = v; written = false; waiting = idle }
+unfoldable pub newVariable : ℕ → Variable
+newVariable v = record { value = v; written = false; waiting = idle }
+
+-- A write: the new value, the mark; "`S` and inputs leave [the waiting write] there".
+unfoldable pub writtenTo : Variable → ℕ → Variable
+writtenTo x v = record { value = v; written = true; waiting = x .waiting }
+
+unfoldable pub inputTo : Variable → ℕ → Variable
+inputTo x v = writtenTo x v
+
+-- A waiting write of v due at t: "a new `A` on it replaces the old one, earlier or later".
+unfoldable pub scheduledOn : Variable → ℕ → ℕ → Variable
+scheduledOn x t v = record { value = x .value; written = x .written; waiting = due t v }
+
+-- After an instant its mark goes.
+unfoldable pub unmarkedOf : Variable → Variable
+unmarkedOf x = record { value = x .value; written = false; waiting = x .waiting }
+
+-- Rule 1: "Every waiting write due at t is made, and is gone." A variable without one is not written yet.
+unfoldable pub madeIfDue : Bool → Variable → ℕ → Variable
+madeIfDue true x v = record { value = v; written = true; waiting = idle }
+madeIfDue false x v = unmarkedOf x
+
+unfoldable pub dueWrite : ℕ → Variable → Waiting → Variable
+dueWrite t x idle = unmarkedOf x
+dueWrite t x (due m v) = madeIfDue (eqb m t) x v
+
+unfoldable pub madeDue : ℕ → Variable → Variable
+madeDue t x = dueWrite t x (x .waiting)
 
 -- A live routine, `node number place names own children`: its number in the listing, the instruction it is at,
 -- the address of each of its names, the variables it owns, its live children in the order of their `F`.

@@ -8,7 +8,7 @@ use Rattle.words.specs.Words.{isPositive}
 use Rattle.words.specs.Moments.{momentRange}
 use Rattle.listing.specs.Listing.{Listing, Routine, Call, Instruction, assign, schedule, branch, jump, wait, fork, end}
 use Rattle.walk.specs.State.{Variable, Node, node, Forest, empty, more, _⊕_, Frame, frame, goTo, next, Running, withMemory, withLeft, withLive, withWoken, Turn, Result, stop, ok, _>>=_}
-use Rattle.walk.specs.Memory.{writeAt, scheduleAt, addressOf, addressesOf, anyWritten, evaluate, bindNames, ownVariables}
+use Rattle.walk.specs.Memory.{writeAt, scheduleAt, addressOf, addressesOf, anyWritten, namedIn, evaluate, bindNames, ownVariables}
 
 -- ── the listing's routines and instructions, by number ────────────────────────────────────────────
 unfoldable pub noRoutine : Routine
@@ -29,8 +29,8 @@ instructionOf listing me = instructionAt listing (me .routine) (me .place)
 unfoldable pub newRoutine : Listing → List Variable → List ℕ → Call → Node
 newRoutine listing memory names c =
     let called = routineAt listing (c .callee) in
-    let passed = addressesOf names (c .arguments) in
-    node (c .callee) 0 (bindNames (called .kinds) passed (called .locals) (length memory)) (ownVariables (called .kinds) passed (called .locals) memory) empty
+    node (c .callee) 0 (bindNames (called .kinds) (addressesOf names (c .arguments)) (called .locals) (length memory))
+    (ownVariables (called .kinds) (c .arguments) (called .locals) (namedIn memory names)) empty
 
 unfoldable pub newRoutines : Listing → List Variable → List ℕ → List Call → Forest
 newRoutines listing memory names [] = empty

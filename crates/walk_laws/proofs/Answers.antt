@@ -1,26 +1,40 @@
 -- The walk always answers: the start on any listing, and an instant from any state of the walk, go through or stop with one of
--- the questions 13 to 17. The stop 0 that stands for a routine asleep at neither `W` nor `F` never comes, since question 7
+-- the numbers that stop a machine. The stop 0 that stands for a routine asleep at neither `W` nor `F` never comes, since question 7
 -- leaves no such routine. Nothing is asked of the listing: past the end of a routine's code stands an `E`.
 -- Letters: `me` is the frame of a routine, s what is running, f a forest, cs child fields, t a moment.
+use mathlib.Core.Path.{_≡_, refl}
 use mathlib.Core.Bool.{Bool, true, false}
 use mathlib.Core.List.{List}
-use Prim.Native.Nat.{ℕ, zero, suc, _≤_}
+use Prim.Native.Nat.{ℕ, zero, suc, _≤_, _<_}
+use lib.Dec.{leb}
+use borrow.Author.Tests.{leb-true}
 use native.Mathlib.Omega.{arith}
 use Rattle.listing.specs.Listing.{Listing, Call, Instruction, assign, schedule, branch, jump, wait, fork, end}
 use Rattle.walk.specs.State.{Variable, Node, node, Forest, empty, more, State, Running, Turn, Result, stop, ok, _>>=_, Frame, goTo, next}
 use Rattle.walk.specs.Walk.{newRoutines, sleep, leave, Runner, inTurn, begin, join, Move, goesTo, sleeps, forks, ends, stops, asking, move, carryOut, execute, step, run, wake, resume, visit, visitForest, instructionOf}
 use Rattle.walk.specs.Instant.{Write, finish, start, instant}
 use Rattle.walk.specs.Question7.{Asleep, waits, joins, LiveChildren, no-more, ended, lives, IsState}
+use Rattle.walk_laws.proofs.Booleans.{and-left, and-right}
 use Rattle.walk_laws.proofs.Shape.{due-writes-keep-shape}
+use Rattle.walk.specs.Calls.{isStop}
 
 pub data Answered {A : Type 0} : Result A → Type 0 where
   done : {a : A} → Answered (ok a)
-  stopped : (k : ℕ) → 13 ≤ k → k ≤ 17 → Answered (stop k)
+  stopped : (k : ℕ) → isStop k ≡ true → Answered (stop k)
+
+-- No stop is numbered 0, and each number is a word.
+pub stop-is-not-0 : (k : ℕ) → isStop k ≡ true → 1 ≤ k
+unfolding isStop
+stop-is-not-0 k e = let low : 13 ≤ k = leb-true 13 k (and-left (leb 13 k) _ e) in omega arith
+
+pub stop-is-word : (k : ℕ) → isStop k ≡ true → k < 4294967296
+unfolding isStop
+stop-is-word k e = let most : k ≤ 17 = leb-true k 17 (and-right (leb 13 k) _ e) in omega arith
 
 then-answers : {A B : Type 0} {x : Result A} (f : A → Result B) → Answered x → ((a : A) → Answered (f a)) → Answered (x >>= f)
 unfolding _>>=_
 then-answers f (done {a = a}) g = g a
-then-answers f (stopped k l m) g = stopped k l m
+then-answers f (stopped k h) g = stopped k h
 
 -- A runner that always answers.
 abbrev Answers : Runner → Type 0
@@ -53,23 +67,23 @@ data Asked : Move → Type 0 where
   falls-asleep : Asked sleeps
   makes-children : {cs : List Call} → Asked (forks cs)
   comes-to-an-end : Asked ends
-  asked : (k : ℕ) → 13 ≤ k → k ≤ 17 → Asked (stops k)
+  asked : (k : ℕ) → isStop k ≡ true → Asked (stops k)
 
-asking-asked : (k : ℕ) → 13 ≤ k → k ≤ 17 → (yes : Bool) (m : Move) → Asked m → Asked (asking k yes m)
+asking-asked : (k : ℕ) → isStop k ≡ true → (yes : Bool) (m : Move) → Asked m → Asked (asking k yes m)
 unfolding asking
-asking-asked k l u true m h = h
-asking-asked k l u false m h = asked k l u
+asking-asked k e true m h = h
+asking-asked k e false m h = asked k e
 
 move-asked : (now : ℕ) (i : Instruction) (me : Frame) (live : ℕ) (memory : List Variable) → Asked (move now i me live memory)
-unfolding move
+unfolding move isStop
 move-asked now (assign n e) me live memory = goes-on
 move-asked now (schedule n d e) me live memory =
-    asking-asked 16 (omega arith) (omega arith) _ _ (asking-asked 17 (omega arith) (omega arith) _ _ goes-on)
+    asking-asked 16 refl _ _ (asking-asked 17 refl _ _ goes-on)
 move-asked now (branch e k) me live memory = goes-on
 move-asked now (jump k) me live memory = goes-on
 move-asked now (wait ns) me live memory = falls-asleep
 move-asked now (fork cs) me live memory =
-    asking-asked 14 (omega arith) (omega arith) _ _ (asking-asked 15 (omega arith) (omega arith) _ _ makes-children)
+    asking-asked 14 refl _ _ (asking-asked 15 refl _ _ makes-children)
 move-asked now end me live memory = comes-to-an-end
 
 module _ (listing : Listing) (now : ℕ) where
@@ -82,7 +96,7 @@ module _ (listing : Listing) (now : ℕ) where
         then-answers _ (in-turn-answers go answers (suc (me .level)) (newRoutines listing (s .memory) (me .names) cs) _) λ a.
         join-answers go answers me (a .tree) (a .running)
     carryOut-answers _ comes-to-an-end me s = done
-    carryOut-answers _ (asked k l m) me s = stopped k l m
+    carryOut-answers _ (asked k e) me s = stopped k e
 
     execute-answers : (i : Instruction) → Answers (execute listing now go i)
     unfolding execute
@@ -90,12 +104,12 @@ module _ (listing : Listing) (now : ℕ) where
 
   step-answers : (f : Running → Result Turn) (k : ℕ) (s : Running) → ((u : Running) → Answered (f u)) → Answered (step f k s)
   unfolding step
-  step-answers f zero s h = stopped 13 (omega arith) (omega arith)
+  step-answers f zero s h = stopped 13 (unfold isStop in refl)
   step-answers f (suc k) s h = h _
 
   run-answers : (bound : ℕ) → Answers (run listing now bound)
   unfolding run
-  run-answers zero me s = stopped 13 (omega arith) (omega arith)
+  run-answers zero me s = stopped 13 (unfold isStop in refl)
   run-answers (suc bound) me s =
       step-answers _ (s .left) s λ u. execute-answers (run listing now bound) (run-answers bound) (instructionOf listing me) me u
 

@@ -13,8 +13,8 @@ use native.Mathlib.Omega.{arith}
 use native.Mathlib.Nat.{mod-lt}
 use Rattle.words.specs.Words.{bit, wrappingAdd, wrappingSubtract, wrappingMultiply, signedLess}
 use Rattle.listing.specs.Listing.{Listing, Instruction, assign, schedule, branch, jump, wait, fork, end, Piece, literal, valueOf, writtenMark, plus, minus, times, less, Kind, byReference, byValue}
-use Rattle.walk.specs.State.{Variable, fresh}
-use Rattle.walk.specs.Memory.{variableAt, writeAt, scheduleAt, addressOf, operate, evaluatePiece, evaluatePieces, top, evaluate, ownVariables}
+use Rattle.walk.specs.State.{Variable, noVariable, newVariable, unmarkedOf, writtenTo, scheduledOn, inputTo}
+use Rattle.walk.specs.Memory.{variableAt, writeAt, scheduleAt, addressOf, operate, evaluatePiece, evaluatePieces, top, evaluate, ownVariables, inputAt, namedIn, evaluateBy}
 use Rattle.walk.specs.Walk.{instructionAt}
 use Rattle.walk.specs.Instant.{unmarked}
 use Rattle.walk.specs.Question7.{dueAfter, atRest, allAtRest, ownedCount}
@@ -52,12 +52,12 @@ set-steady now (y ∷ xs) zero x h k = rw (k, and-right (steady now y) _ h)
 set-steady now (y ∷ xs) (suc a) x h k = rw (and-left (steady now y) _ h, set-steady now xs a x (and-right (steady now y) _ h) k)
 
 -- ── one variable ──────────────────────────────────────────────────────────────────────────────────
-fresh-steady : (now v : ℕ) → v < 4294967296 → steady now (fresh v) ≡ true
-unfolding steady fresh dueAfter
+fresh-steady : (now v : ℕ) → v < 4294967296 → steady now (newVariable v) ≡ true
+unfolding steady noVariable newVariable dueAfter
 fresh-steady now v h = rw (lt-ltb _ _ h)
 
-getD-steady : (now : ℕ) (xs : List Variable) (a : ℕ) → allSteady now xs ≡ true → steady now (getD xs a (fresh 0)) ≡ true
-unfolding allSteady
+getD-steady : (now : ℕ) (xs : List Variable) (a : ℕ) → allSteady now xs ≡ true → steady now (getD xs a noVariable) ≡ true
+unfolding allSteady noVariable newVariable
 getD-steady now [] a h = fresh-steady now 0 (omega arith)
 getD-steady now (x ∷ xs) zero h = and-left (steady now x) _ h
 getD-steady now (x ∷ xs) (suc a) h = getD-steady now xs a (and-right (steady now x) _ h)
@@ -66,7 +66,7 @@ variable-steady : (now : ℕ) (xs : List Variable) (a : ℕ) → allSteady now x
 unfolding variableAt
 variable-steady now xs a h = getD-steady now xs a h
 
-value-is-word : (now : ℕ) (xs : List Variable) (a : ℕ) → allSteady now xs ≡ true → (variableAt xs a) .value < 4294967296
+pub value-is-word : (now : ℕ) (xs : List Variable) (a : ℕ) → allSteady now xs ≡ true → (variableAt xs a) .value < 4294967296
 unfolding steady
 value-is-word now xs a h = ltb-true _ _ (and-left (ltb ((variableAt xs a) .value) 4294967296) _ (variable-steady now xs a h))
 
@@ -76,18 +76,22 @@ waiting-is-later now xs a h = and-right (ltb ((variableAt xs a) .value) 42949672
 
 -- ── writes and waiting writes ─────────────────────────────────────────────────────────────────────
 pub write-steady : (now : ℕ) (xs : List Variable) (a v : ℕ) → allSteady now xs ≡ true → v < 4294967296 → allSteady now (writeAt xs a v) ≡ true
-unfolding writeAt steady
+unfolding writeAt steady writtenTo
 write-steady now xs a v h l = set-steady now xs a _ h (rw (lt-ltb _ _ l, waiting-is-later now xs a h))
+
+pub input-steady : (now : ℕ) (xs : List Variable) (a v : ℕ) → allSteady now xs ≡ true → v < 4294967296 → allSteady now (inputAt xs a v) ≡ true
+unfolding inputAt inputTo writtenTo steady
+input-steady now xs a v h l = set-steady now xs a _ h (rw (lt-ltb _ _ l, waiting-is-later now xs a h))
 
 pub schedule-steady : (now : ℕ) (xs : List Variable) (a t v : ℕ) → allSteady now xs ≡ true → now < t → t < 18446744073709551616 → v < 4294967296 →
     allSteady now (scheduleAt xs a t v) ≡ true
-unfolding scheduleAt steady dueAfter
+unfolding scheduleAt steady dueAfter scheduledOn
 schedule-steady now xs a t v h later fits l =
     set-steady now xs a _ h (rw (lt-ltb _ _ (value-is-word now xs a h), lt-ltb _ _ later, lt-ltb _ _ fits, lt-ltb _ _ l))
 
 -- ── the end of the instant ────────────────────────────────────────────────────────────────────────
 pub unmarked-at-rest : (now : ℕ) (xs : List Variable) → allSteady now xs ≡ true → allAtRest now (unmarked xs) ≡ true
-unfolding allSteady steady unmarked allAtRest atRest
+unfolding allSteady steady unmarked allAtRest atRest unmarkedOf
 unmarked-at-rest now [] h = refl
 unmarked-at-rest now (x ∷ xs) h =
     let word = ltb (x .value) 4294967296 in
@@ -100,28 +104,29 @@ length-unmarked [] = refl
 length-unmarked (x ∷ xs) = ap suc (length-unmarked xs)
 
 -- ── what a new routine owns ───────────────────────────────────────────────────────────────────────
-pub replicate-steady : (now n : ℕ) → allSteady now (replicate n (fresh 0)) ≡ true
+pub replicate-steady : (now n : ℕ) → allSteady now (replicate n (newVariable 0)) ≡ true
 unfolding allSteady
 replicate-steady now zero = refl
 replicate-steady now (suc n) = rw (fresh-steady now 0 (omega arith), replicate-steady now n)
 
-pub own-steady : (now : ℕ) (kinds : List Kind) (passed : List ℕ) (locals : ℕ) (xs : List Variable) → allSteady now xs ≡ true →
-    allSteady now (ownVariables kinds passed locals xs) ≡ true
+pub own-steady : (now : ℕ) (kinds : List Kind) (arguments : List ℕ) (locals : ℕ) (name : ℕ → Variable) → ((n : ℕ) → (name n) .value < 4294967296) →
+    allSteady now (ownVariables kinds arguments locals name) ≡ true
 unfolding ownVariables allSteady
-own-steady now [] passed locals xs h = replicate-steady now locals
-own-steady now (byReference ∷ kinds) [] locals xs h = own-steady now kinds [] locals xs h
-own-steady now (byReference ∷ kinds) (a ∷ passed) locals xs h = own-steady now kinds passed locals xs h
-own-steady now (byValue ∷ kinds) [] locals xs h = rw (fresh-steady now 0 (omega arith), own-steady now kinds [] locals xs h)
-own-steady now (byValue ∷ kinds) (a ∷ passed) locals xs h =
-    rw (fresh-steady now ((variableAt xs a) .value) (value-is-word now xs a h), own-steady now kinds passed locals xs h)
+own-steady now [] arguments locals name h = replicate-steady now locals
+own-steady now (byReference ∷ kinds) [] locals name h = own-steady now kinds [] locals name h
+own-steady now (byReference ∷ kinds) (n ∷ arguments) locals name h = own-steady now kinds arguments locals name h
+own-steady now (byValue ∷ kinds) [] locals name h = rw (fresh-steady now 0 (omega arith), own-steady now kinds [] locals name h)
+own-steady now (byValue ∷ kinds) (n ∷ arguments) locals name h =
+    rw (fresh-steady now ((name n) .value) (h n), own-steady now kinds arguments locals name h)
 
-pub length-own : (kinds : List Kind) (passed : List ℕ) (locals : ℕ) (xs : List Variable) → length (ownVariables kinds passed locals xs) ≡ ownedCount kinds locals
+pub length-own : (kinds : List Kind) (arguments : List ℕ) (locals : ℕ) (name : ℕ → Variable) →
+    length (ownVariables kinds arguments locals name) ≡ ownedCount kinds locals
 unfolding ownVariables ownedCount
-length-own [] passed locals xs = length-replicate locals (fresh 0)
-length-own (byReference ∷ kinds) [] locals xs = length-own kinds [] locals xs
-length-own (byReference ∷ kinds) (a ∷ passed) locals xs = length-own kinds passed locals xs
-length-own (byValue ∷ kinds) [] locals xs = ap suc (length-own kinds [] locals xs)
-length-own (byValue ∷ kinds) (a ∷ passed) locals xs = ap suc (length-own kinds passed locals xs)
+length-own [] arguments locals name = length-replicate locals (newVariable 0)
+length-own (byReference ∷ kinds) [] locals name = length-own kinds [] locals name
+length-own (byReference ∷ kinds) (n ∷ arguments) locals name = length-own kinds arguments locals name
+length-own (byValue ∷ kinds) [] locals name = ap suc (length-own kinds [] locals name)
+length-own (byValue ∷ kinds) (n ∷ arguments) locals name = ap suc (length-own kinds arguments locals name)
 
 -- ── literals: "`#v` (a signed 32-bit literal)" ────────────────────────────────────────────────────
 unfoldable pub pieceInWords : Piece → Bool
@@ -165,25 +170,22 @@ operate-holds-words f h _ no-word = no-word
 operate-holds-words f h _ (word l no-word) = no-word
 operate-holds-words f h _ (word l (word m rest)) = word (h _ _) rest
 
-piece-holds-words : (now : ℕ) (xs : List Variable) (names : List ℕ) (p : Piece) (held : List ℕ) → allSteady now xs ≡ true → pieceInWords p ≡ true →
-    Words held → Words (evaluatePiece xs names p held)
-unfolding evaluatePiece pieceInWords
-piece-holds-words now xs names (literal v) held h l rest = word (ltb-true _ _ l) rest
-piece-holds-words now xs names (valueOf n) held h l rest = word (value-is-word now xs (addressOf names n) h) rest
-piece-holds-words now xs names (writtenMark n) held h l rest = word (bit-is-word ((variableAt xs (addressOf names n)) .written)) rest
-piece-holds-words now xs names plus held h l rest = operate-holds-words wrappingAdd (λ x y. mod-lt (x + y) (omega arith)) held rest
-piece-holds-words now xs names minus held h l rest =
-    operate-holds-words wrappingSubtract (λ x y. mod-lt (x + (4294967296 - y)) (omega arith)) held rest
-piece-holds-words now xs names times held h l rest = operate-holds-words wrappingMultiply (λ x y. mod-lt (x * y) (omega arith)) held rest
-piece-holds-words now xs names less held h l rest =
-    operate-holds-words (λ x y. bit (signedLess x y)) (λ x y. bit-is-word (signedLess x y)) held rest
+module _ (name : ℕ → Variable) (words : (n : ℕ) → (name n) .value < 4294967296) where
+  piece-holds-words : (p : Piece) (held : List ℕ) → pieceInWords p ≡ true → Words held → Words (evaluatePiece name p held)
+  unfolding evaluatePiece pieceInWords
+  piece-holds-words (literal v) held l rest = word (ltb-true _ _ l) rest
+  piece-holds-words (valueOf n) held l rest = word (words n) rest
+  piece-holds-words (writtenMark n) held l rest = word (bit-is-word ((name n) .written)) rest
+  piece-holds-words plus held l rest = operate-holds-words wrappingAdd (λ x y. mod-lt (x + y) (omega arith)) held rest
+  piece-holds-words minus held l rest = operate-holds-words wrappingSubtract (λ x y. mod-lt (x + (4294967296 - y)) (omega arith)) held rest
+  piece-holds-words times held l rest = operate-holds-words wrappingMultiply (λ x y. mod-lt (x * y) (omega arith)) held rest
+  piece-holds-words less held l rest = operate-holds-words (λ x y. bit (signedLess x y)) (λ x y. bit-is-word (signedLess x y)) held rest
 
-pieces-hold-words : (now : ℕ) (xs : List Variable) (names : List ℕ) (e : List Piece) (held : List ℕ) → allSteady now xs ≡ true →
-    expressionInWords e ≡ true → Words held → Words (evaluatePieces xs names e held)
-unfolding evaluatePieces expressionInWords
-pieces-hold-words now xs names [] held h l rest = rest
-pieces-hold-words now xs names (p ∷ ps) held h l rest =
-    pieces-hold-words now xs names ps _ h (and-right (pieceInWords p) _ l) (piece-holds-words now xs names p held h (and-left (pieceInWords p) _ l) rest)
+  pieces-hold-words : (e : List Piece) (held : List ℕ) → expressionInWords e ≡ true → Words held → Words (evaluatePieces name e held)
+  unfolding evaluatePieces expressionInWords
+  pieces-hold-words [] held l rest = rest
+  pieces-hold-words (p ∷ ps) held l rest =
+      pieces-hold-words ps _ (and-right (pieceInWords p) _ l) (piece-holds-words p held (and-left (pieceInWords p) _ l) rest)
 
 top-is-word : (held : List ℕ) → Words held → top held < 4294967296
 unfolding top
@@ -192,5 +194,6 @@ top-is-word _ (word l rest) = l
 
 pub evaluate-gives-word : (now : ℕ) (xs : List Variable) (names : List ℕ) (e : List Piece) → allSteady now xs ≡ true → expressionInWords e ≡ true →
     evaluate xs names e < 4294967296
-unfolding evaluate
-evaluate-gives-word now xs names e h l = top-is-word _ (pieces-hold-words now xs names e [] h l no-word)
+unfolding evaluate evaluateBy
+evaluate-gives-word now xs names e h l =
+    top-is-word _ (pieces-hold-words (namedIn xs names) (λ n. value-is-word now xs (addressOf names n) h) e [] l no-word)

@@ -9,8 +9,8 @@ use lib.Dec.{ltb, leb, eqb}
 use borrow.Author.Tests.{lt-ltb, le-ltb, ltb-true, ltb-false, leb-true, leb-false, eqb-false}
 use native.Mathlib.Omega.{arith}
 use Rattle.listing.specs.Listing.{Listing, Call}
-use Rattle.walk.specs.State.{Waiting, idle, due, Variable, Node, Forest, State}
-use Rattle.walk.specs.Instant.{madeIfDue, dueWrite, dueWrites, NextDue, never, moment, earlierOf, earlier, dueOf, dueOfVariables, dueOfNode, dueOfForest, nextDue}
+use Rattle.walk.specs.State.{Waiting, idle, due, Variable, Node, Forest, State, dueWrite, madeIfDue, unmarkedOf, madeDue}
+use Rattle.walk.specs.Instant.{dueWrites, NextDue, never, moment, earlierOf, earlier, dueOf, dueOfVariables, dueOfNode, dueOfForest, nextDue}
 use Rattle.walk.specs.Question7.{dueAfter, atRest, allAtRest, Asleep, waits, joins, LiveChildren, no-more, ended, lives, IsState}
 use Rattle.walk.specs.Calls.{dueBefore}
 use Rattle.walk_laws.proofs.Booleans.{and-left, and-right}
@@ -44,23 +44,24 @@ earlier-not-before t (moment m) never p q = p
 earlier-not-before t (moment m) (moment n) p q = one-of-two (leb m n) m n t p q
 
 -- ── the writes due at t are made ──────────────────────────────────────────────────────────────────
-made-if-due-steady : (now t : ℕ) (made : Bool) (old m v : ℕ) → eqb m t ≡ made → old < 4294967296 → dueAfter now (due m v) ≡ true → t ≤ m →
-    steady t (madeIfDue made old m v) ≡ true
-unfolding madeIfDue steady dueAfter
-made-if-due-steady now t true old m v e o h l = rw (and-right (ltb m 18446744073709551616) _ (and-right (ltb now m) _ h))
-made-if-due-steady now t false old m v e o h l =
+made-if-due-steady : (now t : ℕ) (made : Bool) (x : Variable) (m v : ℕ) → x .waiting ≡ due m v → eqb m t ≡ made → x .value < 4294967296 →
+    dueAfter now (due m v) ≡ true → t ≤ m → steady t (madeIfDue made x v) ≡ true
+unfolding madeIfDue unmarkedOf steady dueAfter
+made-if-due-steady now t true x m v w e o h l = rw (and-right (ltb m 18446744073709551616) _ (and-right (ltb now m) _ h))
+made-if-due-steady now t false x m v w e o h l =
     let other : m ≡ t → ⊥ = eqb-false _ _ e in
     let later : t < m = omega (arith, other) in
-    rw (lt-ltb _ _ o, lt-ltb _ _ later, and-right (ltb now m) _ h)
+    rw (w, lt-ltb _ _ o, lt-ltb _ _ later, and-right (ltb now m) _ h)
 
-due-write-steady : (now t old : ℕ) (w : Waiting) → old < 4294967296 → dueAfter now w ≡ true → dueBefore (dueOf w) t ≡ false → steady t (dueWrite t old w) ≡ true
-unfolding dueWrite dueOf dueBefore steady dueAfter
-due-write-steady now t old idle o h l = rw (lt-ltb _ _ o)
-due-write-steady now t old (due m v) o h l = made-if-due-steady now t (eqb m t) old m v refl o h (ltb-false _ _ l)
+due-write-steady : (now t : ℕ) (x : Variable) (w : Waiting) → x .waiting ≡ w → x .value < 4294967296 → dueAfter now w ≡ true →
+    dueBefore (dueOf w) t ≡ false → steady t (dueWrite t x w) ≡ true
+unfolding dueWrite unmarkedOf dueOf dueBefore steady dueAfter
+due-write-steady now t x idle w o h l = rw (w, lt-ltb _ _ o)
+due-write-steady now t x (due m v) w o h l = made-if-due-steady now t (eqb m t) x m v w refl o h (ltb-false _ _ l)
 
 pub due-writes-steady : (now t : ℕ) (xs : List Variable) → allAtRest now xs ≡ true → dueBefore (dueOfVariables xs) t ≡ false →
     allSteady t (dueWrites t xs) ≡ true
-unfolding dueWrites dueOfVariables allAtRest atRest allSteady
+unfolding dueWrites madeDue dueOfVariables allAtRest atRest allSteady
 due-writes-steady now t [] h l = refl
 due-writes-steady now t (x ∷ xs) h l =
     let word = ltb (x .value) 4294967296 in
@@ -68,7 +69,7 @@ due-writes-steady now t (x ∷ xs) h l =
     let k = and-left first _ h in
     let later = and-right (not (x .written)) _ (and-right word _ k) in
     let (p, q) = neither-due-before t (dueOf (x .waiting)) (dueOfVariables xs) l in
-    rw (due-write-steady now t (x .value) (x .waiting) (ltb-true _ _ (and-left word _ k)) later p, due-writes-steady now t xs (and-right first _ h) q)
+    rw (due-write-steady now t x (x .waiting) refl (ltb-true _ _ (and-left word _ k)) later p, due-writes-steady now t xs (and-right first _ h) q)
 
 -- ── nothing is due up to the present moment ───────────────────────────────────────────────────────
 waiting-due-later : (now : ℕ) (w : Waiting) → dueAfter now w ≡ true → dueBefore (dueOf w) (suc now) ≡ false

@@ -13,10 +13,10 @@ use lib.ListN.{drop}
 use lib.Seq.{take-append-seam, drop-append-seam}
 use borrow.Author.Tests.{not-true, ne-eqb}
 use Rattle.listing.specs.Listing.{Listing, Call, wait, fork}
-use Rattle.walk.specs.State.{Waiting, idle, due, Variable, fresh, Node, node, Forest, empty, more, _⊕_, State, Running, ok, _>>=_}
+use Rattle.walk.specs.State.{Waiting, idle, due, Variable, Node, node, Forest, empty, more, _⊕_, State, Running, ok, _>>=_, noVariable, newVariable, dueWrite, madeIfDue, unmarkedOf, madeDue}
 use Rattle.walk.specs.Memory.{variableAt, addressOf, anyWritten}
 use Rattle.walk.specs.Walk.{instructionAt, enter, sleep, join, wake, resume, visit, visitForest}
-use Rattle.walk.specs.Instant.{madeIfDue, dueWrite, dueWrites, dueInNode, dueInForest, applyInputs, unmarked, unmarkedNode, unmarkedForest, listedIf, writtenFrom, writtenOutputs, Done, finish, nextDue, instant}
+use Rattle.walk.specs.Instant.{dueWrites, dueInNode, dueInForest, applyInputs, unmarked, unmarkedNode, unmarkedForest, listedIf, writtenFrom, writtenOutputs, Done, finish, nextDue, instant}
 use Rattle.walk.specs.Question7.{atRest, allAtRest, MadeBy, Asleep, waits, joins, LiveChildren, no-more, ended, lives, someAlive, IsState}
 use Rattle.walk_laws.proofs.NextDue.{WriteDueAmong, on-first, on-later, WriteDueInNode, among-own, below, WriteDueInForest, in-first, in-later, WriteDueIn, in-environment, in-tree, DueOnlyAfter, nothing-due-at}
 
@@ -77,7 +77,7 @@ no-marks-drop (suc k) none-marked = none-marked
 no-marks-drop (suc k) (first-unmarked e h) = no-marks-drop k h
 
 pub no-mark-at : {xs : List Variable} → NoMarks xs → (a : ℕ) → (variableAt xs a) .written ≡ false
-unfolding variableAt fresh
+unfolding variableAt noVariable newVariable
 no-mark-at none-marked a = refl
 no-mark-at (first-unmarked e h) zero = e
 no-mark-at (first-unmarked e h) (suc a) = no-mark-at h a
@@ -87,11 +87,12 @@ unfolding anyWritten
 none-written h names [] = refl
 none-written h names (n ∷ ns) = rw (no-mark-at h (addressOf names n)) (none-written h names ns)
 
-without-mark : (x : Variable) → x .written ≡ false → record { value = x .value; written = false; waiting = x .waiting } ≡ x
+without-mark : (x : Variable) → x .written ≡ false → unmarkedOf x ≡ x
+unfolding unmarkedOf
 without-mark x e = λ i. record { value = x .value; written = sym e i; waiting = x .waiting }
 
 unmarked-same : {xs : List Variable} → NoMarks xs → unmarked xs ≡ xs
-unfolding unmarked
+unfolding unmarked unmarkedOf
 unmarked-same none-marked = refl
 unmarked-same (first-unmarked {x = x} e h) = ap₂ _∷_ (without-mark x e) (unmarked-same h)
 
@@ -100,17 +101,16 @@ unfolding writtenFrom listedIf
 none-listed none-marked n = refl
 none-listed (first-unmarked e h) n = rw e (none-listed h (suc n))
 
-dueWrite-same : (t old : ℕ) (w : Waiting) → ((v : ℕ) → ¬ (w ≡ due t v)) →
-    dueWrite t old w ≡ record { value = old; written = false; waiting = w }
+dueWrite-same : (t : ℕ) (x : Variable) (w : Waiting) → ((v : ℕ) → ¬ (w ≡ due t v)) → dueWrite t x w ≡ unmarkedOf x
 unfolding dueWrite madeIfDue
-dueWrite-same t old idle h = refl
-dueWrite-same t old (due m v) h = rw (ne-eqb m t λ e. h v (rw e))
+dueWrite-same t x idle h = refl
+dueWrite-same t x (due m v) h = rw (ne-eqb m t λ e. h v (rw e))
 
 dueWrites-same : {xs : List Variable} (t : ℕ) → NoMarks xs → ¬ WriteDueAmong t xs → dueWrites t xs ≡ xs
-unfolding dueWrites
+unfolding dueWrites madeDue
 dueWrites-same t none-marked h = refl
 dueWrites-same t (first-unmarked {x = x} e k) h =
-    ap₂ _∷_ (dueWrite-same t (x .value) (x .waiting) (λ v p. h (on-first p)) ∙ without-mark x e) (dueWrites-same t k λ w. h (on-later w))
+    ap₂ _∷_ (dueWrite-same t x (x .waiting) (λ v p. h (on-first p)) ∙ without-mark x e) (dueWrites-same t k λ w. h (on-later w))
 
 -- ── a tree at rest, as question 7 has it ──────────────────────────────────────────────────────────
 quiet-if-some-alive : (listing : Listing) {memory own : List Variable} {r place : ℕ} {names : List ℕ} {cs : List Call} (f : Forest) →

@@ -14,12 +14,12 @@ use Rattle.words.specs.Words.{isPositive}
 use Rattle.words.specs.Moments.{momentRange}
 use Rattle.listing.specs.Listing.{Listing, Call, Instruction, assign, schedule, branch, jump, wait, fork, end}
 use Rattle.walk.specs.State.{Variable, Node, Forest, empty, more, _⊕_, Running, Turn, Result, _>>=_, withMemory, Frame, frame}
-use Rattle.walk.specs.Memory.{writeAt, scheduleAt, addressOf, addressesOf, evaluate, ownVariables}
+use Rattle.walk.specs.Memory.{writeAt, scheduleAt, addressOf, addressesOf, evaluate, ownVariables, namedIn}
 use Rattle.walk.specs.Walk.{routineAt, instructionAt, newRoutine, newRoutines, childCount, enter, sleep, leave, Runner, inTurn, begin, join, Move, goesTo, sleeps, forks, ends, stops, asking, move, carryOut, execute, step, run, passedWait, wake, resume, visit, visitForest}
 use Rattle.walk.specs.Question7.{ownedBy, boundNames, MadeBy, Asleep, waits, joins, LiveChildren, no-more, ended, lives, someAlive}
 use Rattle.walk_laws.proofs.Booleans.{and-left, and-right}
 use Rattle.walk_laws.proofs.Results.{IfOk, stopped, answered, then-if-ok, weaken-if-ok}
-use Rattle.walk_laws.proofs.AtRest.{allSteady, append-steady, take-steady, drop-steady, write-steady, schedule-steady, own-steady, length-own, evaluate-gives-word, expressionInWords, instructionInWords, LiteralsAreWords}
+use Rattle.walk_laws.proofs.AtRest.{allSteady, append-steady, take-steady, drop-steady, write-steady, schedule-steady, own-steady, length-own, evaluate-gives-word, expressionInWords, instructionInWords, LiteralsAreWords, value-is-word}
 
 -- ── what is kept ──────────────────────────────────────────────────────────────────────────────────
 -- While an instant at `now` runs: so many variables in reach, all steady, and room for the live routines.
@@ -117,9 +117,11 @@ module _ (listing : Listing) (now : ℕ) where
     unfolding begin newRoutine boundNames ownedBy
     begin-keeps level base callerNames c memory s e k h =
         let called = routineAt listing (c .callee) in
-        let own = ownVariables (called .kinds) (addressesOf callerNames (c .arguments)) (called .locals) memory in
+        let name = namedIn memory callerNames in
+        let own = ownVariables (called .kinds) (c .arguments) (called .locals) name in
         rw (e, h .long) (keeps level base callerNames c 0 (enter own s)
-        (rw (length-own (called .kinds) _ (called .locals) memory) at (into-reach now base own s h (own-steady now (called .kinds) _ (called .locals) memory k))))
+        (rw (length-own (called .kinds) _ (called .locals) name) at
+        (into-reach now base own s h (own-steady now (called .kinds) _ (called .locals) name (λ n. value-is-word now memory _ k)))))
 
     children-keep : (level base : ℕ) (callerNames : List ℕ) (cs : List Call) (memory : List Variable) (s : Running) →
         length memory ≡ base → allSteady now memory ≡ true → InOrder now base s →

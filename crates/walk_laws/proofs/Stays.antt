@@ -10,14 +10,14 @@ use lib.ListN.{length, length-set, length-replicate}
 use borrow.Author.Tests.{ltb-true}
 use native.Mathlib.Omega.{arith}
 use Rattle.listing.specs.Listing.{Listing}
-use Rattle.walk.specs.State.{Variable, fresh, Forest, liveInForest, State, Turn, Result, ok, _>>=_}
-use Rattle.walk.specs.Memory.{writeAt}
+use Rattle.walk.specs.State.{Variable, Forest, liveInForest, State, Turn, Result, ok, _>>=_, newVariable}
+use Rattle.walk.specs.Memory.{writeAt, inputAt}
 use Rattle.walk.specs.Walk.{run}
 use Rattle.walk.specs.Instant.{Write, Done, dueWrites, dueInForest, applyInputs, dueOfVariables, dueOfForest, nextDue, unmarked, unmarkedForest, finish, environmentSize, environmentNames, mainCall, start, instant, startTurn, instantTurn}
 use Rattle.walk.specs.Question7.{allAtRest, LiveChildren, no-more, ended, lives, IsState}
 use Rattle.walk_laws.proofs.Booleans.{and-left, and-right}
 use Rattle.walk_laws.proofs.Results.{IfOk, stopped, answered, holds-of-answer, weaken-if-ok}
-use Rattle.walk_laws.proofs.AtRest.{allSteady, write-steady, replicate-steady, unmarked-at-rest, length-unmarked, LiteralsAreWords}
+use Rattle.walk_laws.proofs.AtRest.{allSteady, write-steady, replicate-steady, unmarked-at-rest, length-unmarked, LiteralsAreWords, input-steady}
 use Rattle.walk_laws.proofs.Shape.{length-dueWrites, due-writes-keep-live, due-writes-keep-children, unmarking-keeps-live, unmarking-keeps-children}
 use Rattle.walk.specs.Calls.{dueBefore}
 use Rattle.walk_laws.proofs.Due.{neither-due-before, due-writes-steady, next-due-after-now}
@@ -31,7 +31,7 @@ valuesAreWords [] = true
 valuesAreWords (w ∷ ws) = ltb (w .value) 4294967296 && valuesAreWords ws
 
 length-applyInputs : (ws : List Write) (xs : List Variable) → length (applyInputs ws xs) ≡ length xs
-unfolding applyInputs writeAt
+unfolding applyInputs writeAt inputAt
 length-applyInputs [] xs = refl
 length-applyInputs (w ∷ ws) xs = length-applyInputs ws _ ∙ length-set xs _ _
 
@@ -40,7 +40,7 @@ unfolding applyInputs valuesAreWords
 inputs-steady t [] xs l h = h
 inputs-steady t (w ∷ ws) xs l h =
     let word = ltb (w .value) 4294967296 in
-    inputs-steady t ws _ (and-right word _ l) (write-steady t xs (w .number) (w .value) h (ltb-true _ _ (and-left word _ l)))
+    inputs-steady t ws _ (and-right word _ l) (input-steady t xs (w .number) (w .value) h (ltb-true _ _ (and-left word _ l)))
 
 -- ── the end of the instant ────────────────────────────────────────────────────────────────────────
 -- What a call leaves.
@@ -81,7 +81,7 @@ turn-at-start-keeps : (listing : Listing) (allowance : ℕ) → LiteralsAreWords
     IfOk (Leaves 0 (environmentSize listing) (OnlyMain listing 0 (environmentSize listing))) (startTurn listing allowance)
 turn-at-start-keeps listing allowance words =
     let size = environmentSize listing in
-    let long = length-replicate size (fresh 0) in
+    let long = length-replicate size (newVariable 0) in
     let rest = replicate-steady 0 size in
     let one : 1 ≤ 64 = omega arith in
     let keeps = begin-keeps listing 0 (run listing 0 allowance) (run-keeps listing 0 words allowance) 0 size (environmentNames listing) (mainCall listing) in

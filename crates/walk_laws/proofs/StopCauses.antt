@@ -14,7 +14,7 @@ use Rattle.walk.specs.Question7.{IsState}
 use Rattle.walk_laws.specs.Stops.{fullRun, StartStops, InstantStops}
 use Rattle.walk_laws.proofs.Bound.{begin-same}
 use Rattle.walk_laws.proofs.Answers as Answers
-use Rattle.walk_laws.proofs.Answers.{instant-answers}
+use Rattle.walk_laws.proofs.Answers.{stop-is-not-0, instant-answers}
 use Rattle.walk_laws.proofs.FullRun.{bound-is-full}
 use Rattle.walk_laws.proofs.StopDecides.{then-stop, new-stops, visit-forest-stops}
 use Rattle.walk_laws.proofs.StopReached.{ok-is-not-stop, ThenStops, at-once, afterwards, then-stops, new-reaches, visit-forest-reaches}
@@ -54,15 +54,15 @@ start-stops-exactly-if listing allowance k = (
     full n s l = begin-same allowance (run listing 0 allowance) (fullRun listing 0) (bound-is-full listing 0 allowance) 0 n s l
 
 -- ── an instant ────────────────────────────────────────────────────────────────────────────────────
-stop-from-13 : {A : Type 0} {x : Result A} (k : ℕ) → Answers.Answered x → x ≡ stop k → 1 ≤ k
-stop-from-13 k Answers.done e = ok-is-not-stop e
-stop-from-13 k (Answers.stopped j low high) e = let same : j ≡ k = cc in omega arith
+stop-numbered : {A : Type 0} {x : Result A} (k : ℕ) → Answers.Answered x → x ≡ stop k → 1 ≤ k
+stop-numbered k Answers.done e = ok-is-not-stop e
+stop-numbered k (Answers.stopped j h) e = let same : j ≡ k = cc in let positive = stop-is-not-0 j h in omega arith
 
 pub instant-stops-exactly-if : (listing : Listing) (s : State) → IsState listing s → (t : ℕ) (inputs : List Write) (allowance k : ℕ) →
     (instant listing s t inputs allowance ≡ stop k) ↔ InstantStops listing s t inputs allowance k
 unfolding instant
 instant-stops-exactly-if listing s h t inputs allowance k = (
-  (λ e. visit-forest-reaches listing t k (stop-from-13 k (instant-answers listing s t inputs allowance h) e) _ 0 _
+  (λ e. visit-forest-reaches listing t k (stop-numbered k (instant-answers listing s t inputs allowance h) e) _ 0 _
       (before-finish listing t allowance k _ e)),
   (λ c. then-stop _ _ (visit-forest-stops listing t k c)),
 )

@@ -38,4 +38,5 @@ the-last-moment : laterMoment 18446744073709551614 1 ≡ laterAt 184467440737095
 the-last-moment = refl
 
 one-to-eight-children : map forkBits (1 ∷ 2 ∷ 3 ∷ 4 ∷ 5 ∷ 6 ∷ 7 ∷ 8 ∷ []) ≡ 0 ∷ 1 ∷ 2 ∷ 2 ∷ 3 ∷ 3 ∷ 3 ∷ 3 ∷ []
+unfolding forkBits
 one-to-eight-children = refl

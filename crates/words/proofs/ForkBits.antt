@@ -31,6 +31,7 @@ module _ (n : ℕ) (few : n ≤ 8) where
       record { enough = few; fewest = λ z. h }
 
   pub fork-bits-are-fewest : NumbersFewest n (forkBits n)
+  unfolding forkBits
   fork-bits-are-fewest = fewest-by-tests (leb n 1) (leb n 2) (leb n 4) refl refl refl
 
 -- "the fewest bits that number n children": bits that number them are no fewer
@@ -48,6 +49,7 @@ pub fewest-bits-are-one-number : {n b c : ℕ} → NumbersFewest n b → Numbers
 fewest-bits-are-one-number {n} {b} {c} p q = le-antisymm (no-fewer-bits-do p c (q .enough)) (no-fewer-bits-do q b (p .enough))
 
 pub fork-bits-are-at-most-three : (n : ℕ) → forkBits n ≤ 3
+unfolding forkBits
 fork-bits-are-at-most-three n = by-tests (leb n 1) (leb n 2) (leb n 4)
   where
     by-tests : (one two four : Bool) → cond one 0 (cond two 1 (cond four 2 3)) ≤ 3

@@ -10,5 +10,5 @@ pub record NumbersFewest (n b : ℕ) : Type 0 where
   pub fewest : 0 < b → 2 ^ (b - 1) < n
 
 -- `F` "forks 1 to 8 children": the first of 0, 1, 2 and 3 bits that number n children; above 8, where no fork is, 3
-abbrev pub forkBits : ℕ → ℕ
+unfoldable pub forkBits : ℕ → ℕ
 forkBits n = cond (leb n (2 ^ 0)) 0 (cond (leb n (2 ^ 1)) 1 (cond (leb n (2 ^ 2)) 2 3))

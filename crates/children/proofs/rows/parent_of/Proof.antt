@@ -1,7 +1,6 @@
 -- `children::rows::parent_of` meets its contract.
 use mathlib.Core.Path.{refl}
 use native.Mathlib.Omega.{arith}
-use Rattle.children.proofs.Priorities.{fork-bits-same}
 use borrow.Author.Needs.{needs}
 use Rattle.children.proofs.rows.parent_of.Statement.{statement}
 use Rattle.children.proofs.rows.parent_of.Tie as tie
@@ -14,7 +13,7 @@ fork-bits-requires c κs = search needs
 
 sub-bits : tie.Need-sub-bits
 sub-bits c =
-    omega (arith, c .fork-bits .ensures .0, fork-bits-same (c .before .before .before .args .n), c .before .bits .ensures, c .before .before .before .pre .2 .bits)
+    omega (arith, c .fork-bits .ensures .0, c .before .bits .ensures, c .before .before .before .pre .2 .bits)
 
 level-requires : tie.Need-level-requires
 level-requires c κs = search needs
@@ -38,13 +37,12 @@ low-requires c κs = search needs
 
 returns : tie.Need-returns
 returns c =
-    let e = fork-bits-same (c .before .before .before .before .before .before .before .args .n) in
     record {
       slot = refl;
       level = omega (arith, c .before .before .before .level .ensures);
       base = omega (arith, c .before .before .base .ensures, c .before .own-count .ensures);
       low = c .low .ensures;
-      bits = omega (arith, c .before .before .before .before .before .bits .ensures, c .before .before .before .before .fork-bits .ensures .0, e);
+      bits = omega (arith, c .before .before .before .before .before .bits .ensures, c .before .before .before .before .fork-bits .ensures .0);
     }
 
 pub parent-of-spec : {M : Type 1} → statement M

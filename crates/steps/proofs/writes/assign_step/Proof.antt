@@ -5,10 +5,9 @@ use Prim.Native.Nat.{ℕ, suc, _+_}
 use native.Mathlib.Numerals.{add-one}
 use native.Mathlib.Omega.{arith}
 use borrow.Author.Needs.{needs}
-use Rattle.walk.specs.State.{Variable}
+use Rattle.walk.specs.State.{Variable, writtenTo}
 use Rattle.table.specs.Decode.{piecesAt}
 use Rattle.scheduler.specs.Rows.{Row}
-use Rattle.scheduler.specs.Engine.{assigned}
 use Rattle.scheduler.specs.Ready.{insertAll}
 use Rattle.scheduler.specs.Triggers.{triggered}
 use Rattle.blocks.specs.Blocks.{rowsOf}
@@ -64,7 +63,7 @@ returns c = λ listing moment.
     let next : c .before .before .before .before .before .before .before .before .place .result + 1 ≡ suc here = rw add-one (ap suc (c .before .before .before .before .before .before .before .before .place .ensures)) in
     let p = c .before .before .before .before .before .before .assign .ensures in
     let q = placed-as (c .before .before .before .before .before .before .before .before .place .result + 1) (suc here) next (c .before .before .set-place .ensures) in
-    let changed = changes-name u (a .name) binding bound few (c .before .before .before .before .before .before .before .before .before .before .before .before .before .before .before .before .before .before .before .before .before .pre .0 .runs .slot) (λ (y : Variable). assigned y value) p q
+    let changed = changes-name u (a .name) binding bound few (c .before .before .before .before .before .before .before .before .before .before .before .before .before .before .before .before .before .before .before .before .before .pre .0 .runs .slot) (λ (y : Variable). writtenTo y value) p q
     (λ n there. assigned-all (binding .index) (bound .block) there value p) in
     let woken = c .before .before .before .before .before .before .before .before .before .before .wake in
     let low = c .before .before .before .before .before .before .before .before .before .before .before .before .before .low in

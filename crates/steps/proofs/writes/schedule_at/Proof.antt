@@ -4,8 +4,7 @@ use mathlib.Core.Path.{_≡_, ap}
 use Prim.Native.Nat.{_+_, suc}
 use native.Mathlib.Numerals.{add-one}
 use native.Mathlib.Omega.{arith}
-use Rattle.walk.specs.State.{Variable}
-use Rattle.scheduler.specs.Engine.{scheduled}
+use Rattle.walk.specs.State.{Variable, scheduledOn}
 use Rattle.blocks.specs.Blocks.{rowsOf}
 use Rattle.blocks.proofs.Queued.{then-queued}
 use Rattle.evaluate.proofs.Names.{names-few}
@@ -51,7 +50,7 @@ returns c =
     let next : c .before .before .before .before .before .before .before .before .before .before .before .before .place .result + 1 ≡ suc here = rw add-one (ap suc (c .before .before .before .before .before .before .before .before .before .before .before .before .place .ensures)) in
     let p = then-queued (bound .block) (c .before .before .before .before .before .before .before .before .before .before .schedule .ensures) (c .before .before .before .before .before .before .put-word .ensures) in
     let q = placed-as (c .before .before .before .before .before .before .before .before .before .before .before .before .place .result + 1) (suc here) next (c .before .before .set-place .ensures) in
-    changes-name u (a .name) binding bound (o .pre .0 .there) (o .pre .0 .runs .slot) (λ (y : Variable). scheduled y (a .moment .0) (a .value)) p q
+    changes-name u (a .name) binding bound (o .pre .0 .there) (o .pre .0 .runs .slot) (λ (y : Variable). scheduledOn y (a .moment .0) (a .value)) p q
     (λ n there. scheduled-all (binding .index) (bound .block) there (a .moment .0) (a .value) (o .pre .1) p)
 
 pub schedule-at-spec : {M : Type 1} → statement M

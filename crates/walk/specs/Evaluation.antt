@@ -43,9 +43,55 @@ seenOn (loaded listing) allowance calls =
 
 -- A list of calls on a quoted listing, and a session of a quoted listing and trace.
 unfoldable pub callsQuoted : String → ℕ → List InstantCall → List Seen
-unfolding load Bytes.bytesOf State.noVariable State.newVariable State.writtenTo State.inputTo State.scheduledOn State.unmarkedOf State.madeIfDue State.dueWrite State.madeDue State._⊕_ State._>>=_ State.liveInNode Memory.variableAt Memory.writeAt Memory.inputAt Memory.scheduleAt Memory.addressOf Memory.addressesOf Memory.anyWritten Memory.operate Memory.evaluatePiece Memory.evaluatePieces Memory.top Memory.evaluateBy Memory.evaluate Memory.consecutive Memory.bindNames Memory.ownVariables Walk.noRoutine Walk.routineAt Walk.instructionAt Walk.newRoutine Walk.newRoutines Walk.childCount Walk.enter Walk.sleep Walk.leave Walk.inTurn Walk.begin Walk.join Walk.asking Walk.branchPlace Walk.move Walk.carryOut Walk.execute Walk.step Walk.run Walk.passedWait Walk.wake Walk.resume Walk.visit Instant.dueWrites Instant.applyInputs Instant.unmarked Instant.earlierOf Instant.earlier Instant.dueOf Instant.dueOfVariables Instant.nextDue Instant.listedIf Instant.writtenFrom Instant.writtenOutputs Instant.finish Instant.environmentSize Instant.mainCall Instant.environmentNames Instant.start Instant.instant Instant.dueInNode Instant.unmarkedNode Instant.dueOfNode Calls.isStop Calls.haltedWords Calls.outcomeNumber Calls.outcomePlace Calls.outcomeSteps Calls.outcomeListed Calls.outcomeDue Calls.numbersAfter Calls.valuesAfter Calls.ask Calls.found Calls.unstopped Calls.dueBefore Calls.inputsRise Calls.allowed Calls.answered Calls.startLongEnough Calls.instantLongEnough Calls.inputsOf Calls.startOn Calls.instantFrom Calls.startCall Calls.instantCall Events.eventsAt Trace.readBelow Trace.readSigned Trace.readTraceFields Trace.readTraceLine Trace.joinInput Trace.withInput Trace.withLine Trace.scriptOf Trace.script Session.played Session.afterThen Session.andThen Session.callFrom Session.dueNext Session.dueOr Session.dueInstantsBefore Session.allDueBefore Session.endCode Session.play Session.playAll Session.writeLine Session.writeLines Session.endLine Session.endOf Session.printed Session.onLoading Session.beforeLoading Session.sessionOf Session.session Runs.callOn Runs.machineAfter Runs.answersFrom Runs.acceptedBy Runs.accepted Runs.reported Runs.timeAfter Runs.timeFrom Runs.answers Runs.acceptedInputs Runs.reportedWrites Runs.timeOf seen allSeen seenOn
+unfolding load
+    Bytes.bytesOf
+    State.noVariable State.newVariable State.writtenTo State.inputTo State.scheduledOn State.unmarkedOf State.madeIfDue State.dueWrite State.madeDue
+    State._⊕_ State._>>=_ State.liveInNode
+    Memory.variableAt Memory.writeAt Memory.inputAt Memory.scheduleAt Memory.addressOf Memory.addressesOf Memory.anyWritten Memory.operate
+    Memory.evaluatePiece Memory.evaluatePieces Memory.top Memory.evaluateBy Memory.evaluate Memory.consecutive Memory.bindNames Memory.ownVariables
+    Walk.noRoutine Walk.routineAt Walk.instructionAt Walk.newRoutine Walk.newRoutines Walk.childCount Walk.enter Walk.sleep Walk.leave Walk.inTurn
+    Walk.begin Walk.join Walk.asking Walk.branchPlace Walk.move Walk.carryOut Walk.execute Walk.step Walk.run Walk.passedWait Walk.wake Walk.resume
+    Walk.visit
+    Instant.dueWrites Instant.applyInputs Instant.unmarked Instant.earlierOf Instant.earlier Instant.dueOf Instant.dueOfVariables Instant.nextDue
+    Instant.listedIf Instant.writtenFrom Instant.writtenOutputs Instant.finish Instant.environmentSize Instant.mainCall Instant.environmentNames
+    Instant.start Instant.instant Instant.dueInNode Instant.unmarkedNode Instant.dueOfNode
+    Calls.isStop Calls.haltedWords Calls.outcomeNumber Calls.outcomePlace Calls.outcomeSteps Calls.outcomeListed Calls.outcomeDue Calls.numbersAfter
+    Calls.valuesAfter Calls.ask Calls.found Calls.unstopped Calls.dueBefore Calls.inputsRise Calls.allowed Calls.answered Calls.startLongEnough
+    Calls.instantLongEnough Calls.inputsOf Calls.startOn Calls.instantFrom Calls.startCall Calls.instantCall
+    Events.eventsAt
+    Trace.readBelow Trace.readSigned Trace.readTraceFields Trace.readTraceLine Trace.joinInput Trace.withInput Trace.withLine Trace.scriptOf
+    Trace.script
+    Session.played Session.afterThen Session.andThen Session.callFrom Session.dueNext Session.dueOr Session.dueInstantsBefore Session.allDueBefore
+    Session.endCode Session.play Session.playAll Session.writeLine Session.writeLines Session.endLine Session.endOf Session.printed Session.onLoading
+    Session.beforeLoading Session.sessionOf Session.session
+    Runs.callOn Runs.machineAfter Runs.answersFrom Runs.acceptedBy Runs.accepted Runs.reported Runs.timeAfter Runs.timeFrom Runs.answers
+    Runs.acceptedInputs Runs.reportedWrites Runs.timeOf
+    seen allSeen seenOn
 callsQuoted listing allowance calls = seenOn (load (bytesOf listing)) allowance calls
 
 unfoldable pub sessionQuoted : String → String → Bytes
-unfolding load Bytes.bytesOf Bytes.digits Bytes.figure Text.signedFigure State.noVariable State.newVariable State.writtenTo State.inputTo State.scheduledOn State.unmarkedOf State.madeIfDue State.dueWrite State.madeDue State._⊕_ State._>>=_ State.liveInNode Memory.variableAt Memory.writeAt Memory.inputAt Memory.scheduleAt Memory.addressOf Memory.addressesOf Memory.anyWritten Memory.operate Memory.evaluatePiece Memory.evaluatePieces Memory.top Memory.evaluateBy Memory.evaluate Memory.consecutive Memory.bindNames Memory.ownVariables Walk.noRoutine Walk.routineAt Walk.instructionAt Walk.newRoutine Walk.newRoutines Walk.childCount Walk.enter Walk.sleep Walk.leave Walk.inTurn Walk.begin Walk.join Walk.asking Walk.branchPlace Walk.move Walk.carryOut Walk.execute Walk.step Walk.run Walk.passedWait Walk.wake Walk.resume Walk.visit Instant.dueWrites Instant.applyInputs Instant.unmarked Instant.earlierOf Instant.earlier Instant.dueOf Instant.dueOfVariables Instant.nextDue Instant.listedIf Instant.writtenFrom Instant.writtenOutputs Instant.finish Instant.environmentSize Instant.mainCall Instant.environmentNames Instant.start Instant.instant Instant.dueInNode Instant.unmarkedNode Instant.dueOfNode Calls.isStop Calls.haltedWords Calls.outcomeNumber Calls.outcomePlace Calls.outcomeSteps Calls.outcomeListed Calls.outcomeDue Calls.numbersAfter Calls.valuesAfter Calls.ask Calls.found Calls.unstopped Calls.dueBefore Calls.inputsRise Calls.allowed Calls.answered Calls.startLongEnough Calls.instantLongEnough Calls.inputsOf Calls.startOn Calls.instantFrom Calls.startCall Calls.instantCall Events.eventsAt Trace.readBelow Trace.readSigned Trace.readTraceFields Trace.readTraceLine Trace.joinInput Trace.withInput Trace.withLine Trace.scriptOf Trace.script Session.played Session.afterThen Session.andThen Session.callFrom Session.dueNext Session.dueOr Session.dueInstantsBefore Session.allDueBefore Session.endCode Session.play Session.playAll Session.writeLine Session.writeLines Session.endLine Session.endOf Session.printed Session.onLoading Session.beforeLoading Session.sessionOf Session.session Runs.callOn Runs.machineAfter Runs.answersFrom Runs.acceptedBy Runs.accepted Runs.reported Runs.timeAfter Runs.timeFrom Runs.answers Runs.acceptedInputs Runs.reportedWrites Runs.timeOf
+unfolding load
+    Bytes.bytesOf Bytes.digits Bytes.figure
+    Text.signedFigure
+    State.noVariable State.newVariable State.writtenTo State.inputTo State.scheduledOn State.unmarkedOf State.madeIfDue State.dueWrite State.madeDue
+    State._⊕_ State._>>=_ State.liveInNode
+    Memory.variableAt Memory.writeAt Memory.inputAt Memory.scheduleAt Memory.addressOf Memory.addressesOf Memory.anyWritten Memory.operate
+    Memory.evaluatePiece Memory.evaluatePieces Memory.top Memory.evaluateBy Memory.evaluate Memory.consecutive Memory.bindNames Memory.ownVariables
+    Walk.noRoutine Walk.routineAt Walk.instructionAt Walk.newRoutine Walk.newRoutines Walk.childCount Walk.enter Walk.sleep Walk.leave Walk.inTurn
+    Walk.begin Walk.join Walk.asking Walk.branchPlace Walk.move Walk.carryOut Walk.execute Walk.step Walk.run Walk.passedWait Walk.wake Walk.resume
+    Walk.visit
+    Instant.dueWrites Instant.applyInputs Instant.unmarked Instant.earlierOf Instant.earlier Instant.dueOf Instant.dueOfVariables Instant.nextDue
+    Instant.listedIf Instant.writtenFrom Instant.writtenOutputs Instant.finish Instant.environmentSize Instant.mainCall Instant.environmentNames
+    Instant.start Instant.instant Instant.dueInNode Instant.unmarkedNode Instant.dueOfNode
+    Calls.isStop Calls.haltedWords Calls.outcomeNumber Calls.outcomePlace Calls.outcomeSteps Calls.outcomeListed Calls.outcomeDue Calls.numbersAfter
+    Calls.valuesAfter Calls.ask Calls.found Calls.unstopped Calls.dueBefore Calls.inputsRise Calls.allowed Calls.answered Calls.startLongEnough
+    Calls.instantLongEnough Calls.inputsOf Calls.startOn Calls.instantFrom Calls.startCall Calls.instantCall
+    Events.eventsAt
+    Trace.readBelow Trace.readSigned Trace.readTraceFields Trace.readTraceLine Trace.joinInput Trace.withInput Trace.withLine Trace.scriptOf
+    Trace.script
+    Session.played Session.afterThen Session.andThen Session.callFrom Session.dueNext Session.dueOr Session.dueInstantsBefore Session.allDueBefore
+    Session.endCode Session.play Session.playAll Session.writeLine Session.writeLines Session.endLine Session.endOf Session.printed Session.onLoading
+    Session.beforeLoading Session.sessionOf Session.session
+    Runs.callOn Runs.machineAfter Runs.answersFrom Runs.acceptedBy Runs.accepted Runs.reported Runs.timeAfter Runs.timeFrom Runs.answers
+    Runs.acceptedInputs Runs.reportedWrites Runs.timeOf
 sessionQuoted listing trace = session (bytesOf listing) (bytesOf trace)

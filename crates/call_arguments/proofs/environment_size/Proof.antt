@@ -22,8 +22,9 @@ add-result c = search needs
 
 returns : tie.Need-returns
 returns c =
-    let t = c .before .before .before .before .before .args .table .now in
-    let p = c .before .before .before .before .before .pre .1 in
+    let past = c .before .before .before .before .before in
+    let t = past .args .table .now in
+    let p = past .pre .1 in
     let e = size-of-table t p _ _ (c .before .before .number .ensures .0) (c .number2 .ensures .0) in
     (e, omega (arith, e, table-few t p))
 

@@ -40,8 +40,9 @@ returns c =
 
 returns-2 : tie.Need-returns-2 Inv-loop μ-loop
 returns-2 c =
-    let v = c .before .before .before .before .before .loop in
-    let a = c .before .before .before .before .before .before .before .args in
+    let past = c .before .before .before .before .before in
+    let v = past .loop in
+    let a = past .before .before .args in
     sym (not-below (a .inputs) (v .least) (a .numbers .now) (v .k) _ (omega arith) (c .before .before .number .ensures .0) (omega arith) (omega arith)) ∙ v .inv .2
 
 add-least : tie.Need-add-least Inv-loop μ-loop
@@ -58,8 +59,9 @@ loop-less c =
 
 loop-again : tie.Need-loop-again Inv-loop μ-loop
 loop-again c =
-    let v = c .before .before .before .before .before .loop in
-    let a = c .before .before .before .before .before .before .before .args in
+    let past = c .before .before .before .before .before in
+    let v = past .loop in
+    let a = past .before .before .args in
     (omega arith, omega arith, sym (rise-more (a .inputs) (v .least) (a .numbers .now) (v .k) _ (omega arith) (c .before .before .number .ensures .0) (omega arith) (omega arith)) ∙ v .inv .2)
 
 returns-3 : tie.Need-returns-3 Inv-loop μ-loop

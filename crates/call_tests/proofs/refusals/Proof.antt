@@ -30,7 +30,8 @@ same-length-2 c = search needs
 
 returns-2 : tie.Need-returns-2
 returns-2 c =
-    it-fails _ _ _ (c .before .before .before .before .before .before .load .result) (c .before .before .before .before .before .before .load .ensures) _ _ (c .before .before .enum-told2 .given .1)
+    let past = c .before .before .before .before .before .before in
+    it-fails _ _ _ (past .load .result) (past .load .ensures) _ _ (c .before .before .enum-told2 .given .1)
 
 pub refusals-spec : {M : Type 1} → statement M
 refusals-spec =

@@ -66,14 +66,16 @@ add-t27 c =
 
 returns : tie.Need-returns
 returns c =
-    let a = c .before .before .before .before .before .before .before .before .before .before .before .before .before .before .before .before .before .before .before .before .before .args in
-    let part = c .before .before .before .before .before .before .before .before .before .before .before .before .before .before .before .before .before .part-at in
-    let l = c .before .before .before .before .before .before .before .before .before .before .before .refusals in
+    let earlier = c .before .before .before .before .before .before .before .before in
+    let former = earlier .before .before .before .before .before .before in
+    let a = former .before .before .before .before .before .before .before .args in
+    let part = former .before .before .before .part-at in
+    let l = earlier .before .before .before .refusals in
     let r = c .before .before .before .before .run-items in
-    case-ran (now (a .s)) (a .at) (c .before .before .before .before .before .before .before .before .before .before .before .before .before .before .before .before .before .before .past .result) (part .result .from) (part .result .to) (c .before .before .before .before .before .before .before .before .past2 .result) (c .before .before .before .before .before .before .before .before .before .word-at2 .result) (l .result)
-    (c .before .before .before .before .before .before .before .before .before .before .before .before .before .before .before .before .unused-memory .result) (c .before .before .before .before .before .before .before .before .before .before .before .before .before .before .before .unused-memory2 .result) (c .before .before .before .before .before .before .before .before .before .before .before .before .before .before .unused-memory3 .result) (l .last .1 .0) (r .result) _
-    (c .before .before .before .before .before .before .before .before .before .before .before .before .before .before .before .before .before .before .past .ensures) (part .ensures .begins) (part .ensures .ends) (c .before .before .before .before .before .before .before .before .past2 .ensures) (c .before .before .before .before .before .before .before .before .before .word-at2 .ensures)
-    (c .before .before .before .before .before .before .before .before .before .before .before .before .before .before .before .before .unused-memory .ensures .1) (c .before .before .before .before .before .before .before .before .before .before .before .before .before .before .before .unused-memory2 .ensures .1) (c .before .before .before .before .before .before .before .before .before .before .before .before .before .before .unused-memory3 .ensures .1) (l .ensures) (r .ensures) refl refl
+    case-ran (now (a .s)) (a .at) (former .before .before .before .before .past .result) (part .result .from) (part .result .to) (earlier .past2 .result) (earlier .before .word-at2 .result) (l .result)
+    (former .before .before .unused-memory .result) (former .before .unused-memory2 .result) (former .unused-memory3 .result) (l .last .1 .0) (r .result) _
+    (former .before .before .before .before .past .ensures) (part .ensures .begins) (part .ensures .ends) (earlier .past2 .ensures) (earlier .before .word-at2 .ensures)
+    (former .before .before .unused-memory .ensures .1) (former .before .unused-memory2 .ensures .1) (former .unused-memory3 .ensures .1) (l .ensures) (r .ensures) refl refl
 
 pub run-case-spec : {M : Type 1} → statement M
 run-case-spec =

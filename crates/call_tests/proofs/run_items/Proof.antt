@@ -46,9 +46,10 @@ loop-less c =
 
 loop-again : tie.Need-loop-again Inv-loop μ-loop
 loop-again c =
-    let i = c .before .before .before .before .before .before .before .before .before .before .before .before .before .loop .inv in
-    let r = c .before .before .before .before .before .before .before .before .run-item in
-    let h = c .before .before .before .before .before .before .before .before .before .before .before .before .loop-test .taken in (
+    let past = c .before .before .before .before .before .before .before .before in
+    let i = past .before .before .before .before .before .loop .inv in
+    let r = past .run-item in
+    let h = past .before .before .before .before .loop-test .taken in (
       i .0,
       omega arith,
       ⊎-elim (λ w. omega arith) (λ w. omega arith) (c .before .if1 .came),

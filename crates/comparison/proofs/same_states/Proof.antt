@@ -24,9 +24,10 @@ same-values-requires c κs = search needs
 
 returns-2 : tie.Need-returns-2
 returns-2 c =
-    let a = c .before .before .before .before .before .before .before .before .before .before .args in
+    let past = c .before .before .before .before .before in
+    let a = past .before .before .before .before .before .args in
     c .same-values .ensures ∙ (ap (λ k. SameFrom (a .a .now) (a .b .now) 12112 k) (c .before .environment-size .ensures .0)
-    ∙ sym (alike-by-values _ (a .a .now) (a .b .now) (sym (c .before .before .before .before .before .before .present-moment .ensures) ∙ (c .before .before .if1 .left ∙ c .before .before .before .before .before .present-moment2 .ensures))))
+    ∙ sym (alike-by-values _ (a .a .now) (a .b .now) (sym (past .before .present-moment .ensures) ∙ (c .before .before .if1 .left ∙ past .present-moment2 .ensures))))
 
 pub same-states-spec : {M : Type 1} → statement M
 same-states-spec =

@@ -67,8 +67,9 @@ number-requires-2 c κs = search needs
 
 returns-2 : tie.Need-returns-2 Inv-loop μ-loop
 returns-2 c =
-    let a = c .before .before .before .before .before .before .before .before .before .before .args in
-    let v = c .before .before .before .before .before .loop in
+    let past = c .before .before .before .before .before in
+    let a = past .before .before .before .before .before .args in
+    let v = past .loop in
     let m = now (a .m) in
     let n = v .next - 1 in
     let l = slotsOf (v .woken) in
@@ -86,8 +87,9 @@ loop-less c = search needs
 
 loop-again : tie.Need-loop-again Inv-loop μ-loop
 loop-again c =
-    let a = c .before .before .before .before .before .before .before .before .before .before .args in
-    let v = c .before .before .before .before .before .loop in
+    let past = c .before .before .before .before .before in
+    let a = past .before .before .before .before .before .args in
+    let v = past .loop in
     let m = now (a .m) in
     let n = v .next - 1 in
     let l = slotsOf (v .woken) in

@@ -43,43 +43,53 @@ set-children-requires c κs = search needs
 
 fork-children-requires : tie.Need-fork-children-requires
 fork-children-requires c κs =
-    let a = c .before .before .before .before .before .before .before .before .before .before .before .before .args in
-    let over = c .before .before .before .before .before .before .before .before .if1 .left in
+    let past = c .before .before .before .before .before in
+    let earlier = past .before .before .before .before .before .before .before in
+    let a = earlier .args in
+    let over = past .before .before .before .if1 .left in
     let room : a .running .live + a .n ≤ 64 = omega (arith, over) in
-    let is = c .before .before .before .before .before .before .level .ensures in
-    let level : (rowsOf (now (a .m)) (a .running .me)) .level ≤ 9 = omega (arith, c .before .before .before .before .before .if2 .left) in
+    let is = past .before .level .ensures in
+    let level : (rowsOf (now (a .m)) (a .running .me)) .level ≤ 9 = omega (arith, past .if2 .left) in
     let q = c .before .before .before .set-children .ensures in
-    let may = c .before .before .before .before .before .before .before .before .before .before .before .before .pre in
+    let may = earlier .pre in
     may-fork (a .n) q (a .running) refl may level room (counted-tidy (a .running .me) (a .n) q (may .slot) (may .live) (may .tidy))
 
 put-before-requires : tie.Need-put-before-requires
 put-before-requires c κs =
-    let a = c .before .before .before .before .before .before .before .before .before .before .before .before .before .before .before .before .before .args in
-    let over = c .before .before .before .before .before .before .before .before .before .before .before .before .before .if1 .left in
+    let past = c .before .before .before .before .before .before .before .before in
+    let earlier = past .before .before .before .before .before in
+    let a = earlier .before .before .before .before .args in
+    let over = earlier .if1 .left in
     let room : a .running .live + a .n ≤ 64 = omega (arith, over) in
-    may-put (c .before .before .before .before .before .before .before .before .set-children .ensures) (c .before .before .before .before .fork-children .ensures) (c .before .before .before .before .before .before .before .before .before .before .before .before .before .before .before .before .before .pre) room
+    may-put (past .set-children .ensures) (c .before .before .before .before .fork-children .ensures) (earlier .before .before .before .before .pre) room
 
 next-ready-requires : tie.Need-next-ready-requires
 next-ready-requires c κs =
-    let a = c .before .before .before .before .before .before .before .before .before .before .before .before .before .before .before .before .before .before .before .args in
+    let past = c .before .before .before .before .before .before in
+    let earlier = past .before .before .before .before .before .before .before .before .before in
+    let a = earlier .before .before .before .before .args in
     let u = a .running in
-    let over = c .before .before .before .before .before .before .before .before .before .before .before .before .before .before .before .if1 .left in
+    let over = earlier .if1 .left in
     let room : u .live + a .n ≤ 64 = omega (arith, over) in
-    may-pop-child (c .before .before .before .before .before .before .before .before .before .before .set-children .ensures) (c .before .before .before .before .before .before .fork-children .ensures) (c .before .before .before .before .before .before .before .before .before .before .before .before .before .before .before .before .before .before .before .pre)
+    may-pop-child (past .before .before .before .before .set-children .ensures) (past .fork-children .ensures) (earlier .before .before .before .before .pre)
     (record { ready = c .before .put-before .result; live = u .live + a .n; woken = u .woken; me = u .me }) (c .before .put-before .ensures .1) refl (c .before .put-before .ensures .0) room
 
 same-length-2 : tie.Need-same-length-2
 same-length-2 c = search needs
 
 returns-3 : tie.Need-returns-3
-returns-3 c = λ moment.
-    let a = c .before .before .before .before .before .before .before .before .before .before .before .before .before .before .before .before .before .before .before .before .before .before .args in
+returns-3 c =
+    let past = c .before .before .before .before .before .before .before .before .before in
+    let earlier = past .before .before .before .before .before .before in
+    let former = earlier .before .before .before .before .before .before .before in
+    λ moment.
+    let a = former .args in
     let u = a .running in
-    let over = c .before .before .before .before .before .before .before .before .before .before .before .before .before .before .before .before .before .before .if1 .left in
+    let over = earlier .before .before .before .if1 .left in
     let room : u .live + a .n ≤ 64 = omega (arith, over) in
-    let is = c .before .before .before .before .before .before .before .before .before .before .before .before .before .before .before .before .level .ensures in
-    let level : (rowsOf (now (a .m)) (u .me)) .level ≤ 9 = omega (arith, c .before .before .before .before .before .before .before .before .before .before .before .before .before .before .before .if2 .left) in
-    forks (c .before .before .before .before .before .before .before .before .before .before .before .before .before .set-children .ensures) (c .before .before .before .before .before .before .before .before .before .fork-children .ensures) (c .before .before .before .before .before .before .before .before .before .before .before .before .before .before .before .before .before .before .before .before .before .before .pre)
+    let is = earlier .before .level .ensures in
+    let level : (rowsOf (now (a .m)) (u .me)) .level ≤ 9 = omega (arith, earlier .if2 .left) in
+    forks (past .before .before .before .before .set-children .ensures) (past .fork-children .ensures) (former .pre)
     (record { ready = c .before .before .before .before .put-before .result; live = u .live + a .n; woken = u .woken; me = u .me }) (c .before .before .before .before .put-before .ensures .1) refl moment refl room level
     (c .before .before .next-ready .ensures)
 

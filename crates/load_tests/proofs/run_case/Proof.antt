@@ -27,7 +27,8 @@ same-length-2 c = search needs
 
 returns : tie.Need-returns
 returns c =
-    first-differs (c .before .before .before .before .before .before .before .before .before .before .before .before .before .before .before .before .fill .ensures) (c .before .before .before .before .before .before .before .before .before .before .before .before .fill2 .ensures) (c .before .before .before .before .before .before .before .before .load-figures .ensures) (c .before .before .before .before .load-figures2 .ensures)
+    let past = c .before .before .before .before .before .before .before .before in
+    first-differs (past .before .before .before .before .before .before .before .before .fill .ensures) (past .before .before .before .before .fill2 .ensures) (past .load-figures .ensures) (c .before .before .before .before .load-figures2 .ensures)
     (c .before .agree .ensures) (not-true _ (c .if1 .taken))
 
 agree-requires-2 : tie.Need-agree-requires-2
@@ -41,7 +42,9 @@ same-length-4 c = search needs
 
 returns-2 : tie.Need-returns-2
 returns-2 c =
-    second-differs (c .before .before .before .before .before .before .before .before .before .before .before .before .before .before .before .before .before .before .fill .ensures) (c .before .before .before .before .before .before .before .before .before .before .before .before .before .before .fill2 .ensures) (c .before .before .before .before .before .before .before .before .before .before .load-figures .ensures) (c .before .before .before .before .before .before .load-figures2 .ensures)
+    let past = c .before .before .before .before .before .before in
+    let earlier = past .before .before .before .before .before .before .before .before in
+    second-differs (earlier .before .before .before .before .fill .ensures) (earlier .fill2 .ensures) (past .before .before .before .before .load-figures .ensures) (past .load-figures2 .ensures)
     (c .before .agree2 .ensures) (not-true _ (c .if2 .taken))
 
 tables-right-requires : tie.Need-tables-right-requires
@@ -55,8 +58,10 @@ same-length-6 c = search needs
 
 returns-3 : tie.Need-returns-3
 returns-3 c =
-    by-tables (c .before .before .before .before .before .before .before .before .before .before .before .before .before .before .before .before .before .before .before .before .before .fill .ensures) (c .before .before .before .before .before .before .before .before .before .before .before .before .before .before .before .before .before .fill2 .ensures) (c .before .before .before .before .before .before .before .before .before .before .before .before .before .load-figures .ensures) (c .before .before .before .before .before .before .before .before .before .load-figures2 .ensures)
-    (c .before .before .before .before .before .before .agree .ensures) (not-false _ (c .before .before .before .before .before .if1 .left)) (c .before .before .before .before .agree2 .ensures) (not-false _ (c .before .before .before .if2 .left)) (c .tables-right .ensures)
+    let past = c .before .before .before .before .before in
+    let earlier = past .before .before .before .before .before .before .before .before in
+    by-tables (earlier .before .before .before .before .before .before .before .before .fill .ensures) (earlier .before .before .before .before .fill2 .ensures) (earlier .load-figures .ensures) (past .before .before .before .before .load-figures2 .ensures)
+    (past .before .agree .ensures) (not-false _ (past .if1 .left)) (c .before .before .before .before .agree2 .ensures) (not-false _ (c .before .before .before .if2 .left)) (c .tables-right .ensures)
 
 pub run-case-spec : {M : Type 1} → statement M
 run-case-spec =

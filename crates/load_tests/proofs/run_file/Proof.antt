@@ -60,10 +60,12 @@ loop-less c = search needs
 
 loop-again : tie.Need-loop-again Inv-loop μ-loop
 loop-again c =
-    let v = c .before .before .before .before .before .before .before .before .before .before .before .loop .inv in
-    let r = c .before .before .before .before .before .run-case in
-    let case = c .before .before .before .before .before .before .before .before .before .case-at in
-    let more = c .before .before .before .before .before .before .before .before .before .before .loop-test .taken in (
+    let past = c .before .before .before .before .before in
+    let earlier = past .before .before .before .before .before in
+    let v = earlier .before .loop .inv in
+    let r = past .run-case in
+    let case = past .before .before .before .before .case-at in
+    let more = earlier .loop-test .taken in (
       v .0,
       v .1,
       omega arith,
@@ -71,7 +73,7 @@ loop-again c =
       r .kept .1 .0 ∙ v .4,
       r .kept .1 .1 .0 ∙ v .5,
       ⊎-elim
-          (λ w. one-fails (c .before .before .before .before .before .before .before .before .before .before .before .loop .failed) (w .1))
+          (λ w. one-fails (earlier .before .loop .failed) (w .1))
           (λ w. one-agrees (case .result) (case .ensures) (ap (λ (n : ℕ). leb 12288 n) (v .4)) (r .ensures .tells .means (not-false _ (w .0 .left)) .first) more (w .1) (v .6))
           (c .if1 .came),
     )

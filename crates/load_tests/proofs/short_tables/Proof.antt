@@ -40,8 +40,9 @@ same-length-2 c = search needs
 
 returns-3 : tie.Need-returns-3
 returns-3 c =
-    let a = c .before .before .before .before .before .before .before .before .before .before .before .before .before .before .args in
-    let r = c .before .before .before .before .before .run-case in
+    let past = c .before .before .before .before .before in
+    let a = past .before .before .before .before .before .before .before .before .before .args in
+    let r = past .run-case in
     record {
       most = omega arith;
       agrees = λ e. both-fronts 12287 (r .last .1 .0) (now (a .table)) (r .last .1 .1 .0) (now (a .other)) (r .kept .1 .0) (omega arith) (r .kept .1 .1 .0) (omega arith)
@@ -58,8 +59,9 @@ same-length-4 c = search needs
 
 returns-4 : tie.Need-returns-4
 returns-4 c =
-    let a = c .before .before .before .before .before .before .before .before .before .before .before .before .before .before .args in
-    let r = c .before .before .before .before .before .run-case in
+    let past = c .before .before .before .before .before in
+    let a = past .before .before .before .before .before .before .before .before .before .args in
+    let r = past .run-case in
     record {
       most = omega arith;
       agrees = λ e. absurd (omega arith);

@@ -37,10 +37,11 @@ all-from-requires-3 c κs = tt
 
 returns-4 : tie.Need-returns-4
 returns-4 c =
+    let past = c .before .before .before .before .before in
     tells-same
     (λ e. record {
-      first-past = c .before .before .before .before .before .before .before .all-from .ensures .means (not-false _ (c .before .before .before .before .before .before .if1 .left));
-      second-past = c .before .before .before .before .before .all-from2 .ensures .means (not-false _ (c .before .before .before .before .if2 .left));
+      first-past = past .before .before .all-from .ensures .means (not-false _ (past .before .if1 .left));
+      second-past = past .all-from2 .ensures .means (not-false _ (c .before .before .before .before .if2 .left));
       same = c .before .before .before .same-to .ensures .means (not-false _ (c .before .before .if3 .left));
       unused = e;
     })

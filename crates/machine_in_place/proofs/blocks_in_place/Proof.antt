@@ -36,10 +36,11 @@ enum-told c = search needs
 
 returns-2 : tie.Need-returns-2
 returns-2 c =
-    let a = c .before .before .before .before .before .before .before .args in
+    let past = c .before .before .before .before .before in
+    let a = past .before .before .args in
     let q = has-failed _ _ _ (c .before .before .block-rests .ensures) (c .enum-told .given .1) in
     let z : zeroFrom (a .m .now) 12104 8 ≡ true = sym (c .before .before .before .before .zero-from .ensures) ∙ not-false _ (c .before .before .before .if1 .left) in
-    let now-is : c .before .before .before .before .before .present-moment .result .0 ≡ momentAt (a .m .now) 1 = c .before .before .before .before .before .present-moment .ensures in
+    let now-is : past .present-moment .result .0 ≡ momentAt (a .m .now) 1 = past .present-moment .ensures in
     let no = environment-unrested (a .size) (a .m .now) z _ now-is q in
     (fails _ _ no, search needs, not-both no, outer-fails _ _ _ z _ now-is q)
 

@@ -39,7 +39,8 @@ know-places-requires c κs = search needs
 returns-4 : tie.Need-returns-4
 unfolding headerInPlace
 returns-4 c =
-    rw (eq-eqb _ _ (c .before .before .before .before .before .before .before .if1 .left), ← c .before .before .before .before .before .number .ensures .0, le-leb _ _ (c .before .before .before .before .if2 .left), sym (c .before .before .before .zero-from .ensures) ∙ not-false _ (c .before .before .if3 .left), sym (c .before .know-places .ensures) ∙ not-true _ (c .if4 .taken))
+    let past = c .before .before .before .before .before in
+    rw (eq-eqb _ _ (past .before .before .if1 .left), ← past .number .ensures .0, le-leb _ _ (c .before .before .before .before .if2 .left), sym (c .before .before .before .zero-from .ensures) ∙ not-false _ (c .before .before .if3 .left), sym (c .before .know-places .ensures) ∙ not-true _ (c .if4 .taken))
 
 add-zero-from : tie.Need-add-zero-from
 add-zero-from c = search needs
@@ -53,7 +54,8 @@ zero-from-requires-2 c κs = search needs
 returns-5 : tie.Need-returns-5
 unfolding headerInPlace
 returns-5 c =
-    rw (eq-eqb _ _ (c .before .before .before .before .before .before .before .before .if1 .left), ← c .before .before .before .before .before .before .number .ensures .0, le-leb _ _ (c .before .before .before .before .before .if2 .left), sym (c .before .before .before .before .zero-from .ensures) ∙ not-false _ (c .before .before .before .if3 .left), sym (c .before .before .know-places .ensures) ∙ not-false _ (c .before .if4 .left)) (c .zero-from2 .ensures)
+    let past = c .before .before .before .before .before in
+    rw (eq-eqb _ _ (past .before .before .before .if1 .left), ← past .before .number .ensures .0, le-leb _ _ (past .if2 .left), sym (c .before .before .before .before .zero-from .ensures) ∙ not-false _ (c .before .before .before .if3 .left), sym (c .before .before .know-places .ensures) ∙ not-false _ (c .before .if4 .left)) (c .zero-from2 .ensures)
 
 pub header-in-place-spec : {M : Type 1} → statement M
 header-in-place-spec =

@@ -69,7 +69,8 @@ zero-from-requires-2 c κs = search needs
 returns-5 : tie.Need-returns-5
 unfolding slotHolds
 returns-5 c =
-    fails _ _ (rw (← c .before .before .before .before .before .before .before .number .ensures .0, ne-eqb _ _ (c .before .before .before .before .before .before .if1 .left), le-leb _ _ (c .before .before .before .before .before .if3 .left), ← c .before .before .before .number2 .ensures .0, eq-eqb _ _ (c .before .before .if4 .left), sym (c .before .zero-from2 .ensures) ∙ not-true _ (c .if5 .taken)))
+    let past = c .before .before .before .before .before in
+    fails _ _ (rw (← past .before .before .number .ensures .0, ne-eqb _ _ (past .before .if1 .left), le-leb _ _ (past .if3 .left), ← c .before .before .before .number2 .ensures .0, eq-eqb _ _ (c .before .before .if4 .left), sym (c .before .zero-from2 .ensures) ∙ not-true _ (c .if5 .taken)))
 
 add-number-2 : tie.Need-add-number-2
 add-number-2 c = search needs
@@ -89,7 +90,17 @@ block-rests-requires c κs = search needs
 returns-6 : tie.Need-returns-6
 unfolding slotHolds slotDue
 returns-6 c =
-    rw (← c .before .before .before .before .before .before .before .before .before .before .number .ensures .0, ne-eqb _ _ (c .before .before .before .before .before .before .before .before .before .if1 .left), le-leb _ _ (c .before .before .before .before .before .before .before .before .if3 .left), ← c .before .before .before .before .before .before .number2 .ensures .0, eq-eqb _ _ (c .before .before .before .before .before .if4 .left), sym (c .before .before .before .before .zero-from2 .ensures) ∙ not-false _ (c .before .before .before .if5 .left), ← c .before .number3 .ensures .0) (c .block-rests .ensures)
+    let past = c .before .before .before .before .before in
+    rw (
+      ← past .before .before .before .before .before .number .ensures .0,
+      ne-eqb _ _ (past .before .before .before .before .if1 .left),
+      le-leb _ _ (past .before .before .before .if3 .left),
+      ← past .before .number2 .ensures .0,
+      eq-eqb _ _
+          (past .if4 .left),
+      sym (c .before .before .before .before .zero-from2 .ensures) ∙ not-false _ (c .before .before .before .if5 .left),
+      ← c .before .number3 .ensures .0,
+    ) (c .block-rests .ensures)
 
 pub slot-holds-spec : {M : Type 1} → statement M
 slot-holds-spec =

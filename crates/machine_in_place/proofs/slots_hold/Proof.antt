@@ -66,8 +66,9 @@ loop-less c = search needs
 
 loop-again : tie.Need-loop-again Inv-loop μ-loop
 loop-again c =
-    let v = c .before .before .before .before .before .before .loop in
-    let more = c .before .before .before .before .before .loop-test .taken in
+    let past = c .before .before .before .before .before in
+    let v = past .before .loop in
+    let more = past .loop-test .taken in
     let p = has-passed _ _ _ _ (c .before .before .before .before .slot-holds .ensures) (c .before .before .here .given .1) in (
       slots-go-on _ _ _ _ _ _ _ (v .s) more (v .inv .0) (one-slot _ _ _ (v .s) true more (p .0)) (p .1) (c .sooner .ensures),
       simp length-set (v .inv .1),

@@ -33,21 +33,23 @@ enum-known-soonest c = search needs
 
 returns-2 : tie.Need-returns-2
 returns-2 c =
+    let past = c .before .before .before .before .before in
     record {
-      answer = answer-none _ _ (sym (c .before .before .before .before .before .stopped-words .ensures) ∙ c .before .before .before .before .if1 .left) (has-failed _ _ _ (c .before .before .running-words .ensures .0) (c .enum-told .given .1));
+      answer = answer-none _ _ (sym (past .stopped-words .ensures) ∙ c .before .before .before .before .if1 .left) (has-failed _ _ _ (c .before .before .running-words .ensures .0) (c .enum-told .given .1));
       each = λ d e. none-not-running e;
       places = c .before .before .running-words .ensures .1;
-      kept = c .before .before .running-words .ensures .3 ∙ tests-leave _ _ _ (sym (c .before .before .before .before .before .stopped-words .ensures) ∙ c .before .before .before .before .if1 .left);
+      kept = c .before .before .running-words .ensures .3 ∙ tests-leave _ _ _ (sym (past .stopped-words .ensures) ∙ c .before .before .before .before .if1 .left);
     }
 
 returns-3 : tie.Need-returns-3
 returns-3 c =
+    let past = c .before .before .before .before .before in
     let p = has-passed _ _ _ _ (c .before .before .before .running-words .ensures .0) (c .before .soonest .given .1) in
     record {
-      answer = answer-running _ _ _ (λ i. omega (arith, c .before .before .before .before .before .before .before .shared-slice-known2 .given i)) (sym (c .before .before .before .before .before .before .stopped-words .ensures) ∙ c .before .before .before .before .before .if1 .left) (p .0) (p .1);
+      answer = answer-running _ _ _ (λ i. omega (arith, past .before .before .shared-slice-known2 .given i)) (sym (past .before .stopped-words .ensures) ∙ past .if1 .left) (p .0) (p .1);
       each = λ d e. c .before .before .before .running-words .ensures .2 (p .0);
       places = c .before .before .before .running-words .ensures .1;
-      kept = c .before .before .before .running-words .ensures .3 ∙ tests-leave _ _ _ (sym (c .before .before .before .before .before .before .stopped-words .ensures) ∙ c .before .before .before .before .before .if1 .left);
+      kept = c .before .before .before .running-words .ensures .3 ∙ tests-leave _ _ _ (sym (past .before .stopped-words .ensures) ∙ past .if1 .left);
     }
 
 pub machine-answer-spec : {M : Type 1} → statement M

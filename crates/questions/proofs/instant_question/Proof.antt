@@ -26,13 +26,15 @@ returns-3 c =
 
 machine-question-requires : tie.Need-machine-question-requires
 machine-question-requires c κs =
-    let l = long _ _ _ _ (sym (c .before .before .before .before .before .long-enough .ensures) ∙ not-false _ (c .before .before .before .before .if1 .left)) in
-    (l .table-long, l .machine-long, sym (c .before .before .is-table .ensures) ∙ not-false _ (c .before .if3 .left), c .before .before .before .before .before .before .before .before .before .before .before .before .pre)
+    let past = c .before .before .before .before .before in
+    let l = long _ _ _ _ (sym (past .long-enough .ensures) ∙ not-false _ (c .before .before .before .before .if1 .left)) in
+    (l .table-long, l .machine-long, sym (c .before .before .is-table .ensures) ∙ not-false _ (c .before .if3 .left), past .before .before .before .before .before .before .before .pre)
 
 returns-4 : tie.Need-returns-4
 returns-4 c =
+    let past = c .before .before .before .before .before in
     let m = c .machine-question .ensures in
-    instant-by-machine _ _ _ _ _ _ _ _ _ (m .places) (sym (c .before .before .before .before .before .before .long-enough .ensures) ∙ not-false _ (c .before .before .before .before .before .if1 .left)) (c .before .before .before .before .if2 .left) (sym (c .before .before .before .is-table .ensures) ∙ not-false _ (c .before .before .if3 .left)) _ m
+    instant-by-machine _ _ _ _ _ _ _ _ _ (m .places) (sym (past .before .long-enough .ensures) ∙ not-false _ (past .if1 .left)) (c .before .before .before .before .if2 .left) (sym (c .before .before .before .is-table .ensures) ∙ not-false _ (c .before .before .if3 .left)) _ m
 
 pub instant-question-spec : {M : Type 1} → statement M
 instant-question-spec =

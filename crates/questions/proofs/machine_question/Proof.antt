@@ -53,8 +53,9 @@ returns-2 c =
 
 returns-3 : tie.Need-returns-3
 returns-3 c =
-    let a = c .before .before .before .before .before .before .before .before .before .before .before .before .args in
-    machine-passed-with (a .table .now) (take 12288 (a .machine .now)) _ _ _ _ _ _ _ (c .before .before .before .before .before .before .before .check-machine .ensures) (c .before .before .before .before .before .check .given .1) _ (c .before .before .number .ensures .0) (c .state-question .ensures)
+    let past = c .before .before .before .before .before in
+    let a = past .before .before .before .before .before .before .before .args in
+    machine-passed-with (a .table .now) (take 12288 (a .machine .now)) _ _ _ _ _ _ _ (past .before .before .check-machine .ensures) (past .check .given .1) _ (c .before .before .number .ensures .0) (c .state-question .ensures)
 
 pub machine-question-spec : {M : Type 1} → statement M
 machine-question-spec =

@@ -25,8 +25,9 @@ due-before-requires c κs = search needs
 
 returns-2 : tie.Need-returns-2
 returns-2 c =
-    let a = c .before .before .before .before .before .before .before .before .args in
-    let p = c .before .before .before .before .before .present-moment .ensures in
+    let past = c .before .before .before .before .before in
+    let a = past .before .before .before .args in
+    let p = past .present-moment .ensures in
     let l : ltb (momentAt (a .machine .now) 1) (a .moment .0) ≡ true = lt-ltb (momentAt (a .machine .now) 1) (a .moment .0) (omega arith) in
     λ next. refused-10 _ _ _ _ next l (sym (c .before .due-before .ensures) ∙ c .if2 .taken)
 
@@ -35,8 +36,9 @@ numbers-rise-requires c κs = search needs
 
 returns-3 : tie.Need-returns-3
 returns-3 c =
-    let a = c .before .before .before .before .before .before .before .before .before .before .args in
-    let p = c .before .before .before .before .before .before .before .present-moment .ensures in
+    let past = c .before .before .before .before .before .before .before in
+    let a = past .before .before .before .args in
+    let p = past .present-moment .ensures in
     let l : ltb (momentAt (a .machine .now) 1) (a .moment .0) ≡ true = lt-ltb (momentAt (a .machine .now) 1) (a .moment .0) (omega arith) in
     λ next. refused-11 _ _ _ _ next l (sym (c .before .before .before .due-before .ensures) ∙ c .before .before .if2 .left) (sym (c .before .numbers-rise .ensures) ∙ not-true _ (c .if3 .taken))
 
@@ -45,18 +47,20 @@ allowance-fits-requires c κs = search needs
 
 returns-4 : tie.Need-returns-4
 returns-4 c =
-    let a = c .before .before .before .before .before .before .before .before .before .before .before .before .args in
-    let p = c .before .before .before .before .before .before .before .before .before .present-moment .ensures in
+    let past = c .before .before .before .before .before in
+    let a = past .before .before .before .before .before .before .before .args in
+    let p = past .before .before .before .before .present-moment .ensures in
     let l : ltb (momentAt (a .machine .now) 1) (a .moment .0) ≡ true = lt-ltb (momentAt (a .machine .now) 1) (a .moment .0) (omega arith) in
-    λ next. refused-12 _ _ _ _ next l (sym (c .before .before .before .before .before .due-before .ensures) ∙ c .before .before .before .before .if2 .left) (sym (c .before .before .before .numbers-rise .ensures) ∙ not-false _ (c .before .before .if3 .left))
+    λ next. refused-12 _ _ _ _ next l (sym (past .due-before .ensures) ∙ c .before .before .before .before .if2 .left) (sym (c .before .before .before .numbers-rise .ensures) ∙ not-false _ (c .before .before .if3 .left))
     (sym (c .before .allowance-fits .ensures) ∙ not-true _ (c .if4 .taken))
 
 returns-5 : tie.Need-returns-5
 returns-5 c =
-    let a = c .before .before .before .before .before .before .before .before .before .before .before .before .args in
-    let p = c .before .before .before .before .before .before .before .before .before .present-moment .ensures in
+    let past = c .before .before .before .before .before in
+    let a = past .before .before .before .before .before .before .before .args in
+    let p = past .before .before .before .before .present-moment .ensures in
     let l : ltb (momentAt (a .machine .now) 1) (a .moment .0) ≡ true = lt-ltb (momentAt (a .machine .now) 1) (a .moment .0) (omega arith) in
-    λ next. none-refused _ _ _ _ next l (sym (c .before .before .before .before .before .due-before .ensures) ∙ c .before .before .before .before .if2 .left) (sym (c .before .before .before .numbers-rise .ensures) ∙ not-false _ (c .before .before .if3 .left))
+    λ next. none-refused _ _ _ _ next l (sym (past .due-before .ensures) ∙ c .before .before .before .before .if2 .left) (sym (c .before .before .before .numbers-rise .ensures) ∙ not-false _ (c .before .before .if3 .left))
     (sym (c .before .allowance-fits .ensures) ∙ not-false _ (c .if4 .left))
 
 pub state-question-spec : {M : Type 1} → statement M

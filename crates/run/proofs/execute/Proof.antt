@@ -23,9 +23,10 @@ same-length c =
 
 returns : tie.Need-returns
 returns c =
-    let may = c .before .before .before .before .before .before .before .pre .0 in
-    let e = c .before .before .before .before .before .before .before .pre .1 .assigns (c .before .before .before .before .match .keys1) in
-    as-read (e .is) (c .before .before .assign-step .ensures (tableListing (now (c .before .before .before .before .before .before .before .args .t))) (c .before .before .before .before .before .before .before .args .present .0))
+    let past = c .before .before .before .before .before .before .before in
+    let may = past .pre .0 in
+    let e = past .pre .1 .assigns (c .before .before .before .before .match .keys1) in
+    as-read (e .is) (c .before .before .assign-step .ensures (tableListing (now (past .args .t))) (past .args .present .0))
 
 schedule-step-requires : tie.Need-schedule-step-requires
 schedule-step-requires c κs =
@@ -39,9 +40,10 @@ same-length-2 c =
 
 returns-2 : tie.Need-returns-2
 returns-2 c =
-    let may = c .before .before .before .before .before .before .before .pre .0 in
-    let e = c .before .before .before .before .before .before .before .pre .1 .schedules (c .before .before .before .before .match .keys2) in
-    as-read (e .is) (c .before .before .schedule-step .ensures (tableListing (now (c .before .before .before .before .before .before .before .args .t))))
+    let past = c .before .before .before .before .before .before .before in
+    let may = past .pre .0 in
+    let e = past .pre .1 .schedules (c .before .before .before .before .match .keys2) in
+    as-read (e .is) (c .before .before .schedule-step .ensures (tableListing (now (past .args .t))))
 
 cast-branch-step : tie.Need-cast-branch-step
 cast-branch-step c =
@@ -62,9 +64,10 @@ same-length-3 c =
 
 returns-3 : tie.Need-returns-3
 returns-3 c =
-    let may = c .before .before .before .before .before .before .before .pre .0 in
-    let e = c .before .before .before .before .before .before .before .pre .1 .branches (c .before .before .before .before .match .keys3) in
-    as-read (e .is) (c .before .before .branch-step .ensures (tableListing (now (c .before .before .before .before .before .before .before .args .t))) (c .before .before .before .before .before .before .before .args .present .0))
+    let past = c .before .before .before .before .before .before .before in
+    let may = past .pre .0 in
+    let e = past .pre .1 .branches (c .before .before .before .before .match .keys3) in
+    as-read (e .is) (c .before .before .branch-step .ensures (tableListing (now (past .args .t))) (past .args .present .0))
 
 cast-jump-step : tie.Need-cast-jump-step
 cast-jump-step c =
@@ -83,9 +86,10 @@ same-length-4 c =
 
 returns-4 : tie.Need-returns-4
 returns-4 c =
-    let may = c .before .before .before .before .before .before .before .pre .0 in
-    let e = c .before .before .before .before .before .before .before .pre .1 .jumps (c .before .before .before .before .match .keys4) in
-    as-read (e .is) (c .before .before .jump-step .ensures (tableListing (now (c .before .before .before .before .before .before .before .args .t))) (c .before .before .before .before .before .before .before .args .present .0))
+    let past = c .before .before .before .before .before .before .before in
+    let may = past .pre .0 in
+    let e = past .pre .1 .jumps (c .before .before .before .before .match .keys4) in
+    as-read (e .is) (c .before .before .jump-step .ensures (tableListing (now (past .args .t))) (past .args .present .0))
 
 wait-step-requires : tie.Need-wait-step-requires
 wait-step-requires c κs =
@@ -97,9 +101,10 @@ same-length-5 c =
 
 returns-5 : tie.Need-returns-5
 returns-5 c =
-    let may = c .before .before .before .before .before .before .before .pre .0 in
-    let e = c .before .before .before .before .before .before .before .pre .1 .waits (c .before .before .before .before .match .keys5) in
-    as-read (e .is) (c .before .before .wait-step .ensures (tableListing (now (c .before .before .before .before .before .before .before .args .t))) (c .before .before .before .before .before .before .before .args .present .0) (namesAt (now (c .before .before .before .before .before .before .before .args .t)) (c .before .before .before .before .before .before .before .args .entry .cells) (c .before .before .before .before .before .before .before .args .entry .first)))
+    let past = c .before .before .before .before .before .before .before in
+    let may = past .pre .0 in
+    let e = past .pre .1 .waits (c .before .before .before .before .match .keys5) in
+    as-read (e .is) (c .before .before .wait-step .ensures (tableListing (now (past .args .t))) (past .args .present .0) (namesAt (now (past .args .t)) (past .args .entry .cells) (past .args .entry .first)))
 
 fork-step-requires : tie.Need-fork-step-requires
 fork-step-requires c κs =
@@ -113,9 +118,10 @@ same-length-6 c =
 
 returns-6 : tie.Need-returns-6
 returns-6 c =
-    let may = c .before .before .before .before .before .before .before .pre .0 in
-    let e = c .before .before .before .before .before .before .before .pre .1 .forks (c .before .before .before .before .match .keys6) in
-    as-read (e .is) (c .before .before .fork-step .ensures (c .before .before .before .before .before .before .before .args .present .0))
+    let past = c .before .before .before .before .before .before .before in
+    let may = past .pre .0 in
+    let e = past .pre .1 .forks (c .before .before .before .before .match .keys6) in
+    as-read (e .is) (c .before .before .fork-step .ensures (past .args .present .0))
 
 end-step-requires : tie.Need-end-step-requires
 end-step-requires c κs =
@@ -127,18 +133,19 @@ same-length-7 c =
 
 returns-7 : tie.Need-returns-7
 returns-7 c =
-    let least = c .before .before .before .before .before .before .before .pre .1 .least in
-    let most = c .before .before .before .before .before .before .before .pre .1 .most in
+    let past = c .before .before .before .before .before .before .before in
+    let least = past .pre .1 .least in
+    let most = past .pre .1 .most in
     let rest = c .before .before .before .before .match .rest in
-    let n1 : c .before .before .before .before .before .before .before .args .entry .kind ≡ 1 → ⊥ = rest .0 .0 .0 .0 .0 .1 in
-    let n2 : c .before .before .before .before .before .before .before .args .entry .kind ≡ 2 → ⊥ = rest .0 .0 .0 .0 .1 in
-    let n3 : c .before .before .before .before .before .before .before .args .entry .kind ≡ 3 → ⊥ = rest .0 .0 .0 .1 in
-    let n4 : c .before .before .before .before .before .before .before .args .entry .kind ≡ 4 → ⊥ = rest .0 .0 .1 in
-    let n5 : c .before .before .before .before .before .before .before .args .entry .kind ≡ 5 → ⊥ = rest .0 .1 in
-    let n6 : c .before .before .before .before .before .before .before .args .entry .kind ≡ 6 → ⊥ = rest .1 in
-    let seven : c .before .before .before .before .before .before .before .args .entry .kind ≡ 7 = last-kind _ least most n1 n2 n3 n4 n5 n6 in
-    let e = c .before .before .before .before .before .before .before .pre .1 .ends seven in
-    as-read (e .is) (c .before .before .end-step .ensures (tableListing (now (c .before .before .before .before .before .before .before .args .t))) (c .before .before .before .before .before .before .before .args .present .0))
+    let n1 : past .args .entry .kind ≡ 1 → ⊥ = rest .0 .0 .0 .0 .0 .1 in
+    let n2 : past .args .entry .kind ≡ 2 → ⊥ = rest .0 .0 .0 .0 .1 in
+    let n3 : past .args .entry .kind ≡ 3 → ⊥ = rest .0 .0 .0 .1 in
+    let n4 : past .args .entry .kind ≡ 4 → ⊥ = rest .0 .0 .1 in
+    let n5 : past .args .entry .kind ≡ 5 → ⊥ = rest .0 .1 in
+    let n6 : past .args .entry .kind ≡ 6 → ⊥ = rest .1 in
+    let seven : past .args .entry .kind ≡ 7 = last-kind _ least most n1 n2 n3 n4 n5 n6 in
+    let e = past .pre .1 .ends seven in
+    as-read (e .is) (c .before .before .end-step .ensures (tableListing (now (past .args .t))) (past .args .present .0))
 
 pub execute-spec : {M : Type 1} → statement M
 execute-spec =

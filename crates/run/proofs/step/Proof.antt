@@ -14,26 +14,31 @@ number-requires : tie.Need-number-requires
 number-requires c κs = search needs
 
 place-requires : tie.Need-place-requires
-place-requires c κs = (c .before .before .before .before .before .before .pre .pops .size, c .before .before .before .before .before .before .pre .slot)
+place-requires c κs =
+    let past = c .before .before .before .before .before .before in
+    (past .pre .pops .size, past .pre .slot)
 
 number-requires-2 : tie.Need-number-requires-2
 number-requires-2 c κs = search needs
 
 fetch-requires : tie.Need-fetch-requires
 fetch-requires c κs =
-    let a = c .before .before .before .before .before .before .before .before .args in
+    let past = c .before .before .before .before .before .before .before .before in
+    let a = past .args in
     let row = rowsOf (now (a .m)) (a .running .me) in
     let routine : c .before .before .before .number .result ≡ row .routine = c .before .before .before .number .ensures .0 ∙ c .before .before .before .before .routine .ensures in
     let place : c .number2 .result ≡ row .place = c .number2 .ensures .0 ∙ c .before .place .ensures in
-    (c .before .before .before .before .before .before .before .before .pre .table, rw routine (c .before .before .before .before .before .before .before .before .pre .routine), rw (place, routine) (c .before .before .before .before .before .before .before .before .pre .place))
+    (past .pre .table, rw routine (past .pre .routine), rw (place, routine) (past .pre .place))
 
 execute-requires : tie.Need-execute-requires
 execute-requires c κs =
-    let a = c .before .before .before .before .before .before .before .before .before .before .args in
+    let past = c .before .before .before .before .before in
+    let earlier = past .before .before .before .before .before in
+    let a = earlier .args in
     let row = rowsOf (now (a .m)) (a .running .me) in
-    let routine : c .before .before .before .before .before .number .result ≡ row .routine = c .before .before .before .before .before .number .ensures .0 ∙ c .before .before .before .before .before .before .routine .ensures in
+    let routine : past .number .result ≡ row .routine = past .number .ensures .0 ∙ past .before .routine .ensures in
     let place : c .before .before .number2 .result ≡ row .place = c .before .before .number2 .ensures .0 ∙ c .before .before .before .place .ensures in
-    (c .before .before .before .before .before .before .before .before .before .before .pre, rw (routine, place) at (c .before .fetch .ensures .1))
+    (earlier .pre, rw (routine, place) at (c .before .fetch .ensures .1))
 
 same-length : tie.Need-same-length
 same-length c = search needs

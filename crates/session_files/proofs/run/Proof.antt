@@ -21,31 +21,43 @@ is-over-requires : tie.Need-is-over-requires Inv-loop μ-loop
 is-over-requires c κs = tt
 
 turn-requires : tie.Need-turn-requires Inv-loop μ-loop
-turn-requires c κs = still-long (made-as-long (c .before .before .before .before .before .loop .inv .made)) (c .before .before .before .before .before .before .before .before .before .before .before .pre)
+turn-requires c κs =
+    let past = c .before .before .before .before .before in
+    still-long (made-as-long (past .loop .inv .made)) (past .before .before .before .before .before .before .pre)
 
 same-length : tie.Need-same-length Inv-loop μ-loop
-same-length c = c .before .before .before .before .before .before .before .table .given ∙ made-as-long (c .before .before .before .before .before .before .before .before .before .before .before .before .before .before .loop .inv .made) .table-is
+same-length c =
+    let past = c .before .before .before .before .before .before .before in
+    past .table .given ∙ made-as-long (past .before .before .before .before .before .before .before .loop .inv .made) .table-is
 
 same-length-2 : tie.Need-same-length-2 Inv-loop μ-loop
-same-length-2 c = c .before .before .before .before .before .machine .given ∙ made-as-long (c .before .before .before .before .before .before .before .before .before .before .before .before .before .before .loop .inv .made) .machine-is
+same-length-2 c =
+    let past = c .before .before .before .before .before in
+    past .machine .given ∙ made-as-long (past .before .before .before .before .before .before .before .before .before .loop .inv .made) .machine-is
 
 same-length-3 : tie.Need-same-length-3 Inv-loop μ-loop
 same-length-3 c = c .before .before .before .out .given ∙ made-as-long (c .before .before .before .before .before .before .before .before .before .before .before .before .before .before .loop .inv .made) .out-is
 
 returns : tie.Need-returns Inv-loop μ-loop
 returns c =
-    let is-going = sym (c .before .before .before .before .before .before .before .before .before .before .before .before .before .is-over .ensures) ∙ not-true _ (c .before .before .before .before .before .before .before .before .before .before .before .before .if1 .taken) in
-    run-stops (c .before .before .before .before .before .before .before .before .before .before .before .before .before .before .loop .inv) is-going (c .before .before .before .before .before .before .before .before .turn .ensures)
+    let past = c .before .before .before .before .before .before .before .before in
+    let earlier = past .before .before .before .before .before in
+    let is-going = sym (earlier .is-over .ensures) ∙ not-true _ (past .before .before .before .before .if1 .taken) in
+    run-stops (earlier .before .loop .inv) is-going (past .turn .ensures)
 
 loop-less : tie.Need-loop-less Inv-loop μ-loop
 loop-less c =
-    let is-going = sym (c .before .before .before .before .before .before .before .before .before .before .before .before .before .is-over .ensures) ∙ not-true _ (c .before .before .before .before .before .before .before .before .before .before .before .before .if1 .taken) in
-    fewer (c .before .before .before .before .before .before .before .before .before .before .before .before .before .before .loop .inv) is-going (c .before .before .before .before .before .before .before .before .turn .ensures)
+    let past = c .before .before .before .before .before .before .before .before in
+    let earlier = past .before .before .before .before .before in
+    let is-going = sym (earlier .is-over .ensures) ∙ not-true _ (past .before .before .before .before .if1 .taken) in
+    fewer (earlier .before .loop .inv) is-going (past .turn .ensures)
 
 loop-again : tie.Need-loop-again Inv-loop μ-loop
 loop-again c =
-    let is-going = sym (c .before .before .before .before .before .before .before .before .before .before .before .before .before .is-over .ensures) ∙ not-true _ (c .before .before .before .before .before .before .before .before .before .before .before .before .if1 .taken) in
-    goes-on (c .before .before .before .before .before .before .before .before .before .before .before .before .before .before .loop .inv) is-going (c .before .before .before .before .before .before .before .before .turn .ensures)
+    let past = c .before .before .before .before .before .before .before .before in
+    let earlier = past .before .before .before .before .before in
+    let is-going = sym (earlier .is-over .ensures) ∙ not-true _ (past .before .before .before .before .if1 .taken) in
+    goes-on (earlier .before .loop .inv) is-going (past .turn .ensures)
 
 same-length-4 : tie.Need-same-length-4 Inv-loop μ-loop
 same-length-4 c = made-as-long (c .before .before .loop .inv .made) .table-is

@@ -49,7 +49,9 @@ same-length-6 : tie.Need-same-length-6
 same-length-6 c = c .before .before .before .out .given
 
 returns-2 : tie.Need-returns-2
-returns-2 c = not-short (rw (c .enum-told .given .1) at (c .before .before .before .before .before .before .before .before .advance .ensures)) (c .before .before .before .before .before .before .before .before .before .before .before .before .before .before .before .before .before .pre)
+returns-2 c =
+    let past = c .before .before .before .before .before .before .before .before in
+    not-short (rw (c .enum-told .given .1) at (past .advance .ensures)) (past .before .before .before .before .before .before .before .before .before .pre)
 
 pub turn-spec : {M : Type 1} → statement M
 turn-spec =

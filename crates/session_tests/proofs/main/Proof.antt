@@ -41,7 +41,9 @@ slice-aggregate-run-file-4 : tie.Need-slice-aggregate-run-file-4
 slice-aggregate-run-file-4 c = search needs
 
 run-file-requires : tie.Need-run-file-requires
-run-file-requires c κs = lent-long (c .before .before .before .before .before .before .memory .ensures) (c .before .before .before .before .before .memory2 .ensures) (c .before .before .before .before .piece .ensures)
+run-file-requires c κs =
+    let past = c .before .before .before .before .before in
+    lent-long (past .before .memory .ensures) (past .memory2 .ensures) (c .before .before .before .before .piece .ensures)
 
 slice-aggregate-sum-up : tie.Need-slice-aggregate-sum-up
 slice-aggregate-sum-up c = search needs

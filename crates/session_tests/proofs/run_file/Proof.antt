@@ -36,7 +36,9 @@ case-at-requires : tie.Need-case-at-requires Inv-loop μ-loop
 case-at-requires c κs = tt
 
 run-case-requires : tie.Need-run-case-requires Inv-loop μ-loop
-run-case-requires c κs = (c .before .before .before .case-at .ensures .1, still-long (c .before .before .before .before .before .loop .inv .4) (c .before .before .before .before .before .before .before .before .before .before .before .before .pre))
+run-case-requires c κs =
+    let past = c .before .before .before .before .before in
+    (c .before .before .before .case-at .ensures .1, still-long (past .loop .inv .4) (past .before .before .before .before .before .before .before .pre))
 
 add-failed : tie.Need-add-failed Inv-loop μ-loop
 add-failed c = omega arith
@@ -49,17 +51,19 @@ loop-less c = omega arith
 
 loop-again : tie.Need-loop-again Inv-loop μ-loop
 loop-again c =
-    let i = c .before .before .before .before .before .before .before .before .before .before .before .before .before .loop .inv in
-    let r = c .before .before .before .before .before .before .before .run-case .ensures in
-    let case = c .before .before .before .before .before .before .before .before .before .before .before .case-at in (
+    let past = c .before .before .before .before .before .before .before in
+    let earlier = past .before .before .before .before .before in
+    let i = earlier .before .loop .inv in
+    let r = past .run-case .ensures in
+    let case = past .before .before .before .before .case-at in (
       i .0,
       i .1,
       omega arith,
       ⊎-elim (λ w. omega arith) (λ w. omega arith) (c .if1 .came),
       record { table-is = r .1 .table-is ∙ i .4 .table-is; machine-is = r .1 .machine-is ∙ i .4 .machine-is; out-is = r .1 .out-is ∙ i .4 .out-is },
       ⊎-elim
-          (λ w. one-fails (case .result) (case .ensures .0) (c .before .before .before .before .before .before .before .before .before .before .before .before .loop-test .taken) (i .5) (λ a. never (sym (not-true _ (w .0 .taken)) ∙ r .0 .whenever a)) (w .1))
-          (λ w. one-agrees (case .result) (case .ensures .0) (c .before .before .before .before .before .before .before .before .before .before .before .before .loop-test .taken) (i .5) (r .0 .means (not-false _ (w .0 .left))) (w .1))
+          (λ w. one-fails (case .result) (case .ensures .0) (earlier .loop-test .taken) (i .5) (λ a. never (sym (not-true _ (w .0 .taken)) ∙ r .0 .whenever a)) (w .1))
+          (λ w. one-agrees (case .result) (case .ensures .0) (earlier .loop-test .taken) (i .5) (r .0 .means (not-false _ (w .0 .left))) (w .1))
           (c .if1 .came),
     )
 

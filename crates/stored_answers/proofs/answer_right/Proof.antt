@@ -24,7 +24,8 @@ say-report-requires-2 c κs = tt
 
 returns : tie.Need-returns
 returns c =
-    other-answer (c .before .before .before .before .before .before .answer-at .result) (c .before .before .before .before .before .before .before .before .before .before .args .found) (c .before .before .before .before .before .before .answer-at .ensures) (c .before .before .before .before .before .same-reports .ensures) (not-true _ (c .before .before .before .before .if1 .taken))
+    let past = c .before .before .before .before .before in
+    other-answer (past .before .answer-at .result) (past .before .before .before .before .before .args .found) (past .before .answer-at .ensures) (past .same-reports .ensures) (not-true _ (c .before .before .before .before .if1 .taken))
 
 past-requires : tie.Need-past-requires
 past-requires c κs = tt
@@ -40,11 +41,13 @@ say-requires c κs = tt
 
 returns-2 : tie.Need-returns-2
 returns-2 c =
-    by-outputs (c .before .before .before .before .before .before .before .answer-at .result) (c .before .before .before .before .before .before .before .before .before .before .before .args .found) (c .before .before .before .before .before .before .before .answer-at .ensures) (c .before .before .before .before .before .before .same-reports .ensures) (not-false _ (c .before .before .before .before .before .if1 .left)) (c .before .before .before .before .past .ensures) (c .before .before .before .outputs-right .ensures)
+    let earlier = c .before .before .before .before .before in
+    by-outputs (earlier .before .before .answer-at .result) (earlier .before .before .before .before .before .before .args .found) (earlier .before .before .answer-at .ensures) (earlier .before .same-reports .ensures) (not-false _ (earlier .if1 .left)) (c .before .before .before .before .past .ensures) (c .before .before .before .outputs-right .ensures)
 
 returns-3 : tie.Need-returns-3
 returns-3 c =
-    by-outputs (c .before .before .before .before .before .answer-at .result) (c .before .before .before .before .before .before .before .before .before .args .found) (c .before .before .before .before .before .answer-at .ensures) (c .before .before .before .before .same-reports .ensures) (not-false _ (c .before .before .before .if1 .left)) (c .before .before .past .ensures) (c .before .outputs-right .ensures)
+    let earlier = c .before .before .before .before .before in
+    by-outputs (earlier .answer-at .result) (earlier .before .before .before .before .args .found) (earlier .answer-at .ensures) (c .before .before .before .before .same-reports .ensures) (not-false _ (c .before .before .before .if1 .left)) (c .before .before .past .ensures) (c .before .outputs-right .ensures)
 
 pub answer-right-spec : {M : Type 1} → statement M
 answer-right-spec =

@@ -28,9 +28,10 @@ word-at-requires-2 c κs = tt
 
 returns-3 : tie.Need-returns-3
 returns-3 c =
-    let f = c .before .before .before .before .before .before .before .before .fabrwent-alike in
-    by-alike (f .result .number) (f .result .alike) (f .ensures .number) (f .ensures .alike) (sym (c .before .before .before .before .before .word-at .ensures) ∙ c .before .before .before .if2 .left)
-    (c .before .word-at2 .result) (c .before .word-at2 .ensures ∙ ap (wordAt (now (c .before .before .before .before .before .before .before .before .before .before .before .before .before .args .s))) (c .before .before .past .ensures))
+    let earlier = c .before .before .before .before .before in
+    let f = earlier .before .before .before .fabrwent-alike in
+    by-alike (f .result .number) (f .result .alike) (f .ensures .number) (f .ensures .alike) (sym (earlier .word-at .ensures) ∙ c .before .before .before .if2 .left)
+    (c .before .word-at2 .result) (c .before .word-at2 .ensures ∙ ap (wordAt (now (earlier .before .before .before .before .before .before .before .before .args .s))) (c .before .before .past .ensures))
 
 pub compare-spec : {M : Type 1} → statement M
 compare-spec =

@@ -44,7 +44,8 @@ spoil-first-requires-4 c κs =
 
 same-length : tie.Need-same-length
 same-length c =
-    c .before .before .before .before .before .before .spoil-first3 .kept .0 ∙ c .before .before .before .before .before .before .before .before .before .before .before .before .before .before .before .before .before .before .spoil-first .kept .0
+    let past = c .before .before .before .before .before .before in
+    past .spoil-first3 .kept .0 ∙ past .before .before .before .before .before .before .before .before .before .before .before .before .spoil-first .kept .0
 
 same-length-2 : tie.Need-same-length-2
 same-length-2 c =
@@ -52,18 +53,21 @@ same-length-2 c =
 
 returns : tie.Need-returns
 returns c =
-    let a = c .before .before .before .before .before .before .before .before .before .before .before .before .before .before .before .before .before .before .before .before .before .before .before .before .before .before .before .args in
-    let k = c .before .before .before .before .before .before .before .before .before .before .before .before .before .before .before .before .before .before .before .before .before .before .word-at in
-    let t = c .before .before .before .before .before .before .before .before .before .before .before .before .before .before .before .before .before .before .spoil-first in
-    let m = c .before .before .before .before .before .before .before .before .before .before .before .before .before .before .spoil-first2 in
-    let u = c .before .before .before .before .before .before .spoil-first3 in
+    let earlier = c .before .before .before .before .before .before in
+    let former = earlier .before .before .before .before .before .before .before .before in
+    let older = former .before .before .before .before .before .before in
+    let a = older .before .before .before .before .before .before .before .args in
+    let k = older .before .before .word-at in
+    let t = former .before .before .before .before .spoil-first in
+    let m = former .spoil-first2 in
+    let u = earlier .spoil-first3 in
     let n = c .before .before .spoil-first4 in
     record {
       tableIs = spoilt-back (k .result) 6 2147483648 (t .result) (now (a .table)) (t .last .0) (u .last .0) (t .ensures .1) (t .ensures .0) (u .ensures .1);
       machineIs = spoilt-back (k .result) 7 5 (m .result) (now (a .machine)) (m .last .0) (n .last .0) (m .ensures .1) (m .ensures .0) (n .ensures .1);
       tells =
-          compared-so (a .at) (k .result) (now (a .table)) (now (a .machine)) (now (a .kept)) (k .ensures) (c .before .before .before .before .before .before .before .before .before .before .before .before .before .before .before .before .before .before .before .before .before .past .ensures)
-          (t .ensures .1) (m .ensures .1) (c .before .before .before .before .before .before .before .before .before .before .before .before .before .before .before .before .before .before .before .before .lent .ensures .1) (c .before .before .before .before .before .before .before .before .compare .ensures);
+          compared-so (a .at) (k .result) (now (a .table)) (now (a .machine)) (now (a .kept)) (k .ensures) (older .before .past .ensures)
+          (t .ensures .1) (m .ensures .1) (older .lent .ensures .1) (earlier .before .before .compare .ensures);
     }
 
 pub compare-spoilt-spec : {M : Type 1} → statement M

@@ -69,20 +69,23 @@ shared-slice-read-size c = omega arith
 
 cast-size : tie.Need-cast-size
 cast-size c =
-    let g = c .before .before .before .before .before .shared-slice-known .given in
-    let a = c .before .before .before .before .before .before .args .a in
+    let past = c .before .before .before .before .before in
+    let g = past .shared-slice-known .given in
+    let a = past .before .args .a in
     omega (arith, g (a + 2), g (a + 3), g (a + 4))
 
 cast-if1 : tie.Need-cast-if1
 cast-if1 c =
-    let g = c .before .before .before .before .before .shared-slice-known .given in
-    let a = c .before .before .before .before .before .before .args .a in
+    let past = c .before .before .before .before .before in
+    let g = past .shared-slice-known .given in
+    let a = past .before .args .a in
     omega (arith, g (a + 0), g (a + 2))
 
 add-if1 : tie.Need-add-if1
 add-if1 c =
-    let g = c .before .before .before .before .before .shared-slice-known .given in
-    let a = c .before .before .before .before .before .before .args .a in
+    let past = c .before .before .before .before .before in
+    let g = past .shared-slice-known .given in
+    let a = past .before .args .a in
     omega (arith, g (a + 0), g (a + 2))
 
 returns : tie.Need-returns
@@ -108,7 +111,8 @@ returns-3 c =
 
 add-if4 : tie.Need-add-if4
 add-if4 c =
-    omega (arith, (c .before .before .before .before .before .before .before .before .shared-slice-known .given) ((c .before .before .before .before .before .before .before .before .before .args .a) + 4))
+    let past = c .before .before .before .before .before .before .before .before in
+    omega (arith, (past .shared-slice-known .given) ((past .before .args .a) + 4))
 
 returns-4 : tie.Need-returns-4
 unfolding entryTest

@@ -70,53 +70,61 @@ add-e c = omega arith
 
 code-past-requires : tie.Need-code-past-requires
 code-past-requires c κs =
-    let a = c .before .before .before .before .before .before .args in
+    let past = c .before .before .before .before .before .before in
+    let a = past .args in
     let o = opening.opened (now (a .t)) (a .number) (a .first) (sym (c .before .before .before .before .opening-passes .ensures) ∙ not-false _ (c .before .before .before .if1 .left)) in
     let room = o .room in
-    let p = c .before .before .before .before .before .before .pre in
+    let p = past .pre in
     (omega arith, omega arith, omega arith, omega arith, omega arith)
 
 returns-2 : tie.Need-returns-2
 returns-2 c =
-    let a = c .before .before .before .before .before .before .before .before .args in
-    let o = sym (c .before .before .before .before .before .before .opening-passes .ensures) ∙ not-false _ (c .before .before .before .before .before .if1 .left) in
+    let past = c .before .before .before .before .before in
+    let a = past .before .before .before .args in
+    let o = sym (past .before .opening-passes .ensures) ∙ not-false _ (past .if1 .left) in
     sym (routines.stopped (now (a .t)) (a .number) (a .first) (a .cells) (omega arith) (omega arith) o (sym (c .before .code-past .ensures) ∙ (c .if2 .taken)))
 
 sub-may-end : tie.Need-sub-may-end
 sub-may-end c =
-    let a = c .before .before .before .before .before .before .before .before .args in
-    let o = opening.opened (now (a .t)) (a .number) (a .first) (sym (c .before .before .before .before .before .before .opening-passes .ensures) ∙ not-false _ (c .before .before .before .before .before .if1 .left)) in
+    let past = c .before .before .before .before .before in
+    let a = past .before .before .before .args in
+    let o = opening.opened (now (a .t)) (a .number) (a .first) (sym (past .before .opening-passes .ensures) ∙ not-false _ (past .if1 .left)) in
     omega (arith, o .room, o .line)
 
 mul-may-end : tie.Need-mul-may-end
 mul-may-end c =
-    let a = c .before .before .before .before .before .before .before .before .args in
-    let o = opening.opened (now (a .t)) (a .number) (a .first) (sym (c .before .before .before .before .before .before .opening-passes .ensures) ∙ not-false _ (c .before .before .before .before .before .if1 .left)) in
+    let past = c .before .before .before .before .before in
+    let a = past .before .before .before .args in
+    let o = opening.opened (now (a .t)) (a .number) (a .first) (sym (past .before .opening-passes .ensures) ∙ not-false _ (past .if1 .left)) in
     omega (arith, o .room, o .line)
 
 add-may-end : tie.Need-add-may-end
 add-may-end c =
-    let a = c .before .before .before .before .before .before .before .before .args in
-    let o = opening.opened (now (a .t)) (a .number) (a .first) (sym (c .before .before .before .before .before .before .opening-passes .ensures) ∙ not-false _ (c .before .before .before .before .before .if1 .left)) in
+    let past = c .before .before .before .before .before in
+    let a = past .before .before .before .args in
+    let o = opening.opened (now (a .t)) (a .number) (a .first) (sym (past .before .opening-passes .ensures) ∙ not-false _ (past .if1 .left)) in
     omega (arith, o .room, o .line)
 
 may-end-requires : tie.Need-may-end-requires
 may-end-requires c κs =
-    let a = c .before .before .before .before .before .before .before .before .args in
-    let o = opening.opened (now (a .t)) (a .number) (a .first) (sym (c .before .before .before .before .before .before .opening-passes .ensures) ∙ not-false _ (c .before .before .before .before .before .if1 .left)) in
-    let p = c .before .before .before .before .before .before .before .before .pre in
+    let past = c .before .before .before .before .before in
+    let a = past .before .before .before .args in
+    let o = opening.opened (now (a .t)) (a .number) (a .first) (sym (past .before .opening-passes .ensures) ∙ not-false _ (past .if1 .left)) in
+    let p = past .before .before .before .pre in
     omega (arith, o .room, o .line)
 
 returns-3 : tie.Need-returns-3
 returns-3 c =
-    let a = c .before .before .before .before .before .before .before .before .before .before .args in
-    let o = sym (c .before .before .before .before .before .before .before .before .opening-passes .ensures) ∙ not-false _ (c .before .before .before .before .before .before .before .if1 .left) in
+    let past = c .before .before .before .before .before .before .before in
+    let a = past .before .before .before .args in
+    let o = sym (past .before .opening-passes .ensures) ∙ not-false _ (past .if1 .left) in
     sym (routines.through (now (a .t)) (a .number) (a .first) (a .cells) (omega arith) (omega arith) o (c .before .before .before .code-past .result) (sym (c .before .before .before .code-past .ensures)) (c .before .before .if2 .left) (sym (c .before .may-end .ensures) ∙ (c .if3 .taken)))
 
 returns-4 : tie.Need-returns-4
 returns-4 c =
-    let a = c .before .before .before .before .before .before .before .before .before .before .args in
-    let o = sym (c .before .before .before .before .before .before .before .before .opening-passes .ensures) ∙ not-false _ (c .before .before .before .before .before .before .before .if1 .left) in
+    let past = c .before .before .before .before .before .before .before in
+    let a = past .before .before .before .args in
+    let o = sym (past .before .opening-passes .ensures) ∙ not-false _ (past .if1 .left) in
     sym (routines.unended (now (a .t)) (a .number) (a .first) (a .cells) (omega arith) (omega arith) o (sym (c .before .may-end .ensures) ∙ (c .if3 .left)))
 
 pub routine-past-spec : {M : Type 1} → statement M

@@ -49,10 +49,11 @@ zeros-pass-requires-3 c κs = search needs
 returns-3 : tie.Need-returns-3
 unfolding tailTest
 returns-3 c =
-    let a = c .before .before .before .before .before .before .before .args in
+    let past = c .before .before .before .before .before in
+    let a = past .before .before .args in
     let z : 328 - (8 + 5 * a .n) ≡ 320 - 5 * a .n = omega arith in
     let y : 2888 - (328 + 5 * a .first) ≡ 2560 - 5 * a .first = omega arith in
-    let h = sym (c .before .before .before .before .before .zeros-pass .ensures) ∙ not-false _ (c .before .before .before .before .if1 .left) in
+    let h = sym (past .zeros-pass .ensures) ∙ not-false _ (c .before .before .before .before .if1 .left) in
     let k = sym (c .before .before .before .zeros-pass2 .ensures) ∙ not-false _ (c .before .before .if2 .left) in
     let j = sym (c .before .zeros-pass3 .ensures) ∙ not-true _ (c .if3 .taken) in
     rw (h, ← z, k, ← y, j)
@@ -63,11 +64,12 @@ zeros-pass-requires-4 c κs = search needs
 returns-4 : tie.Need-returns-4
 unfolding tailTest
 returns-4 c =
-    let a = c .before .before .before .before .before .before .before .before .before .args in
+    let past = c .before .before .before .before .before in
+    let a = past .before .before .before .before .args in
     let z : 328 - (8 + 5 * a .n) ≡ 320 - 5 * a .n = omega arith in
     let y : 2888 - (328 + 5 * a .first) ≡ 2560 - 5 * a .first = omega arith in
-    let h = sym (c .before .before .before .before .before .before .before .zeros-pass .ensures) ∙ not-false _ (c .before .before .before .before .before .before .if1 .left) in
-    let k = sym (c .before .before .before .before .before .zeros-pass2 .ensures) ∙ not-false _ (c .before .before .before .before .if2 .left) in
+    let h = sym (past .before .before .zeros-pass .ensures) ∙ not-false _ (past .before .if1 .left) in
+    let k = sym (past .zeros-pass2 .ensures) ∙ not-false _ (c .before .before .before .before .if2 .left) in
     let j = sym (c .before .before .before .zeros-pass3 .ensures) ∙ not-false _ (c .before .before .if3 .left) in
     let i = sym (c .before .zeros-pass4 .ensures) ∙ not-true _ (c .if4 .taken) in
     rw (h, ← z, k, ← y, j, i)
@@ -77,20 +79,23 @@ operand-count-requires c κs = search needs
 
 mul-result : tie.Need-mul-result
 mul-result c =
-    omega (arith, (c .operand-count .ensures), areas.operand-count-most (now (c .before .before .before .before .before .before .before .before .before .before .args .t)) (c .before .before .before .before .before .before .before .before .before .before .args .first) 328)
+    let past = c .before .before .before .before .before .before .before .before .before .before in
+    omega (arith, (c .operand-count .ensures), areas.operand-count-most (now (past .args .t)) (past .args .first) 328)
 
 add-result : tie.Need-add-result
 add-result c =
-    omega (arith, (c .operand-count .ensures), areas.operand-count-most (now (c .before .before .before .before .before .before .before .before .before .before .args .t)) (c .before .before .before .before .before .before .before .before .before .before .args .first) 328)
+    let past = c .before .before .before .before .before .before .before .before .before .before in
+    omega (arith, (c .operand-count .ensures), areas.operand-count-most (now (past .args .t)) (past .args .first) 328)
 
 returns-5 : tie.Need-returns-5
 unfolding tailTest
 returns-5 c =
-    let a = c .before .before .before .before .before .before .before .before .before .before .args in
+    let past = c .before .before .before .before .before in
+    let a = past .before .before .before .before .before .args in
     let z : 328 - (8 + 5 * a .n) ≡ 320 - 5 * a .n = omega arith in
     let y : 2888 - (328 + 5 * a .first) ≡ 2560 - 5 * a .first = omega arith in
-    let h = sym (c .before .before .before .before .before .before .before .before .zeros-pass .ensures) ∙ not-false _ (c .before .before .before .before .before .before .before .if1 .left) in
-    let k = sym (c .before .before .before .before .before .before .zeros-pass2 .ensures) ∙ not-false _ (c .before .before .before .before .before .if2 .left) in
+    let h = sym (past .before .before .before .zeros-pass .ensures) ∙ not-false _ (past .before .before .if1 .left) in
+    let k = sym (past .before .zeros-pass2 .ensures) ∙ not-false _ (past .if2 .left) in
     let j = sym (c .before .before .before .before .zeros-pass3 .ensures) ∙ not-false _ (c .before .before .before .if3 .left) in
     let i = sym (c .before .before .zeros-pass4 .ensures) ∙ not-false _ (c .before .if4 .left) in
     let q = c .operand-count .ensures in

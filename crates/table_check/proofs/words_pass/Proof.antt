@@ -35,8 +35,9 @@ routines-pass-requires c κs = search needs
 returns-3 : tie.Need-returns-3
 unfolding tableTest
 returns-3 c =
-    let w = now (c .before .before .before .before .before .args .t) in
-    c .routines-pass .ensures ∙ sym (whole.table-is-checked w (c .before .before .before .before .before .pre) ∙ rw (le-leb 1 (word w 2) (c .before .before .if1 .left), le-leb (word w 2) 64 (c .before .if2 .left)))
+    let past = c .before .before .before .before .before in
+    let w = now (past .args .t) in
+    c .routines-pass .ensures ∙ sym (whole.table-is-checked w (past .pre) ∙ rw (le-leb 1 (word w 2) (c .before .before .if1 .left), le-leb (word w 2) 64 (c .before .if2 .left)))
 
 pub words-pass-spec : {M : Type 1} → statement M
 words-pass-spec =

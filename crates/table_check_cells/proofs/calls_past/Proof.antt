@@ -63,8 +63,9 @@ returns c =
 returns-2 : tie.Need-returns-2 Inv-loop μ-loop
 unfolding afterCall
 returns-2 c =
-    let v = c .before .before .before .before .before .loop in
-    let a = c .before .before .before .before .before .before .before .args in
+    let past = c .before .before .before .before .before in
+    let v = past .loop in
+    let a = past .before .before .args in
     sym (cells.calls-long (now (a .t)) (a .names) (v .a) (v .left) (omega arith) (omega arith)) ∙ v .inv .2
 
 add-names-pass : tie.Need-add-names-pass Inv-loop μ-loop
@@ -75,8 +76,9 @@ names-pass-requires c κs = search needs
 
 returns-3 : tie.Need-returns-3 Inv-loop μ-loop
 returns-3 c =
-    let v = c .before .before .before .before .before .before .before .loop in
-    let a = c .before .before .before .before .before .before .before .before .before .args in
+    let past = c .before .before .before .before .before .before .before in
+    let v = past .loop in
+    let a = past .before .before .args in
     let names : namesTest (now (a .t)) (a .names) (v .a + 2) (word (now (a .t)) (v .a + 0)) ≡ false = sym (c .before .names-pass .ensures) ∙ not-true _ (c .if3 .taken) in
     sym (cells.calls-names (now (a .t)) (a .names) (v .a) (v .left) (omega arith) names) ∙ v .inv .2
 
@@ -89,8 +91,9 @@ loop-less c = omega arith
 loop-again : tie.Need-loop-again Inv-loop μ-loop
 unfolding afterCall
 loop-again c =
-    let v = c .before .before .before .before .before .before .before .loop in
-    let a = c .before .before .before .before .before .before .before .before .before .args in
+    let past = c .before .before .before .before .before .before .before in
+    let v = past .loop in
+    let a = past .before .before .args in
     let w = now (a .t) in
     let head : headTest w (v .a) ≡ true = sym (c .before .before .before .before .head-passes .ensures) ∙ not-false _ (c .before .before .before .if1 .left) in
     let names : namesTest w (a .names) (v .a + 2) (word w (v .a + 0)) ≡ true = sym (c .before .names-pass .ensures) ∙ not-false _ (c .if3 .left) in

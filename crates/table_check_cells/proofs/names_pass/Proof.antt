@@ -43,8 +43,9 @@ shared-slice-read-if2 c = omega arith
 
 returns-2 : tie.Need-returns-2 Inv-loop μ-loop
 returns-2 c =
-    let v = c .before .before .before .before .before .loop in
-    let a = c .before .before .before .before .before .before .args in
+    let past = c .before .before .before .before .before in
+    let v = past .loop in
+    let a = past .before .args in
     sym (cells.names-past (now (a .t)) (a .names) (v .at) (v .left) (omega arith) (c .if2 .taken)) ∙ v .inv .1
 
 add-at : tie.Need-add-at Inv-loop μ-loop
@@ -58,8 +59,9 @@ loop-less c = omega arith
 
 loop-again : tie.Need-loop-again Inv-loop μ-loop
 loop-again c =
-    let v = c .before .before .before .before .before .loop in
-    let a = c .before .before .before .before .before .before .args in
+    let past = c .before .before .before .before .before in
+    let v = past .loop in
+    let a = past .before .args in
     (omega arith, cells.names-turn (now (a .t)) (a .names) (v .at) (v .left) (omega arith) (omega arith) (omega arith) ∙ v .inv .1)
 
 returns-3 : tie.Need-returns-3 Inv-loop μ-loop

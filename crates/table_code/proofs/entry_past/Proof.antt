@@ -62,9 +62,10 @@ shared-slice-read-second c = omega arith
 
 returns : tie.Need-returns
 returns c =
-    let a = c .before .before .before .before .before .before .before .args in
+    let past = c .before .before .before .before .before .before in
+    let a = past .before .args in
     let w = now (a .t) in
-    let small : Words w = λ j. omega (arith, c .before .before .before .before .before .before .shared-slice-known .given j) in
+    let small : Words w = λ j. omega (arith, past .shared-slice-known .given j) in
     let other : word w (a .e + 2) ≡ a .cells → ⊥ = λ z. omega arith in
     sym (entries.past-other-place w small (a .names) (a .size) (a .e) (a .cells) other)
 
@@ -98,10 +99,11 @@ past : (c : tie.Else1) {k r : ℕ} {f : List ℕ → ℕ → ℕ → ℕ → ℕ
     → (let a = c .before .before .before .before .before .before .before .args in
     word (now (a .t)) (a .e + 0) ≡ k → r ≡ f (now (a .t)) (a .names) (a .size) (a .e) (a .cells) → r ≡ entryPast (now (a .t)) (a .names) (a .size) (a .e) (a .cells))
 past c law h z =
-    let a = c .before .before .before .before .before .before .before .args in
+    let earlier = c .before .before .before .before .before .before in
+    let a = earlier .before .args in
     let w = now (a .t) in
     let x : word w (a .e + 2) ≡ a .cells = omega arith in
-    let small : Words w = λ j. omega (arith, c .before .before .before .before .before .before .shared-slice-known .given j) in
+    let small : Words w = λ j. omega (arith, earlier .shared-slice-known .given j) in
     rw (law w small (a .names) (a .size) (a .e) (a .cells) x h) z
 
 returns-2 : tie.Need-returns-2
@@ -127,10 +129,11 @@ returns-8 c = past (c .before .before) entries.past-end (c .before .match .keys7
 
 returns-9 : tie.Need-returns-9
 returns-9 c =
-    let a = c .before .before .before .before .before .before .before .before .args in
+    let past = c .before .before .before .before .before .before .before in
+    let a = past .before .args in
     let w = now (a .t) in
     let r = c .match .rest in
-    let small : Words w = λ j. omega (arith, (c .before .before .before .before .before .before .before .shared-slice-known .given) j) in
+    let small : Words w = λ j. omega (arith, (past .shared-slice-known .given) j) in
     sym (entries.past-no-kind w small (a .names) (a .size) (a .e) (a .cells) (r .0 .0 .0 .0 .0 .0 .1) (r .0 .0 .0 .0 .0 .1) (r .0 .0 .0 .0 .1) (r .0 .0 .0 .1) (r .0 .0 .1) (r .0 .1) (r .1))
 
 pub entry-past-spec : {M : Type 1} → statement M

@@ -51,13 +51,14 @@ same-length c = search needs
 
 returns : tie.Need-returns
 returns c =
-    let a = c .before .before .before .before .before .before .before .before .before .before .before .before .before .args in
+    let past = c .before .before .before .before .before .before in
+    let a = past .before .before .before .before .before .before .before .args in
     let m = now (a .m) in
     let n = 4 * a .s + a .j in
-    let b = c .before .before .before .before .before .before .before .before .before .before .owner in
+    let b = past .before .before .before .before .owner in
     let named : a .name < length ((rowsOf m (a .s)) .bindings) = search needs in
     let e = b .ensures .owner named in
-    let p = rw (c .before .before .before .before .before .before .before .before .word-at .ensures) at (c .before .before .before .before .before .before .put-word .ensures) in
+    let p = rw (past .before .before .word-at .ensures) at (past .put-word .ensures) in
     let q = rw add-one at (c .before .before .put-word2 .ensures) in
     let fit : a .j < 4 = search needs in
     let few : a .s < 64 = search needs in (

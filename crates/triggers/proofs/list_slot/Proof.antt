@@ -66,30 +66,35 @@ table-word-requires-3 c κs = search needs
 
 list-names-requires : tie.Need-list-names-requires
 list-names-requires c κs =
-    let a = c .before .before .before .before .before .before .before .before .before .before .before .before .args in
+    let past = c .before .before .before .before .before in
+    let earlier = past .before .before .before .before .before .before .before in
+    let a = earlier .args in
     let m = now (a .m) in
     let t = now (a .t) in
     let r = rowsOf m (a .s) in
-    let sleeps : r .asleep ≡ true = sym (c .before .before .before .before .before .before .before .before .asleep .ensures) ∙ not-false _ (c .before .before .before .before .before .before .before .if1 .left) in
-    let names = wait-names t r (c .before .before .before .before .before .entry-of .result) (c .before .before .before .before .table-word .result) (c .before .before .before .before .before .entry-of .ensures .0) (c .before .before .before .before .table-word .ensures .0) (c .before .before .before .if2 .left)
+    let sleeps : r .asleep ≡ true = sym (past .before .before .before .asleep .ensures) ∙ not-false _ (past .before .before .if1 .left) in
+    let names = wait-names t r (past .entry-of .result) (c .before .before .before .before .table-word .result) (past .entry-of .ensures .0) (c .before .before .before .before .table-word .ensures .0) (c .before .before .before .if2 .left)
     (c .before .before .table-word2 .result) (c .before .table-word3 .result) (c .before .before .table-word2 .ensures .0) (c .before .table-word3 .ensures .0) in
-    (search needs, search needs, c .before .before .table-word2 .ensures .1, subst (λ (ns : List ℕ). FewNames r ns) names (c .before .before .before .before .before .before .before .before .before .before .before .before .pre .2 sleeps))
+    (search needs, search needs, c .before .before .table-word2 .ensures .1, subst (λ (ns : List ℕ). FewNames r ns) names (earlier .pre .2 sleeps))
 
 same-length-3 : tie.Need-same-length-3
 same-length-3 c = search needs
 
 returns-3 : tie.Need-returns-3
 returns-3 c =
-    let a = c .before .before .before .before .before .before .before .before .before .before .before .before .before .before .before .args in
+    let past = c .before .before .before .before .before in
+    let earlier = past .before .before .before .before .before in
+    let former = earlier .before .before .before .before .before in
+    let a = former .args in
     let m = now (a .m) in
     let t = now (a .t) in
     let r = rowsOf m (a .s) in
-    let cells = c .before .before .before .before .before .table-word2 .result in
+    let cells = past .table-word2 .result in
     let count = c .before .before .before .before .table-word3 .result in
-    let sleeps : r .asleep ≡ true = sym (c .before .before .before .before .before .before .before .before .before .before .before .asleep .ensures) ∙ not-false _ (c .before .before .before .before .before .before .before .before .before .before .if1 .left) in
-    let names = wait-names t r (c .before .before .before .before .before .before .before .before .entry-of .result) (c .before .before .before .before .before .before .before .table-word .result) (c .before .before .before .before .before .before .before .before .entry-of .ensures .0) (c .before .before .before .before .before .before .before .table-word .ensures .0) (c .before .before .before .before .before .before .if2 .left)
-    cells count (c .before .before .before .before .before .table-word2 .ensures .0) (c .before .before .before .before .table-word3 .ensures .0) in
-    let most = subst (λ (ns : List ℕ). FewNames r ns) names (c .before .before .before .before .before .before .before .before .before .before .before .before .before .before .before .pre .2 sleeps) .few in
+    let sleeps : r .asleep ≡ true = sym (earlier .before .asleep .ensures) ∙ not-false _ (earlier .if1 .left) in
+    let names = wait-names t r (past .before .before .before .entry-of .result) (past .before .before .table-word .result) (past .before .before .before .entry-of .ensures .0) (past .before .before .table-word .ensures .0) (past .before .if2 .left)
+    cells count (past .table-word2 .ensures .0) (c .before .before .before .before .table-word3 .ensures .0) in
+    let most = subst (λ (ns : List ℕ). FewNames r ns) names (former .pre .2 sleeps) .few in
     let size = length-names t cells count in
     let few : count ≤ 4 = omega arith in
     let done = c .before .before .list-names .ensures in

@@ -30,8 +30,9 @@ same-length c = search needs
 returns : tie.Need-returns
 unfolding assignedBlock
 returns c =
-    let a = c .before .before .before .before .before .before .before .before .before .args in
-    assign-changes (a .s) (a .index) (a .v) (search needs) (search needs) (in-block-put-then (128 + a .index) 1 (c .before .before .before .before .before .before .put-word .ensures) (c .before .before .put-word2 .ensures))
+    let past = c .before .before .before .before .before .before in
+    let a = past .before .before .before .args in
+    assign-changes (a .s) (a .index) (a .v) (search needs) (search needs) (in-block-put-then (128 + a .index) 1 (past .put-word .ensures) (c .before .before .put-word2 .ensures))
 
 pub assign-spec : {M : Type 1} → statement M
 assign-spec =

@@ -67,12 +67,15 @@ same-length c = search needs
 returns : tie.Need-returns
 unfolding madeBlock
 returns c =
-    let a = c .before .before .before .before .before .before .before .before .before .before .before .before .before .before .before .before .before .before .before .before .before .before .before .args in
+    let past = c .before .before .before .before .before .before in
+    let earlier = past .before .before .before .before .before .before .before .before in
+    let former = earlier .before .before .before .before .before .before in
+    let a = former .before .before .before .args in
     let i = a .index in
     let b = block (now (a .m)) (a .s) in
-    let first = rw (c .before .before .before .before .before .before .before .before .before .before .before .before .before .before .before .before .before .before .before .before .word-at .ensures) at (c .before .before .before .before .before .before .before .before .before .before .before .before .before .before .before .before .before .before .put-word .ensures) in
+    let first = rw (former .word-at .ensures) at (earlier .before .before .before .before .put-word .ensures) in
     in-block-put-then (128 + i) 1 (in-block-put-then (11 + i * 6) 0 (in-block-put-then (10 + i * 6) 0 (in-block-put-then (9 + i * 6) 0
-    first (c .before .before .before .before .before .before .before .before .before .before .before .before .before .before .put-word2 .ensures)) (c .before .before .before .before .before .before .before .before .before .before .put-word3 .ensures)) (c .before .before .before .before .before .before .put-word4 .ensures)) (c .before .before .put-word5 .ensures)
+    first (earlier .put-word2 .ensures)) (past .before .before .before .before .put-word3 .ensures)) (past .put-word4 .ensures)) (c .before .before .put-word5 .ensures)
 
 pub make-spec : {M : Type 1} → statement M
 make-spec =

@@ -24,10 +24,11 @@ same-length c = search needs
 returns : tie.Need-returns
 unfolding variableIn
 returns c =
-    let a = c .before .before .before .before .before .before .before .before .before .args in
+    let past = c .before .before .before .before .before .before in
+    let a = past .before .before .before .args in
     let i = a .index in
     let b = block (now (a .m)) (a .s) in
-    let read = c .before .before .before .before .before .before .due .ensures .word ∙ moment-of (b (10 + i * 6) + b (11 + i * 6) * 4294967296) (b (9 + i * 6)) in
+    let read = past .due .ensures .word ∙ moment-of (b (10 + i * 6) + b (11 + i * 6) * 4294967296) (b (9 + i * 6)) in
     let e : b (10 + i * 6) + b (11 + i * 6) * 4294967296 ≡ a .present .0 = sym read ∙ c .before .before .before .before .if1 .taken in
     due-changes (a .s) i (a .present .0) (search needs) (search needs) (search needs) (rw (due-block-made b i (search needs) (a .present .0) e) (c .before .before .make .ensures))
 
@@ -43,10 +44,11 @@ same-length-2 c = search needs
 returns-2 : tie.Need-returns-2
 unfolding variableIn unmarkedBlock
 returns-2 c =
-    let a = c .before .before .before .before .before .before .before .before .before .args in
+    let past = c .before .before .before .before .before .before in
+    let a = past .before .before .before .args in
     let i = a .index in
     let b = block (now (a .m)) (a .s) in
-    let e : b (10 + i * 6) + b (11 + i * 6) * 4294967296 ≡ a .present .0 → ⊥ = λ z. c .before .before .before .before .if1 .left (c .before .before .before .before .before .before .due .ensures .word ∙ moment-of _ (b (9 + i * 6)) ∙ z) in
+    let e : b (10 + i * 6) + b (11 + i * 6) * 4294967296 ≡ a .present .0 → ⊥ = λ z. c .before .before .before .before .if1 .left (past .due .ensures .word ∙ moment-of _ (b (9 + i * 6)) ∙ z) in
     due-changes (a .s) i (a .present .0) (search needs) (search needs) (search needs) (rw (due-block-later b i (search needs) (a .present .0) e) (c .before .before .put-word .ensures))
 
 pub make-due-spec : {M : Type 1} → statement M

@@ -48,9 +48,11 @@ same-length c = search needs
 returns : tie.Need-returns
 unfolding scheduledBlock
 returns c =
-    let a = c .before .before .before .before .before .before .before .before .before .before .before .before .before .before .before .args in
+    let past = c .before .before .before .before .before .before .before in
+    let earlier = past .before .before .before .before .before in
+    let a = earlier .before .before .before .args in
     schedule-changes (a .s) (a .index) (a .moment .0) (a .v) (search needs) (search needs) (search needs)
-    (in-block-put-then (11 + a .index * 6) (a .moment .0 / 4294967296) (in-block-put-then (10 + a .index * 6) (a .moment .0 % 4294967296) (c .before .before .before .before .before .before .before .before .before .before .before .before .put-word .ensures) (c .before .before .before .before .before .before .before .put-word2 .ensures)) (c .before .before .put-word3 .ensures))
+    (in-block-put-then (11 + a .index * 6) (a .moment .0 / 4294967296) (in-block-put-then (10 + a .index * 6) (a .moment .0 % 4294967296) (earlier .put-word .ensures) (past .put-word2 .ensures)) (c .before .before .put-word3 .ensures))
 
 pub schedule-spec : {M : Type 1} → statement M
 schedule-spec =

@@ -43,8 +43,9 @@ loop-less c = search needs
 
 loop-again : tie.Need-loop-again Inv-loop μ-loop
 loop-again c =
-    let v = c .before .before .before .before .before .before .before .loop in
-    let more = c .before .before .before .before .before .before .loop-test .taken in
+    let past = c .before .before .before .before .before .before in
+    let v = past .before .loop in
+    let more = past .loop-test .taken in
     (omega (arith, more), one-more-queued (v .s) _ more (c .before .before .before .flag .ensures) (v .inv .1) (c .before .before .put-word .ensures))
 
 same-length : tie.Need-same-length Inv-loop μ-loop

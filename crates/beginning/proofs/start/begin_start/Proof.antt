@@ -21,8 +21,9 @@ same-length c = search needs
 
 returns : tie.Need-returns
 returns c =
-    let a = c .before .before .before .before .before .before .before .before .before .before .before .args in
-    begun-start (now (a .t)) (c .before .before .before .before .before .before .before .before .before .before .before .pre .0) (now (a .m)) _ _ _ (c .before .before .before .before .before .before .before .before .before .before .before .pre .1) (c .before .before .before .before .before .before .before .blank .ensures) (omega arith) (c .before .before .before .main-row .ensures) (c .empty .ensures .1) refl refl
+    let past = c .before .before .before .before .before .before .before in
+    let a = past .before .before .before .before .args in
+    begun-start (now (a .t)) (past .before .before .before .before .pre .0) (now (a .m)) _ _ _ (past .before .before .before .before .pre .1) (past .blank .ensures) (omega arith) (c .before .before .before .main-row .ensures) (c .empty .ensures .1) refl refl
 
 pub begin-start-spec : {M : Type 1} → statement M
 begin-start-spec =

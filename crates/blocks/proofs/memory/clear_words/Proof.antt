@@ -37,8 +37,9 @@ loop-less c = search needs
 
 loop-again : tie.Need-loop-again Inv-loop μ-loop
 loop-again c =
-    let a = c .before .before .before .before .before .before .before .args in
-    let v = c .before .before .before .before .before .loop in
+    let past = c .before .before .before .before .before in
+    let a = past .before .before .args in
+    let v = past .loop in
     let p = in-block-put-then (v .offset) 0 (v .inv .2) (c .before .before .put-word .ensures) in
     (search needs, search needs, rw (add-one, ← cleared-next (a .from) (v .offset) (block (now (a .m)) (a .s)) (search needs)) p)
 

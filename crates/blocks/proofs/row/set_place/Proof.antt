@@ -20,8 +20,9 @@ same-length c = search needs
 returns : tie.Need-returns
 unfolding placedBlock
 returns c =
-    let a = c .before .before .before .before .before .before .before .before .before .args in
-    place-changes (a .s) (a .place) (search needs) (in-block-put-then 3 (a .place) (c .before .before .before .before .before .before .put-word .ensures) (c .before .before .put-word2 .ensures))
+    let past = c .before .before .before .before .before .before in
+    let a = past .before .before .before .args in
+    place-changes (a .s) (a .place) (search needs) (in-block-put-then 3 (a .place) (past .put-word .ensures) (c .before .before .put-word2 .ensures))
 
 pub set-place-spec : {M : Type 1} → statement M
 set-place-spec = tie.close (tie.spec put-word-requires put-word-requires-2 same-length returns)

@@ -25,7 +25,8 @@ same-length c = search needs
 
 returns : tie.Need-returns
 returns c =
-    c .before .before .put2 .ensures ∙ rw (c .before .before .before .cell-value .ensures, c .before .before .before .before .before .before .before .put .ensures, c .before .before .before .before .before .before .before .before .cell-kind .ensures)
+    let past = c .before .before .before .before .before .before .before in
+    c .before .before .put2 .ensures ∙ rw (c .before .before .before .cell-value .ensures, past .put .ensures, past .before .cell-kind .ensures)
 
 pub write-cell-spec : {M : Type 1} → statement M
 write-cell-spec =

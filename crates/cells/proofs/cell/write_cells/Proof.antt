@@ -34,38 +34,46 @@ mul-write-cell c =
 
 add-write-cell : tie.Need-add-write-cell Inv-loop μ-loop
 add-write-cell c =
-    omega (arith, c .before .before .before .loop .inv .few, c .before .before .before .loop .inv .place .inside, c .before .before .before .before .before .before .pre .1, c .before .before .before .before .before .before .pre .2)
+    let past = c .before .before .before .before .before .before in
+    omega (arith, c .before .before .before .loop .inv .few, c .before .before .before .loop .inv .place .inside, past .pre .1, past .pre .2)
 
 write-cell-requires : tie.Need-write-cell-requires Inv-loop μ-loop
 write-cell-requires c κs =
-    omega (arith, c .before .before .before .loop .inv .few, c .before .before .before .loop .inv .place .inside, c .before .before .before .before .before .before .pre .1, c .before .before .before .before .before .before .pre .2)
+    let past = c .before .before .before .before .before .before in
+    omega (arith, c .before .before .before .loop .inv .few, c .before .before .before .loop .inv .place .inside, past .pre .1, past .pre .2)
 
 add-count : tie.Need-add-count Inv-loop μ-loop
 add-count c =
-    omega (arith, c .before .before .before .before .before .before .loop .inv .few, c .before .before .before .before .before .before .loop .inv .place .inside, c .before .before .before .before .before .before .before .before .before .pre .1)
+    let past = c .before .before .before .before .before .before in
+    omega (arith, past .loop .inv .few, past .loop .inv .place .inside, past .before .before .before .pre .1)
 
 same-length : tie.Need-same-length Inv-loop μ-loop
 same-length c =
-    let v = c .before .before .before .before .before .before .before .before .loop in
-    loop.still-long _ _ _ _ _ _ _ _ _ (v .inv) _ (c .before .before .before .before .before .before .before .take-piece .ensures) _ (c .before .before .before .before .before .before .piece-of .ensures) _ (c .before .before .before .before .write-cell .ensures)
+    let past = c .before .before .before .before .before .before in
+    let v = past .before .before .loop in
+    loop.still-long _ _ _ _ _ _ _ _ _ (v .inv) _ (past .before .take-piece .ensures) _ (past .piece-of .ensures) _ (c .before .before .before .before .write-cell .ensures)
 
 returns : tie.Need-returns Inv-loop μ-loop
 returns c =
-    let v = c .before .before .before .before .before .before .before .before .loop in
-    let a = c .before .before .before .before .before .before .before .before .before .before .before .args in
-    loop.writes-cells _ _ _ _ _ _ _ _ _ (v .inv) _ (c .before .before .before .before .before .before .before .take-piece .ensures) _ (c .before .before .before .before .before .before .piece-of .ensures) _ (c .before .before .before .before .write-cell .ensures) (c .if1 .taken) (a .place) refl refl (c .before .before .before .before .before .before .before .before .before .before .before .pre .0)
+    let past = c .before .before .before .before .before .before in
+    let earlier = past .before .before .before .before .before in
+    let v = past .before .before .loop in
+    let a = earlier .args in
+    loop.writes-cells _ _ _ _ _ _ _ _ _ (v .inv) _ (past .before .take-piece .ensures) _ (past .piece-of .ensures) _ (c .before .before .before .before .write-cell .ensures) (c .if1 .taken) (a .place) refl refl (earlier .pre .0)
 
 loop-less : tie.Need-loop-less Inv-loop μ-loop
 loop-less c =
-    let v = c .before .before .before .before .before .before .before .before .loop in
-    let m = on.moved-on _ _ _ _ (v .inv .place) _ (c .before .before .before .before .before .before .before .take-piece .ensures) (c .if1 .left) in
-    let i = on.still-on _ _ _ _ (v .inv .place) _ (c .before .before .before .before .before .before .before .take-piece .ensures) (c .if1 .left) .inside in
+    let past = c .before .before .before .before .before .before .before in
+    let v = past .before .loop in
+    let m = on.moved-on _ _ _ _ (v .inv .place) _ (past .take-piece .ensures) (c .if1 .left) in
+    let i = on.still-on _ _ _ _ (v .inv .place) _ (past .take-piece .ensures) (c .if1 .left) .inside in
     omega arith
 
 loop-again : tie.Need-loop-again Inv-loop μ-loop
 loop-again c =
-    let v = c .before .before .before .before .before .before .before .before .loop in
-    loop.writing-on _ _ _ _ _ _ _ _ _ (v .inv) _ (c .before .before .before .before .before .before .before .take-piece .ensures) _ (c .before .before .before .before .before .before .piece-of .ensures) _ (c .before .before .before .before .write-cell .ensures) (c .if1 .left)
+    let past = c .before .before .before .before .before .before in
+    let v = past .before .before .loop in
+    loop.writing-on _ _ _ _ _ _ _ _ _ (v .inv) _ (past .before .take-piece .ensures) _ (past .piece-of .ensures) _ (c .before .before .before .before .write-cell .ensures) (c .if1 .left)
 
 pub write-cells-spec : {M : Type 1} → statement M
 write-cells-spec =

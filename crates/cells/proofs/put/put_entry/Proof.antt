@@ -37,8 +37,10 @@ same-length c = search needs
 
 returns : tie.Need-returns
 returns c =
-    let a = c .before .before .before .before .before .before .before .before .before .before .before .before .before .before .before .before .before .before .before .before .before .args in
-    entry.five-stores (now (a .t)) _ _ _ _ _ (a .e) (a .first) (a .second) (a .third) (a .fourth) (a .fifth) (c .before .before .before .before .before .before .before .before .before .before .before .before .before .before .before .before .before .before .put .ensures) (c .before .before .before .before .before .before .before .before .before .before .before .before .before .before .put2 .ensures) (c .before .before .before .before .before .before .before .before .before .before .put3 .ensures) (c .before .before .before .before .before .before .put4 .ensures) (c .before .before .put5 .ensures)
+    let past = c .before .before .before .before .before .before in
+    let earlier = past .before .before .before .before .before .before .before .before in
+    let a = earlier .before .before .before .before .before .before .before .args in
+    entry.five-stores (now (a .t)) _ _ _ _ _ (a .e) (a .first) (a .second) (a .third) (a .fourth) (a .fifth) (earlier .before .before .before .before .put .ensures) (earlier .put2 .ensures) (past .before .before .before .before .put3 .ensures) (past .put4 .ensures) (c .before .before .put5 .ensures)
 
 pub put-entry-spec : {M : Type 1} → statement M
 put-entry-spec =

@@ -27,10 +27,11 @@ low-word-requires c κs = search needs
 
 returns-2 : tie.Need-returns-2
 returns-2 c =
-    let a = c .before .before .before .before .before .before .args in
+    let past = c .before .before .before .before .before .before in
+    let a = past .args in
     let g = sym (c .before .before .n .given .1) ∙ c .before .before .before .before .number-field .ensures in
     let e = fields.word-read (now (a .s)) (a .place) (a .stop) _ _ _ _ g (c .low-word .ensures) in
-    (e, fields.word-next (now (a .s)) (a .place) (a .stop) (c .before .before .before .before .before .before .pre) _ e)
+    (e, fields.word-next (now (a .s)) (a .place) (a .stop) (past .pre) _ e)
 
 pub word-field-spec : {M : Type 1} → statement M
 word-field-spec = tie.close (tie.spec number-field-requires enum-known-n enum-told returns low-word-requires returns-2)

@@ -39,24 +39,27 @@ mul-number c =
 
 shared-slice-read-number : tie.Need-shared-slice-read-number
 shared-slice-read-number c =
-    let a = c .before .before .before .before .before .args in
-    let i : headAfter (a .t .now) (a .first) (a .child - a .next) + 1 < 12288 = c .before .before .before .before .before .pre .1 .inside (a .child - a .next) (c .before .before .if2 .left) in
-    omega (arith, i, c .before .head-after .ensures, c .before .before .before .before .before .pre .0)
+    let past = c .before .before .before .before .before in
+    let a = past .args in
+    let i : headAfter (a .t .now) (a .first) (a .child - a .next) + 1 < 12288 = past .pre .1 .inside (a .child - a .next) (c .before .before .if2 .left) in
+    omega (arith, i, c .before .head-after .ensures, past .pre .0)
 
 number-requires : tie.Need-number-requires
 number-requires c κs = search needs
 
 mul-number-2 : tie.Need-mul-number-2
 mul-number-2 c =
-    let a = c .before .before .before .before .before .before .args in
-    let i : headAfter (a .t .now) (a .first) (a .child - a .next) + 1 < 12288 = c .before .before .before .before .before .before .pre .1 .inside (a .child - a .next) (c .before .before .before .if2 .left) in
+    let past = c .before .before .before .before .before .before in
+    let a = past .args in
+    let i : headAfter (a .t .now) (a .first) (a .child - a .next) + 1 < 12288 = past .pre .1 .inside (a .child - a .next) (c .before .before .before .if2 .left) in
     omega (arith, i, c .before .before .head-after .ensures)
 
 shared-slice-read-number-2 : tie.Need-shared-slice-read-number-2
 shared-slice-read-number-2 c =
-    let a = c .before .before .before .before .before .before .before .args in
-    let i : headAfter (a .t .now) (a .first) (a .child - a .next) + 1 < 12288 = c .before .before .before .before .before .before .before .pre .1 .inside (a .child - a .next) (c .before .before .before .before .if2 .left) in
-    omega (arith, i, c .before .before .before .head-after .ensures, c .before .before .before .before .before .before .before .pre .0)
+    let past = c .before .before .before .before .before .before .before in
+    let a = past .args in
+    let i : headAfter (a .t .now) (a .first) (a .child - a .next) + 1 < 12288 = past .pre .1 .inside (a .child - a .next) (c .before .before .before .before .if2 .left) in
+    omega (arith, i, c .before .before .before .head-after .ensures, past .pre .0)
 
 number-requires-2 : tie.Need-number-requires-2
 number-requires-2 c κs = search needs
@@ -69,8 +72,9 @@ add-after c = search needs
 
 add-after-2 : tie.Need-add-after-2
 add-after-2 c =
-    let a = c .before .before .before .before .before .before .before .before .args in
-    let i : headAfter (a .t .now) (a .first) (a .child - a .next) + 1 < 12288 = c .before .before .before .before .before .before .before .before .pre .1 .inside (a .child - a .next) (c .before .before .before .before .before .if2 .left) in
+    let past = c .before .before .before .before .before in
+    let a = past .before .before .before .args in
+    let i : headAfter (a .t .now) (a .first) (a .child - a .next) + 1 < 12288 = past .before .before .before .pre .1 .inside (a .child - a .next) (past .if2 .left) in
     omega (arith, i, c .before .before .before .before .head-after .ensures, c .number2 .ensures .1)
 
 sub-t11 : tie.Need-sub-t11
@@ -81,8 +85,9 @@ sub-t17 c = search needs
 
 returns-3 : tie.Need-returns-3
 returns-3 c =
-    let a = c .before .before .before .before .before .before .before .before .args in
-    somebody-picked (a .t .now) (a .first) (a .left) (a .next) (a .child) (c .before .before .before .before .head-after .result) _ _ (c .before .before .before .before .before .before .if1 .left) (c .before .before .before .before .before .if2 .left) (c .before .before .before .before .head-after .ensures)
+    let past = c .before .before .before .before .before in
+    let a = past .before .before .before .args in
+    somebody-picked (a .t .now) (a .first) (a .left) (a .next) (a .child) (c .before .before .before .before .head-after .result) _ _ (past .before .if1 .left) (past .if2 .left) (c .before .before .before .before .head-after .ensures)
     (c .before .before .number .ensures .0) (rw (c .number2 .ensures .0))
 
 pub pick-spec : {M : Type 1} → statement M

@@ -43,8 +43,9 @@ add-at c = search needs
 
 add-at-2 : tie.Need-add-at-2 Inv-loop μ-loop
 add-at-2 c =
+    let past = c .before .before .before .before .before in
     let v = c .before .before .before .loop in
-    let h : headAfter (c .before .before .before .before .before .args .t .now) (c .before .before .before .before .before .args .head) (v .i) + 1 < 12288 = c .before .before .before .before .before .pre .2 .inside (v .i) (omega arith) in
+    let h : headAfter (past .args .t .now) (past .args .head) (v .i) + 1 < 12288 = past .pre .2 .inside (v .i) (omega arith) in
     search needs
 
 add-i : tie.Need-add-i Inv-loop μ-loop

@@ -61,8 +61,9 @@ mul-number-3 c = search needs
 
 shared-slice-read-number-3 : tie.Need-shared-slice-read-number-3
 shared-slice-read-number-3 c =
-    let b = c .before .before .before .before .before .before .before .pre .2 .code (c .before .before .before .before .before .before .before .args .r) (c .before .before .before .before .before .before .before .pre .1) in
-    omega (arith, b, c .before .number2 .ensures .0, c .before .before .before .before .number .ensures .0, c .before .before .before .if1 .left, c .before .before .before .before .before .before .before .pre .0)
+    let past = c .before .before .before .before .before .before .before in
+    let b = past .pre .2 .code (past .args .r) (past .pre .1) in
+    omega (arith, b, c .before .number2 .ensures .0, c .before .before .before .before .number .ensures .0, c .before .before .before .if1 .left, past .pre .0)
 
 number-requires-3 : tie.Need-number-requires-3
 number-requires-3 c κs = search needs
@@ -75,8 +76,9 @@ mul-number-4 c = search needs
 
 shared-slice-read-number-4 : tie.Need-shared-slice-read-number-4
 shared-slice-read-number-4 c =
-    let b = c .before .before .before .before .before .before .before .before .before .pre .2 .code (c .before .before .before .before .before .before .before .before .before .args .r) (c .before .before .before .before .before .before .before .before .before .pre .1) in
-    omega (arith, b, c .before .before .before .number2 .ensures .0, c .before .before .before .before .before .before .number .ensures .0, c .before .before .before .before .before .if1 .left, c .before .before .before .before .before .before .before .before .before .pre .0)
+    let past = c .before .before .before .before .before in
+    let b = past .before .before .before .before .pre .2 .code (past .before .before .before .before .args .r) (past .before .before .before .before .pre .1) in
+    omega (arith, b, c .before .before .before .number2 .ensures .0, past .before .number .ensures .0, past .if1 .left, past .before .before .before .before .pre .0)
 
 number-requires-4 : tie.Need-number-requires-4
 number-requires-4 c κs = search needs
@@ -89,24 +91,28 @@ mul-number-5 c = search needs
 
 shared-slice-read-number-5 : tie.Need-shared-slice-read-number-5
 shared-slice-read-number-5 c =
-    let b = c .before .before .before .before .before .before .before .before .before .before .before .pre .2 .code (c .before .before .before .before .before .before .before .before .before .before .before .args .r) (c .before .before .before .before .before .before .before .before .before .before .before .pre .1) in
-    omega (arith, b, c .before .before .before .before .before .number2 .ensures .0, c .before .before .before .before .before .before .before .before .number .ensures .0, c .before .before .before .before .before .before .before .if1 .left, c .before .before .before .before .before .before .before .before .before .before .before .pre .0)
+    let past = c .before .before .before .before .before in
+    let earlier = past .before .before .before .before .before .before in
+    let b = earlier .pre .2 .code (earlier .args .r) (earlier .pre .1) in
+    omega (arith, b, past .number2 .ensures .0, past .before .before .before .number .ensures .0, past .before .before .if1 .left, earlier .pre .0)
 
 number-requires-5 : tie.Need-number-requires-5
 number-requires-5 c κs = search needs
 
 returns-2 : tie.Need-returns-2
 returns-2 c =
-    let a = c .before .before .before .before .before .before .before .before .before .before .before .before .args in
-    let n2 : c .before .before .before .before .before .before .number2 .result ≡ word (a .t .now) (8 + 5 * a .r + 3) = c .before .before .before .before .before .before .number2 .ensures .0 in
-    let e0 : instructionEntry (a .t .now) (a .r) (a .place) + 0 ≡ 328 + 5 * c .before .before .before .before .before .before .number2 .result + 5 * a .place = omega (arith, n2) in
-    let e2 : instructionEntry (a .t .now) (a .r) (a .place) + 2 ≡ 328 + 5 * c .before .before .before .before .before .before .number2 .result + 5 * a .place + 2 = omega (arith, n2) in
-    let e3 : instructionEntry (a .t .now) (a .r) (a .place) + 3 ≡ 328 + 5 * c .before .before .before .before .before .before .number2 .result + 5 * a .place + 3 = omega (arith, n2) in
-    let h : a .place < word (a .t .now) (8 + 5 * a .r + 4) = omega (arith, c .before .before .before .before .before .before .before .before .before .number .ensures .0, c .before .before .before .before .before .before .before .before .if1 .left) in
+    let past = c .before .before .before .before .before .before in
+    let earlier = past .before .before .before .before .before .before in
+    let a = earlier .args in
+    let n2 : past .number2 .result ≡ word (a .t .now) (8 + 5 * a .r + 3) = past .number2 .ensures .0 in
+    let e0 : instructionEntry (a .t .now) (a .r) (a .place) + 0 ≡ 328 + 5 * past .number2 .result + 5 * a .place = omega (arith, n2) in
+    let e2 : instructionEntry (a .t .now) (a .r) (a .place) + 2 ≡ 328 + 5 * past .number2 .result + 5 * a .place + 2 = omega (arith, n2) in
+    let e3 : instructionEntry (a .t .now) (a .r) (a .place) + 3 ≡ 328 + 5 * past .number2 .result + 5 * a .place + 3 = omega (arith, n2) in
+    let h : a .place < word (a .t .now) (8 + 5 * a .r + 4) = omega (arith, past .before .before .before .number .ensures .0, past .before .before .if1 .left) in
     let k : c .before .before .before .before .number3 .result ≡ word (a .t .now) (instructionEntry (a .t .now) (a .r) (a .place) + 0) = rw e0 (c .before .before .before .before .number3 .ensures .0) in
     let l : c .before .before .number4 .result ≡ word (a .t .now) (instructionEntry (a .t .now) (a .r) (a .place) + 2) = rw e2 (c .before .before .number4 .ensures .0) in
     let n : c .number5 .result ≡ word (a .t .now) (instructionEntry (a .t .now) (a .r) (a .place) + 3) = rw e3 (c .number5 .ensures .0) in
-    (line-there _ _ _ _ _ _ h k l n, seen (a .t .now) (c .before .before .before .before .before .before .before .before .before .before .before .before .pre .2) (a .r) (c .before .before .before .before .before .before .before .before .before .before .before .before .pre .1) (a .place) h _ _ _ k l n)
+    (line-there _ _ _ _ _ _ h k l n, seen (a .t .now) (earlier .pre .2) (a .r) (earlier .pre .1) (a .place) h _ _ _ k l n)
 
 pub line-at-spec : {M : Type 1} → statement M
 line-at-spec =

@@ -42,30 +42,35 @@ new-child-requires c κs =
 
 cast-places : tie.Need-cast-places Inv-loop μ-loop
 cast-places c =
-    let s = may-make (c .before .before .before .before .before .before .before .before .before .before .pre) (c .before .before .before .before .before .before .before .loop .inv) (c .before .before .before .before .before .before .loop-test .taken) .slot in omega (arith, c .before .before .before .before .free-slot .ensures, s)
+    let past = c .before .before .before .before .before .before in
+    let s = may-make (past .before .before .before .before .pre) (past .before .loop .inv) (past .loop-test .taken) .slot in omega (arith, c .before .before .before .before .free-slot .ensures, s)
 
 array-write-places : tie.Need-array-write-places Inv-loop μ-loop
 array-write-places c =
-    omega (arith, c .before .before .before .before .before .before .before .loop .inv .size, c .before .before .before .before .before .before .before .before .before .before .pre .divides .most, c .before .before .before .before .before .before .loop-test .taken)
+    let past = c .before .before .before .before .before .before in
+    omega (arith, past .before .loop .inv .size, past .before .before .before .before .pre .divides .most, past .loop-test .taken)
 
 next-head-requires : tie.Need-next-head-requires Inv-loop μ-loop
 next-head-requires c κs =
-    let F = c .before .before .before .before .before .before .before .before .before .before .pre in
-    (table-size (now (c .before .before .before .before .before .before .before .before .before .before .args .t)) (F .table), head-inside (may-make F (c .before .before .before .before .before .before .before .loop .inv) (c .before .before .before .before .before .before .loop-test .taken)))
+    let past = c .before .before .before .before .before .before in
+    let F = past .before .before .before .before .pre in
+    (table-size (now (past .before .before .before .before .args .t)) (F .table), head-inside (may-make F (past .before .loop .inv) (past .loop-test .taken)))
 
 add-i : tie.Need-add-i Inv-loop μ-loop
 add-i c =
-    omega (arith, c .before .before .before .before .before .before .before .before .before .before .before .pre .divides .most, c .before .before .before .before .before .before .before .loop-test .taken)
+    let past = c .before .before .before .before .before .before .before in
+    omega (arith, past .before .before .before .before .pre .divides .most, past .loop-test .taken)
 
 loop-less : tie.Need-loop-less Inv-loop μ-loop
 loop-less c = search needs
 
 loop-again : tie.Need-loop-again Inv-loop μ-loop
 loop-again c =
-    let F = c .before .before .before .before .before .before .before .before .before .before .before .pre in
-    let G = c .before .before .before .before .before .before .before .before .loop .inv in
-    let more = c .before .before .before .before .before .before .before .loop-test .taken in
-    rw (c .next-head .ensures) (fork-next F G more (c .before .before .before .before .before .free-slot .result) (c .before .before .before .before .before .free-slot .ensures) (c .before .before .before .new-child .ensures))
+    let past = c .before .before .before .before .before in
+    let F = past .before .before .before .before .before .before .pre in
+    let G = past .before .before .before .loop .inv in
+    let more = past .before .before .loop-test .taken in
+    rw (c .next-head .ensures) (fork-next F G more (past .free-slot .result) (past .free-slot .ensures) (c .before .before .before .new-child .ensures))
 
 same-length : tie.Need-same-length Inv-loop μ-loop
 same-length c =

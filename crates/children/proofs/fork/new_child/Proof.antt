@@ -34,28 +34,34 @@ parent-of-requires c κs =
 
 add-put-kept : tie.Need-add-put-kept
 add-put-kept c =
-    omega (arith, c .before .before .before .before .before .pass-values .ensures .few, c .before .before .before .before .before .before .before .opening-of .ensures .1 .names)
+    let past = c .before .before .before .before .before in
+    omega (arith, past .pass-values .ensures .few, past .before .before .opening-of .ensures .1 .names)
 
 cast-put-kept : tie.Need-cast-put-kept
 cast-put-kept c =
-    omega (arith, c .before .before .before .before .before .pass-values .ensures .few, c .before .before .before .before .before .before .before .opening-of .ensures .1 .names)
+    let past = c .before .before .before .before .before in
+    omega (arith, past .pass-values .ensures .few, past .before .before .opening-of .ensures .1 .names)
 
 put-kept-requires : tie.Need-put-kept-requires
 put-kept-requires c κs =
-    let M = c .before .before .before .before .before .before .before .before .before .before .before .pre in
-    let p = c .before .before .before .before .before .pass-values .ensures .inBlock in
+    let past = c .before .before .before .before .before in
+    let M = past .before .before .before .before .before .before .pre in
+    let p = past .pass-values .ensures .inBlock in
     (still-long M p, M .slot)
 
 cast-put-working : tie.Need-cast-put-working
 cast-put-working c =
-    omega (arith, callee-small (c .before .before .before .before .before .before .before .before .before .before .before .before .before .before .before .pre .table) (c .before .before .before .before .before .before .before .before .before .before .before .before .before .before .before .pre .field) (c .before .before .before .before .before .before .before .before .before .before .before .before .head-at .ensures .1))
+    let past = c .before .before .before .before .before .before .before .before .before .before .before .before in
+    omega (arith, callee-small (past .before .before .before .pre .table) (past .before .before .before .pre .field) (past .head-at .ensures .1))
 
 put-working-requires : tie.Need-put-working-requires
 put-working-requires c κs =
-    let M = c .before .before .before .before .before .before .before .before .before .before .before .before .before .before .before .pre in
-    let p = c .before .before .before .before .before .before .before .before .before .pass-values .ensures .inBlock in
-    let P = c .before .before .before .before .before .parent-of .ensures in
-    (still-long M (changed-then p (c .before .before .before .put-kept .ensures)), M .slot, omega (arith, P .slot, M .caller), reaches-child (c .before .before .before .before .before .before .before .before .before .before .before .before .before .before .before .args .i) (may-divide M p) P (M .numbered))
+    let past = c .before .before .before .before .before in
+    let earlier = past .before .before .before .before .before .before .before .before .before .before in
+    let M = earlier .pre in
+    let p = past .before .before .before .before .pass-values .ensures .inBlock in
+    let P = past .parent-of .ensures in
+    (still-long M (changed-then p (c .before .before .before .put-kept .ensures)), M .slot, omega (arith, P .slot, M .caller), reaches-child (earlier .args .i) (may-divide M p) P (M .numbered))
 
 add-bind-names : tie.Need-add-bind-names
 add-bind-names c =
@@ -63,25 +69,31 @@ add-bind-names c =
 
 bind-names-requires : tie.Need-bind-names-requires
 bind-names-requires c κs =
-    let M = c .before .before .before .before .before .before .before .before .before .before .before .before .before .before .before .before .before .before .before .pre in
-    let O = c .before .before .before .before .before .before .before .before .before .before .before .before .before .before .before .opening-of .ensures .1 in
-    let p = c .before .before .before .before .before .before .before .before .before .before .before .before .before .pass-values .ensures .inBlock in
-    may-bind M (changed-then (changed-then p (c .before .before .before .before .before .before .before .put-kept .ensures)) (c .before .before .before .put-working .ensures)) (argument-count (M .field) (c .before .before .before .before .before .before .before .before .before .before .before .before .before .before .before .before .head-at .ensures .1) O) (O .names)
+    let past = c .before .before .before .before .before .before .before in
+    let earlier = past .before .before .before .before .before .before in
+    let M = earlier .before .before .before .before .before .before .pre in
+    let O = earlier .before .before .opening-of .ensures .1 in
+    let p = earlier .pass-values .ensures .inBlock in
+    may-bind M (changed-then (changed-then p (past .put-kept .ensures)) (c .before .before .before .put-working .ensures)) (argument-count (M .field) (earlier .before .before .before .head-at .ensures .1) O) (O .names)
 
 same-length : tie.Need-same-length
 same-length c =
-    omega (arith, c .before .before .before .before .before .before .before .before .before .before .before .before .before .before .before .before .pass-values .ensures .inBlock .size, c .before .before .before .before .before .before .before .before .before .before .put-kept .ensures .size, c .before .before .before .before .before .before .put-working .ensures .size, c .before .before .bind-names .ensures .inBlock .size)
+    let past = c .before .before .before .before .before .before in
+    omega (arith, past .before .before .before .before .before .before .before .before .before .before .pass-values .ensures .inBlock .size, past .before .before .before .before .put-kept .ensures .size, past .put-working .ensures .size, c .before .before .bind-names .ensures .inBlock .size)
 
 returns : tie.Need-returns
 returns c =
+    let past = c .before .before .before .before .before .before in
+    let earlier = past .before .before .before .before .before .before in
+    let former = earlier .before .before .before .before .before .before in
     child-made (record {
-      may = c .before .before .before .before .before .before .before .before .before .before .before .before .before .before .before .before .before .before .before .before .before .before .pre;
-      called = c .before .before .before .before .before .before .before .before .before .before .before .before .before .before .before .before .before .before .before .head-at .ensures .1;
-      opened = c .before .before .before .before .before .before .before .before .before .before .before .before .before .before .before .before .before .before .opening-of .ensures .1;
-      values = c .before .before .before .before .before .before .before .before .before .before .before .before .before .before .before .before .pass-values .ensures;
-      parent = c .before .before .before .before .before .before .before .before .before .before .before .before .parent-of .ensures;
-      kept = c .before .before .before .before .before .before .before .before .before .before .put-kept .ensures;
-      working = c .before .before .before .before .before .before .put-working .ensures;
+      may = former .before .before .before .before .pre;
+      called = former .before .head-at .ensures .1;
+      opened = former .opening-of .ensures .1;
+      values = earlier .before .before .before .before .pass-values .ensures;
+      parent = earlier .parent-of .ensures;
+      kept = past .before .before .before .before .put-kept .ensures;
+      working = past .put-working .ensures;
       named = c .before .before .bind-names .ensures;
     })
 

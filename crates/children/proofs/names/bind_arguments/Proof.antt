@@ -22,11 +22,13 @@ loop-holds c =
 
 mul-name-at : tie.Need-mul-name-at Inv-loop μ-loop
 mul-name-at c =
-    omega (arith, c .before .before .before .before .before .pre .few, c .before .before .before .before .before .pre .names .inside)
+    let past = c .before .before .before .before .before in
+    omega (arith, past .pre .few, past .pre .names .inside)
 
 add-name-at : tie.Need-add-name-at Inv-loop μ-loop
 add-name-at c =
-    omega (arith, c .before .before .before .before .before .pre .few, c .before .before .before .before .before .pre .names .inside)
+    let past = c .before .before .before .before .before in
+    omega (arith, past .pre .few, past .pre .names .inside)
 
 name-at-requires : tie.Need-name-at-requires Inv-loop μ-loop
 name-at-requires c κs =
@@ -34,20 +36,23 @@ name-at-requires c κs =
 
 argument-word-requires : tie.Need-argument-word-requires Inv-loop μ-loop
 argument-word-requires c κs =
-    let p = c .before .before .before .before .before .before .pre in
+    let past = c .before .before .before .before .before .before in
+    let p = past .pre in
     let v = c .before .before .before .loop in
-    let few = names-few (now (c .before .before .before .before .before .before .args .m)) (c .before .before .before .before .before .before .args .me) (p .caller) in
+    let few = names-few (now (past .args .m)) (past .args .me) (p .caller) in
     let there = argument-there p (v .inv) (c .before .before .loop-test .taken) in
     (omega (arith, p .size, v .inv .inBlock .size), p .caller, p .slot, omega (arith, few, there, c .name-at .ensures), omega (arith, v .inv .few, p .few, c .before .before .loop-test .taken))
 
 add-put-word : tie.Need-add-put-word Inv-loop μ-loop
 add-put-word c =
-    omega (arith, c .before .before .before .before .before .before .before .before .pre .few, c .before .before .before .before .before .loop .inv .within)
+    let past = c .before .before .before .before .before in
+    omega (arith, past .before .before .before .pre .few, past .loop .inv .within)
 
 put-word-requires : tie.Need-put-word-requires Inv-loop μ-loop
 put-word-requires c κs =
-    let p = c .before .before .before .before .before .before .before .before .pre in
-    let v = c .before .before .before .before .before .loop in
+    let past = c .before .before .before .before .before in
+    let p = past .before .before .before .pre in
+    let v = past .loop in
     (omega (arith, p .size, v .inv .inBlock .size), omega (arith, p .slot), omega (arith, p .few, c .before .before .before .before .loop-test .taken))
 
 cast-own : tie.Need-cast-own Inv-loop μ-loop
@@ -58,22 +63,25 @@ sub-own c = search needs
 
 add-own : tie.Need-add-own Inv-loop μ-loop
 add-own c =
-    omega (arith, c .before .before .before .before .before .before .before .before .before .before .before .pre .few, c .before .before .before .before .before .before .before .before .loop .inv .few, c .before .before .before .before .before .before .before .loop-test .taken)
+    let past = c .before .before .before .before .before .before .before in
+    omega (arith, past .before .before .before .before .pre .few, past .before .loop .inv .few, past .loop-test .taken)
 
 add-j : tie.Need-add-j Inv-loop μ-loop
 add-j c =
-    omega (arith, c .before .before .before .before .before .before .before .before .before .before .before .pre .few, c .before .before .before .before .before .before .before .loop-test .taken)
+    let past = c .before .before .before .before .before .before .before in
+    omega (arith, past .before .before .before .before .pre .few, past .loop-test .taken)
 
 loop-less : tie.Need-loop-less Inv-loop μ-loop
 loop-less c = search needs
 
 loop-again : tie.Need-loop-again Inv-loop μ-loop
 loop-again c =
-    let p = c .before .before .before .before .before .before .before .before .before .before .before .pre in
-    let v = c .before .before .before .before .before .before .before .before .loop in
+    let past = c .before .before .before .before .before in
+    let p = past .before .before .before .before .before .before .pre in
+    let v = past .before .before .before .loop in
     let w = c .before .before .before .before .argument-word .ensures in
-    let name = c .before .before .before .before .before .name-at .ensures in
-    arguments-next p (v .inv) (c .before .before .before .before .before .before .before .loop-test .taken) (c .before .before .put-word .ensures) (λ e. rw name at (w .0 e)) (λ n. w .1 n)
+    let name = past .name-at .ensures in
+    arguments-next p (v .inv) (past .before .before .loop-test .taken) (c .before .before .put-word .ensures) (λ e. rw name at (w .0 e)) (λ n. w .1 n)
 
 same-length : tie.Need-same-length Inv-loop μ-loop
 same-length c =

@@ -25,17 +25,21 @@ cast-put-word c =
 
 put-word-requires : tie.Need-put-word-requires
 put-word-requires c κs =
-    let p = c .before .before .before .before .before .before .before .before .before .before .before .pre in
-    (omega (arith, p .size, c .before .before .before .before .before .before .before .bind-arguments .ensures .inBlock .size, c .before .before .before .bind-own .ensures .inBlock .size), omega (arith, p .slot), omega arith)
+    let past = c .before .before .before .before .before .before .before in
+    let p = past .before .before .before .before .pre in
+    (omega (arith, p .size, past .bind-arguments .ensures .inBlock .size, c .before .before .before .bind-own .ensures .inBlock .size), omega (arith, p .slot), omega arith)
 
 same-length : tie.Need-same-length
 same-length c =
-    omega (arith, c .before .before .before .before .before .before .before .before .before .before .bind-arguments .ensures .inBlock .size, c .before .before .before .before .before .before .bind-own .ensures .inBlock .size, c .before .before .put-word .ensures .size)
+    let past = c .before .before .before .before .before .before in
+    omega (arith, past .before .before .before .before .bind-arguments .ensures .inBlock .size, past .bind-own .ensures .inBlock .size, c .before .before .put-word .ensures .size)
 
 returns : tie.Need-returns
 returns c =
-    let A = c .before .before .before .before .before .before .before .before .before .before .bind-arguments .ensures in
-    all-names (A .inBlock) (A .others) (A .names (c .before .before .before .before .before .before .before .before .before .before .before .before .before .before .args .locals)) (c .before .before .before .before .before .before .before .before .before .before .before .before .before .before .pre .few) (c .before .before .before .before .before .before .bind-own .ensures) (c .before .before .put-word .ensures)
+    let past = c .before .before .before .before .before .before in
+    let earlier = past .before .before .before .before .before .before .before .before in
+    let A = past .before .before .before .before .bind-arguments .ensures in
+    all-names (A .inBlock) (A .others) (A .names (earlier .args .locals)) (earlier .pre .few) (past .bind-own .ensures) (c .before .before .put-word .ensures)
 
 pub bind-names-spec : {M : Type 1} → statement M
 bind-names-spec =

@@ -23,8 +23,10 @@ same-length c = search needs
 returns : tie.Need-returns
 unfolding keptBlock
 returns c =
-    let a = c .before .before .before .before .before .before .before .before .before .before .before .before .before .before .before .before .before .args in
-    in-block-put-then 4 (a .own) (in-block-put-then 2 (a .i) (in-block-put-then 1 (a .level) (c .before .before .before .before .before .before .before .before .before .before .before .before .before .before .put-word .ensures) (c .before .before .before .before .before .before .before .before .before .before .put-word2 .ensures)) (c .before .before .before .before .before .before .put-word3 .ensures)) (c .before .before .put-word4 .ensures)
+    let past = c .before .before .before .before .before .before in
+    let earlier = past .before .before .before .before .before .before .before .before in
+    let a = earlier .before .before .before .args in
+    in-block-put-then 4 (a .own) (in-block-put-then 2 (a .i) (in-block-put-then 1 (a .level) (earlier .put-word .ensures) (past .before .before .before .before .put-word2 .ensures)) (past .put-word3 .ensures)) (c .before .before .put-word4 .ensures)
 
 pub put-kept-spec : {M : Type 1} → statement M
 put-kept-spec =

@@ -34,7 +34,22 @@ put-word-requires-6 c κs = search needs
 
 put-word-requires-7 : tie.Need-put-word-requires-7
 put-word-requires-7 c κs =
-    (omega (arith, c .before .before .before .before .before .before .before .before .before .before .before .before .before .before .before .before .before .before .before .before .before .before .before .before .before .before .before .before .pre .0, c .before .before .before .before .before .before .before .before .before .before .before .before .before .before .before .before .before .before .before .before .before .before .before .before .before .put-word .ensures .size, c .before .before .before .before .before .before .before .before .before .before .before .before .before .before .before .before .before .before .before .before .put-word2 .ensures .size, c .before .before .before .before .before .before .before .before .before .before .before .before .before .before .before .before .put-word3 .ensures .size, c .before .before .before .before .before .before .before .before .before .before .before .put-word4 .ensures .size, c .before .before .before .before .before .before .before .put-word5 .ensures .size, c .before .before .before .put-word6 .ensures .size), omega (arith, c .before .before .before .before .before .before .before .before .before .before .before .before .before .before .before .before .before .before .before .before .before .before .before .before .before .before .before .before .pre .1), omega arith)
+    let past = c .before .before .before .before .before .before .before in
+    let earlier = past .before .before .before .before .before .before .before .before .before in
+    let former = earlier .before .before .before .before .before .before .before .before .before in (
+      omega (
+        arith,
+        former .before .before .before .pre .0,
+        former .put-word .ensures .size,
+        earlier .before .before .before .before .put-word2 .ensures .size,
+        earlier .put-word3 .ensures .size,
+        past .before .before .before .before .put-word4 .ensures .size,
+        past .put-word5 .ensures .size,
+        c .before .before .before .put-word6 .ensures .size,
+      ),
+      omega (arith, former .before .before .before .pre .1),
+      omega arith,
+    )
 
 same-length : tie.Need-same-length
 same-length c = search needs
@@ -42,11 +57,15 @@ same-length c = search needs
 returns : tie.Need-returns
 unfolding workingBlock
 returns c =
-    let a = c .before .before .before .before .before .before .before .before .before .before .before .before .before .before .before .before .before .before .before .before .before .before .before .before .before .before .before .before .before .before .before .args in
+    let past = c .before .before .before .before .before .before in
+    let earlier = past .before .before .before .before .before .before .before .before in
+    let former = earlier .before .before .before .before .before in
+    let older = former .before .before .before .before .before .before .before .before .before in
+    let a = older .before .before .before .args in
     let p = a .p in
     in-block-put-then 111 (p .base) (in-block-put-then 109 (a .routine) (in-block-put-then 108 (p .bits) (in-block-put-then 107 (p .low + a .i * 2 ^ p .bits)
-    (in-block-put-then 106 0 (in-block-put-then 105 (p .slot) (c .before .before .before .before .before .before .before .before .before .before .before .before .before .before .before .before .before .before .before .before .before .before .before .before .before .before .before .before .put-word .ensures) (c .before .before .before .before .before .before .before .before .before .before .before .before .before .before .before .before .before .before .before .before .before .before .before .put-word2 .ensures)) (c .before .before .before .before .before .before .before .before .before .before .before .before .before .before .before .before .before .before .before .put-word3 .ensures))
-    (rw (c .before .before .before .before .before .before .before .before .before .before .before .before .before .before .before .low-of .ensures) at (c .before .before .before .before .before .before .before .before .before .before .before .before .before .before .put-word4 .ensures))) (c .before .before .before .before .before .before .before .before .before .before .put-word5 .ensures)) (c .before .before .before .before .before .before .put-word6 .ensures)) (c .before .before .put-word7 .ensures)
+    (in-block-put-then 106 0 (in-block-put-then 105 (p .slot) (older .put-word .ensures) (former .before .before .before .before .put-word2 .ensures)) (former .put-word3 .ensures))
+    (rw (earlier .before .low-of .ensures) at (earlier .put-word4 .ensures))) (past .before .before .before .before .put-word5 .ensures)) (past .put-word6 .ensures)) (c .before .before .put-word7 .ensures)
 
 pub put-working-spec : {M : Type 1} → statement M
 put-working-spec =

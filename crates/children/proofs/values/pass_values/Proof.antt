@@ -20,11 +20,13 @@ loop-holds c =
 
 mul-name-at : tie.Need-mul-name-at Inv-loop μ-loop
 mul-name-at c =
-    omega (arith, c .before .before .before .before .before .pre .binds .few, c .before .before .before .before .before .pre .binds .names .inside)
+    let past = c .before .before .before .before .before in
+    omega (arith, past .pre .binds .few, past .pre .binds .names .inside)
 
 add-name-at : tie.Need-add-name-at Inv-loop μ-loop
 add-name-at c =
-    omega (arith, c .before .before .before .before .before .pre .binds .few, c .before .before .before .before .before .pre .binds .names .inside)
+    let past = c .before .before .before .before .before in
+    omega (arith, past .pre .binds .few, past .pre .binds .names .inside)
 
 name-at-requires : tie.Need-name-at-requires Inv-loop μ-loop
 name-at-requires c κs =
@@ -39,16 +41,18 @@ pass-value-requires c κs =
 
 add-j : tie.Need-add-j Inv-loop μ-loop
 add-j c =
-    omega (arith, c .before .before .before .before .before .before .before .before .before .pre .binds .few, c .before .before .before .before .before .loop-test .taken)
+    let past = c .before .before .before .before .before in
+    omega (arith, past .before .before .before .before .pre .binds .few, past .loop-test .taken)
 
 loop-less : tie.Need-loop-less Inv-loop μ-loop
 loop-less c = search needs
 
 loop-again : tie.Need-loop-again Inv-loop μ-loop
 loop-again c =
-    let p = c .before .before .before .before .before .before .before .before .before .pre in
-    let v = c .before .before .before .before .before .before .loop in
-    values-next p (v .inv) (c .before .before .before .before .before .loop-test .taken) (rw (c .before .before .before .name-at .ensures) at (c .before .before .pass-value .ensures))
+    let past = c .before .before .before .before .before in
+    let p = past .before .before .before .before .pre in
+    let v = past .before .loop in
+    values-next p (v .inv) (past .loop-test .taken) (rw (c .before .before .before .name-at .ensures) at (c .before .before .pass-value .ensures))
 
 same-length : tie.Need-same-length Inv-loop μ-loop
 same-length c =

@@ -15,8 +15,9 @@ same-length c = search needs
 
 returns : tie.Need-returns
 returns c =
-    let a = c .before .before .before .before .before .before .before .before .before .before .before .args in
-    λ may. concluded-stop _ _ _ _ _ may _ (c .before .before .before .before .before .ran .given .1) _ _ _ (c .before .before .halt .ensures)
+    let past = c .before .before .before .before .before in
+    let a = past .before .before .before .before .before .before .args in
+    λ may. concluded-stop _ _ _ _ _ may _ (past .ran .given .1) _ _ _ (c .before .before .halt .ensures)
 
 enum-known-ran-2 : tie.Need-enum-known-ran-2
 enum-known-ran-2 c = search needs
@@ -41,7 +42,9 @@ same-length-4 c = search needs
 
 returns-2 : tie.Need-returns-2
 returns-2 c =
-    λ may. concluded-end _ _ _ _ _ may _ (c .before .before .before .before .before .before .before .before .before .before .before .ran2 .given .1) _ _ _ _ _ _ (c .before .before .before .before .before .before .finished .ensures (may-finish _ _ _ _ _ may _ (c .before .before .before .before .before .before .before .before .before .before .before .ran2 .given .1)))
+    let past = c .before .before .before .before .before .before in
+    let earlier = past .before .before .before .before .before in
+    λ may. concluded-end _ _ _ _ _ may _ (earlier .ran2 .given .1) _ _ _ _ _ _ (past .finished .ensures (may-finish _ _ _ _ _ may _ (earlier .ran2 .given .1)))
 
 pub conclude-spec : {M : Type 1} → statement M
 conclude-spec =

@@ -22,8 +22,10 @@ number-requires-2 c κs = search needs
 
 list-outputs-requires : tie.Need-list-outputs-requires
 list-outputs-requires c κs =
-    let p = c .before .before .before .before .before .before .before .before .before .before .before .pre in
-    let s = whole-size (now (c .before .before .before .before .before .before .before .before .before .before .before .args .table)) (p .1 .table) _ _ (c .before .before .before .before .before .number .ensures .0) (c .before .before .before .number2 .ensures .0) in
+    let past = c .before .before .before .before .before in
+    let earlier = past .before .before .before .before .before .before in
+    let p = earlier .pre in
+    let s = whole-size (now (earlier .args .table)) (p .1 .table) _ _ (past .number .ensures .0) (c .before .before .before .number2 .ensures .0) in
     (p .1 .size, s .1, p .2, p .3)
 
 add-finish : tie.Need-add-finish
@@ -31,8 +33,10 @@ add-finish c = search needs
 
 finish-requires : tie.Need-finish-requires
 finish-requires c κs =
-    let p = c .before .before .before .before .before .before .before .before .before .before .before .before .before .before .before .before .before .pre in
-    let s = whole-size (now (c .before .before .before .before .before .before .before .before .before .before .before .before .before .before .before .before .before .args .table)) (p .1 .table) _ _ (c .before .before .before .before .before .before .before .before .before .before .before .number .ensures .0) (c .before .before .before .before .before .before .before .before .before .number2 .ensures .0) in
+    let past = c .before .before .before .before .before .before .before .before .before in
+    let earlier = past .before .before .before .before .before .before .before .before in
+    let p = earlier .pre in
+    let s = whole-size (now (earlier .args .table)) (p .1 .table) _ _ (past .before .before .number .ensures .0) (past .number2 .ensures .0) in
     (p .1 .size, s .1, rw (s .0) (p .1 .tidy))
 
 due-at-requires : tie.Need-due-at-requires
@@ -40,7 +44,9 @@ due-at-requires c κs = search needs
 
 cast-t13 : tie.Need-cast-t13
 cast-t13 c =
-    omega (arith, c .before .before .before .before .before .before .before .before .before .list-outputs .ensures .count, listed-below (c .before .before .before .before .before .before .before .before .before .before .before .before .before .before .before .number .result + c .before .before .before .before .before .before .before .before .before .before .before .before .before .number2 .result) (c .before .before .before .before .before .before .before .before .before .before .before .before .before .before .before .number .result) (now (c .before .before .before .before .before .before .before .before .before .before .before .before .before .before .before .before .before .before .before .before .before .args .machine)))
+    let past = c .before .before .before .before .before .before .before .before .before in
+    let earlier = past .before .before .before .before .before .before in
+    omega (arith, past .list-outputs .ensures .count, listed-below (earlier .number .result + past .before .before .before .before .number2 .result) (earlier .number .result) (now (earlier .before .before .before .before .before .before .args .machine)))
 
 same-length : tie.Need-same-length
 same-length c = search needs
@@ -53,11 +59,13 @@ same-length-3 c = search needs
 
 returns : tie.Need-returns
 returns c =
-    let a = c .before .before .before .before .before .before .before .before .before .before .before .before .before .before .before .before .before .before .before .before .before .args in
+    let past = c .before .before .before .before .before .before .before .before .before in
+    let earlier = past .before .before .before .before .before .before in
+    let a = earlier .before .before .before .before .before .before .args in
     λ may.
-    finished-as (now (a .table)) (now (a .machine)) _ (a .present .0) may (λ k. omega (arith, c .before .before .before .before .before .before .before .before .before .before .before .before .before .before .before .before .before .before .before .slice-known .given k)) (c .before .before .before .finish .ensures .0)
-    _ _ (c .before .before .before .before .before .before .before .before .before .before .before .before .before .before .before .number .ensures .0) (c .before .before .before .before .before .before .before .before .before .before .before .before .before .number2 .ensures .0) _ _ _ _ (a .steps) _ _ _
-    (c .before .before .before .before .before .before .before .before .before .list-outputs .ensures) (c .before .before .before .finish .ensures .1) (c .due-at .ensures)
+    finished-as (now (a .table)) (now (a .machine)) _ (a .present .0) may (λ k. omega (arith, earlier .before .before .before .before .slice-known .given k)) (c .before .before .before .finish .ensures .0)
+    _ _ (earlier .number .ensures .0) (past .before .before .before .before .number2 .ensures .0) _ _ _ _ (a .steps) _ _ _
+    (past .list-outputs .ensures) (c .before .before .before .finish .ensures .1) (c .due-at .ensures)
 
 pub finished-spec : {M : Type 1} → statement M
 finished-spec =

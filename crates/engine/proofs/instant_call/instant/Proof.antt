@@ -35,7 +35,8 @@ part-instant-work-end c =
 
 instant-work-requires : tie.Need-instant-work-requires
 instant-work-requires c κs =
-    let A = instant-accepted _ _ _ _ _ _ _ _ _ _ (c .before .before .before .before .before .before .instant-question .ensures) (c .before .before .before .before .before .if1 .left) in
+    let past = c .before .before .before .before .before in
+    let A = instant-accepted _ _ _ _ _ _ _ _ _ _ (past .before .instant-question .ensures) (past .if1 .left) in
     (simp length-take (omega (arith, A .lengths .table-long)), A .may, A .lengths .numbers-long, A .lengths .values-long)
 
 same-length-4 : tie.Need-same-length-4
@@ -49,8 +50,10 @@ same-length-6 c = search needs
 
 returns-2 : tie.Need-returns-2
 returns-2 c =
-    let A = instant-accepted _ _ _ _ _ _ _ _ _ _ (c .before .before .before .before .before .before .before .before .before .before .before .before .before .instant-question .ensures) (c .before .before .before .before .before .before .before .before .before .before .before .before .if1 .left) in
-    conclusion-keeps _ _ _ _ _ _ _ _ _ _ (A .may .table) (A .outcome) (c .before .before .before .before .before .before .instant-work .ensures (A .may))
+    let past = c .before .before .before .before .before .before in
+    let earlier = past .before .before .before .before .before .before in
+    let A = instant-accepted _ _ _ _ _ _ _ _ _ _ (earlier .before .instant-question .ensures) (earlier .if1 .left) in
+    conclusion-keeps _ _ _ _ _ _ _ _ _ _ (A .may .table) (A .outcome) (past .instant-work .ensures (A .may))
 
 pub instant-spec : {M : Type 1} → statement M
 instant-spec =

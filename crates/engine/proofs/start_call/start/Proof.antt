@@ -49,8 +49,10 @@ same-length-6 c = search needs
 
 returns-2 : tie.Need-returns-2
 returns-2 c =
-    let A = start-accepted _ _ _ _ _ _ (c .before .before .before .before .before .before .before .before .before .before .before .before .start-question .ensures) (c .before .before .before .before .before .before .before .before .before .before .before .if1 .left) in
-    conclusion-keeps _ _ _ _ _ _ _ _ _ _ (A .passes) (A .outcome) (c .before .before .before .before .before .before .start-work .ensures)
+    let past = c .before .before .before .before .before .before in
+    let earlier = past .before .before .before .before .before in
+    let A = start-accepted _ _ _ _ _ _ (earlier .before .start-question .ensures) (earlier .if1 .left) in
+    conclusion-keeps _ _ _ _ _ _ _ _ _ _ (A .passes) (A .outcome) (past .start-work .ensures)
 
 pub start-spec : {M : Type 1} → statement M
 start-spec =

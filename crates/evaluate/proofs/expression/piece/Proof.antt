@@ -21,7 +21,8 @@ shared-slice-read-push c = search needs
 
 push-requires : tie.Need-push-requires
 push-requires c κs =
-    (c .before .before .before .before .before .before .pre .places, pieces.room-for-literal (c .before .before .before .before .before .before .pre) (c .before .before .match .keys1))
+    let past = c .before .before .before .before .before .before in
+    (past .pre .places, pieces.room-for-literal (past .pre) (c .before .before .match .keys1))
 
 add-value-of : tie.Need-add-value-of
 add-value-of c = search needs
@@ -38,7 +39,8 @@ value-of-requires c κs =
 
 push-requires-2 : tie.Need-push-requires-2
 push-requires-2 c κs =
-    (c .before .before .before .before .before .before .before .pre .places, pieces.room-for-value (c .before .before .before .before .before .before .before .pre) (c .before .before .before .match .keys2))
+    let past = c .before .before .before .before .before .before .before in
+    (past .pre .places, pieces.room-for-value (past .pre) (c .before .before .before .match .keys2))
 
 add-mark-of : tie.Need-add-mark-of
 add-mark-of c = search needs
@@ -55,12 +57,14 @@ mark-of-requires c κs =
 
 push-requires-3 : tie.Need-push-requires-3
 push-requires-3 c κs =
-    (c .before .before .before .before .before .before .before .pre .places, pieces.room-for-mark (c .before .before .before .before .before .before .before .pre) (c .before .before .before .match .keys3))
+    let past = c .before .before .before .before .before .before .before in
+    (past .pre .places, pieces.room-for-mark (past .pre) (c .before .before .before .match .keys3))
 
 operate-requires : tie.Need-operate-requires
 operate-requires c κs =
+    let past = c .before .before .before .before .before in
     let none = c .before .match .rest in
-    (c .before .before .before .before .before .pre .places, pieces.two-for-sign (c .before .before .before .before .before .pre) (record { notLiteral = none .0 .0 .1; notValue = none .0 .1; notMark = none .1 }), c .before .before .before .before .before .pre .most)
+    (past .pre .places, pieces.two-for-sign (past .pre) (record { notLiteral = none .0 .0 .1; notValue = none .0 .1; notMark = none .1 }), past .pre .most)
 
 returns : tie.Need-returns
 returns c =

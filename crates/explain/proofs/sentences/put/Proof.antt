@@ -45,10 +45,11 @@ same-length c = search needs
 
 returns : tie.Need-returns Inv-loop μ-loop
 returns c =
+    let past = c .before .before .before .before .before in
     let v = c .before .loop in
     let n = c .before .before .least in
     let full : v .i ≡ n .result = omega (arith, c .loop-test .left, v .inv .2) in
-    let is = v .inv .4 ∙ ap (λ i. paste (now (c .before .before .before .before .before .args .out)) 0 (now (c .before .before .before .before .before .args .text)) i) full in
+    let is = v .inv .4 ∙ ap (λ i. paste (now (past .args .out)) 0 (now (past .args .text)) i) full in
     pasted _ (v .out) _ (n .result) (n .ensures .0) is
 
 pub put-spec : {M : Type 1} → statement M

@@ -26,11 +26,13 @@ enum-known-answer c = search needs
 
 returns-2 : tie.Need-returns-2
 returns-2 c =
-    it-loads (now (c .before .before .before .before .before .before .before .before .args .listing)) (c .before .before .before .before .before .table .result) (c .before .before .before .load .result) (c .before .before .before .before .before .before .if1 .left) (c .before .before .before .before .before .table .ensures) (c .before .before .before .load .ensures .0) (c .enum-told .given .1)
+    let past = c .before .before .before .before .before in
+    it-loads (now (past .before .before .before .args .listing)) (past .table .result) (c .before .before .before .load .result) (past .before .if1 .left) (past .table .ensures) (c .before .before .before .load .ensures .0) (c .enum-told .given .1)
 
 returns-3 : tie.Need-returns-3
 returns-3 c =
-    it-fails (now (c .before .before .before .before .before .before .before .before .before .args .listing)) (c .before .before .before .before .before .before .table .result) (c .before .before .before .before .load .result) _ _ (c .before .before .before .before .before .before .before .if1 .left) (c .before .before .before .before .before .before .table .ensures) (c .before .before .before .before .load .ensures .0) (c .before .answer .given .1)
+    let past = c .before .before .before .before .before .before in
+    it-fails (now (past .before .before .before .args .listing)) (past .table .result) (c .before .before .before .before .load .result) _ _ (past .before .if1 .left) (past .table .ensures) (c .before .before .before .before .load .ensures .0) (c .before .answer .given .1)
 
 pub judge-spec : {M : Type 1} → statement M
 judge-spec =

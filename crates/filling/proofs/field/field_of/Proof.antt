@@ -40,26 +40,29 @@ cast-i c = search needs
 
 head-of-requires : tie.Need-head-of-requires
 head-of-requires c κs =
-    let a = c .before .before .before .before .before .before .args in
-    let M = c .before .before .before .before .before .before .pre .2 in
+    let past = c .before .before .before .before .before .before in
+    let a = past .args in
+    let M = past .pre .2 in
     let E = fetched-there (rowsOf (now (a .m)) (a .p)) (c .before .before .before .routine .ensures) (c .before .before .place .ensures) (c .before .fetch .ensures .1) in
     let i = child-inside M E in
-    (table-size (now (a .t)) (c .before .before .before .before .before .before .pre .0), λ j h. head-inside M E j (omega (arith, h, i, c .child .ensures)))
+    (table-size (now (a .t)) (past .pre .0), λ j h. head-inside M E j (omega (arith, h, i, c .child .ensures)))
 
 head-at-requires : tie.Need-head-at-requires
 head-at-requires c κs =
-    let a = c .before .before .before .before .before .before .before .args in
-    let M = c .before .before .before .before .before .before .before .pre .2 in
+    let past = c .before .before .before .before .before .before .before in
+    let a = past .args in
+    let M = past .pre .2 in
     let E = fetched-there (rowsOf (now (a .m)) (a .p)) (c .before .before .before .before .routine .ensures) (c .before .before .before .place .ensures) (c .before .before .fetch .ensures .1) in (
-      table-size (now (a .t)) (c .before .before .before .before .before .before .before .pre .0),
+      table-size (now (a .t)) (past .pre .0),
       subst (λ (x : ℕ). x + 2 ≤ 12288) (sym (c .head-of .ensures)) (head-inside M E (c .before .child .result) (subst (λ (x : ℕ). x < c .before .before .fetch .result .first) (sym (c .before .child .ensures)) (child-inside M E))),
     )
 
 returns : tie.Need-returns
 returns c =
-    let a = c .before .before .before .before .before .before .before .before .args in
-    let M = c .before .before .before .before .before .before .before .before .pre .2 in
-    let E = fetched-there (rowsOf (now (a .m)) (a .p)) (c .before .before .before .before .before .routine .ensures) (c .before .before .before .before .place .ensures) (c .before .before .before .fetch .ensures .1) in
+    let past = c .before .before .before .before .before in
+    let a = past .before .before .before .args in
+    let M = past .before .before .before .pre .2 in
+    let E = fetched-there (rowsOf (now (a .m)) (a .p)) (past .routine .ensures) (c .before .before .before .before .place .ensures) (c .before .before .before .fetch .ensures .1) in
     field-is M E _ (c .before .head-of .ensures ∙ ap (headAfter (now (a .t)) (c .before .before .before .fetch .result .cells)) (c .before .before .child .ensures)) (c .head-at .ensures .1) refl
 
 pub field-of-spec : {M : Type 1} → statement M

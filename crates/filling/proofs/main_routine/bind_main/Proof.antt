@@ -20,8 +20,9 @@ bind-environment-requires c κs =
 
 bind-own-requires : tie.Need-bind-own-requires
 bind-own-requires c κs =
-    let O = c .before .before .before .before .before .opening-of .ensures .1 in
-    (omega (arith, c .before .before .before .before .before .before .before .before .pre .1, c .before .before .before .bind-environment .ensures .inBlock .size), c .before .before .before .before .before .before .before .before .pre .2, O .names, omega (arith, O .names))
+    let past = c .before .before .before .before .before in
+    let O = past .opening-of .ensures .1 in
+    (omega (arith, past .before .before .before .pre .1, c .before .before .before .bind-environment .ensures .inBlock .size), past .before .before .before .pre .2, O .names, omega (arith, O .names))
 
 add-put-word : tie.Need-add-put-word
 add-put-word c =
@@ -33,20 +34,25 @@ cast-put-word c =
 
 put-word-requires : tie.Need-put-word-requires
 put-word-requires c κs =
-    (omega (arith, c .before .before .before .before .before .before .before .before .before .before .before .before .pre .1, c .before .before .before .before .before .before .before .bind-environment .ensures .inBlock .size, c .before .before .before .bind-own .ensures .inBlock .size), omega (arith, c .before .before .before .before .before .before .before .before .before .before .before .before .pre .2), omega arith)
+    let past = c .before .before .before .before .before .before .before in
+    let earlier = past .before .before .before .before .before in
+    (omega (arith, earlier .pre .1, past .bind-environment .ensures .inBlock .size, c .before .before .before .bind-own .ensures .inBlock .size), omega (arith, earlier .pre .2), omega arith)
 
 same-length : tie.Need-same-length
 same-length c =
-    omega (arith, c .before .before .before .before .before .before .before .before .before .before .bind-environment .ensures .inBlock .size, c .before .before .before .before .before .before .bind-own .ensures .inBlock .size, c .before .before .put-word .ensures .size)
+    let past = c .before .before .before .before .before .before in
+    omega (arith, past .before .before .before .before .bind-environment .ensures .inBlock .size, past .bind-own .ensures .inBlock .size, c .before .before .put-word .ensures .size)
 
 returns : tie.Need-returns
 returns c =
-    let a = c .before .before .before .before .before .before .before .before .before .before .before .before .before .before .before .args in
-    let E = c .before .before .before .before .before .before .before .before .before .before .bind-environment .ensures in
-    let O = c .before .before .before .before .before .before .before .before .before .before .before .before .opening-of .ensures .1 in
+    let past = c .before .before .before .before .before .before in
+    let earlier = past .before .before .before .before .before .before in
+    let a = earlier .before .before .before .args in
+    let E = past .before .before .before .before .bind-environment .ensures in
+    let O = earlier .opening-of .ensures .1 in
     all-names (E .inBlock) (E .others)
-    (ap (λ (l : List Owner). l ++ ownBindings (c .before .before .before .before .before .before .before .before .before .before .before .before .opening-of .result .locals) (a .s) 0) (E .names) ∙ main-bound (now (a .t)) (c .before .before .before .before .before .before .before .before .before .before .before .before .before .before .before .pre .0) (a .s) O)
-    (O .names) (c .before .before .before .before .before .before .bind-own .ensures) (c .before .before .put-word .ensures)
+    (ap (λ (l : List Owner). l ++ ownBindings (earlier .opening-of .result .locals) (a .s) 0) (E .names) ∙ main-bound (now (a .t)) (earlier .before .before .before .pre .0) (a .s) O)
+    (O .names) (past .bind-own .ensures) (c .before .before .put-word .ensures)
 
 pub bind-main-spec : {M : Type 1} → statement M
 bind-main-spec =

@@ -30,11 +30,13 @@ main-parent-requires c κs =
 
 put-working-requires : tie.Need-put-working-requires
 put-working-requires c κs =
-    let P = c .before .main-parent .ensures in (c .before .before .before .before .before .before .before .pre .1, c .before .before .before .before .before .before .before .pre .2 .slot, omega (arith, P .slot), main-reaches P)
+    let past = c .before .before .before .before .before .before .before in
+    let P = c .before .main-parent .ensures in (past .pre .1, past .pre .2 .slot, omega (arith, P .slot), main-reaches P)
 
 bind-main-requires : tie.Need-bind-main-requires
 bind-main-requires c κs =
-    (c .before .before .before .before .before .before .before .before .before .before .before .pre .0, omega (arith, c .before .before .before .before .before .before .before .before .before .before .before .pre .1, c .before .before .before .put-working .ensures .size), c .before .before .before .before .before .before .before .before .before .before .before .pre .2 .slot)
+    let past = c .before .before .before .before .before .before .before .before .before .before .before in
+    (past .pre .0, omega (arith, past .pre .1, c .before .before .before .put-working .ensures .size), past .pre .2 .slot)
 
 same-length : tie.Need-same-length
 same-length c =
@@ -42,9 +44,11 @@ same-length c =
 
 returns : tie.Need-returns
 returns c =
-    let a = c .before .before .before .before .before .before .before .before .before .before .before .before .before .before .args in
-    main-filled (c .before .before .before .before .before .before .before .before .before .wait-mark .result) (c .before .before .before .before .before .before .before .before .before .before .before .before .before .before .pre .2) (c .before .before .before .before .before .before .before .before .main-parent .ensures)
-    (c .before .before .before .before .before .before .before .before .before .wait-mark .ensures ∙ ap (λ (x : ℕ). isWait (instructionAt (tableListing (now (a .t))) 0 x)) (c .before .before .before .before .before .before .before .before .before .before .place .ensures)) (c .before .before .before .before .before .before .put-working .ensures) (c .before .before .bind-main .ensures)
+    let past = c .before .before .before .before .before .before in
+    let earlier = past .before .before .before .before .before .before .before .before in
+    let a = earlier .args in
+    main-filled (past .before .before .before .wait-mark .result) (earlier .pre .2) (past .before .before .main-parent .ensures)
+    (past .before .before .before .wait-mark .ensures ∙ ap (λ (x : ℕ). isWait (instructionAt (tableListing (now (a .t))) 0 x)) (past .before .before .before .before .place .ensures)) (past .put-working .ensures) (c .before .before .bind-main .ensures)
 
 pub fill-main-spec : {M : Type 1} → statement M
 fill-main-spec =

@@ -12,7 +12,8 @@ clear-words-requires c κs =
 
 opening-of-requires : tie.Need-opening-of-requires
 opening-of-requires c κs =
-    (c .before .before .before .before .before .before .pre .0, main-there (now (c .before .before .before .before .before .before .args .t)) (c .before .before .before .before .before .before .pre .0))
+    let past = c .before .before .before .before .before .before in
+    (past .pre .0, main-there (now (past .args .t)) (past .pre .0))
 
 main-parent-requires : tie.Need-main-parent-requires
 main-parent-requires c κs =
@@ -24,24 +25,33 @@ cast-put-kept c =
 
 put-kept-requires : tie.Need-put-kept-requires
 put-kept-requires c κs =
-    (omega (arith, c .before .before .before .before .before .before .before .before .before .pre .1, c .before .before .before .before .before .clear-words .ensures .size), c .before .before .before .before .before .before .before .before .before .pre .2)
+    let past = c .before .before .before .before .before in
+    (omega (arith, past .before .before .before .before .pre .1, past .clear-words .ensures .size), past .before .before .before .before .pre .2)
 
 put-working-requires : tie.Need-put-working-requires
 put-working-requires c κs =
-    let P = c .before .before .before .before .before .main-parent .ensures in
-    (omega (arith, c .before .before .before .before .before .before .before .before .before .before .before .before .before .pre .1, c .before .before .before .before .before .before .before .before .before .clear-words .ensures .size, c .before .before .before .put-kept .ensures .size), c .before .before .before .before .before .before .before .before .before .before .before .before .before .pre .2, omega (arith, P .slot), main-reaches P)
+    let past = c .before .before .before .before .before in
+    let earlier = past .before .before .before .before .before .before .before .before in
+    let P = past .main-parent .ensures in
+    (omega (arith, earlier .pre .1, past .before .before .before .before .clear-words .ensures .size, c .before .before .before .put-kept .ensures .size), earlier .pre .2, omega (arith, P .slot), main-reaches P)
 
 bind-main-requires : tie.Need-bind-main-requires
 bind-main-requires c κs =
-    (c .before .before .before .before .before .before .before .before .before .before .before .before .before .before .before .before .before .pre .0, omega (arith, c .before .before .before .before .before .before .before .before .before .before .before .before .before .before .before .before .before .pre .1, c .before .before .before .before .before .before .before .before .before .before .before .before .before .clear-words .ensures .size, c .before .before .before .before .before .before .before .put-kept .ensures .size, c .before .before .before .put-working .ensures .size), c .before .before .before .before .before .before .before .before .before .before .before .before .before .before .before .before .before .pre .2)
+    let past = c .before .before .before .before .before .before .before in
+    let earlier = past .before .before .before .before .before .before in
+    (earlier .before .before .before .before .pre .0, omega (arith, earlier .before .before .before .before .pre .1, earlier .clear-words .ensures .size, past .put-kept .ensures .size, c .before .before .before .put-working .ensures .size), earlier .before .before .before .before .pre .2)
 
 same-length : tie.Need-same-length
 same-length c =
-    omega (arith, c .before .before .before .before .before .before .before .before .before .before .before .before .before .before .before .before .clear-words .ensures .size, c .before .before .before .before .before .before .before .before .before .before .put-kept .ensures .size, c .before .before .before .before .before .before .put-working .ensures .size, c .before .before .bind-main .ensures .inBlock .size)
+    let past = c .before .before .before .before .before .before in
+    omega (arith, past .before .before .before .before .before .before .before .before .before .before .clear-words .ensures .size, past .before .before .before .before .put-kept .ensures .size, past .put-working .ensures .size, c .before .before .bind-main .ensures .inBlock .size)
 
 returns : tie.Need-returns
 returns c =
-    main-made (c .before .before .before .before .before .before .before .before .before .before .before .before .before .before .before .before .before .before .before .before .pre .0) (c .before .before .before .before .before .before .before .before .before .before .before .before .before .before .before .before .before .before .before .before .pre .2) (c .before .before .before .before .before .before .before .before .before .before .before .before .before .opening-of .ensures .1) (c .before .before .before .before .before .before .before .before .before .before .before .before .main-parent .ensures) (c .before .before .before .before .before .before .before .before .before .before .before .before .before .before .before .before .clear-words .ensures) (c .before .before .before .before .before .before .before .before .before .before .put-kept .ensures) (c .before .before .before .before .before .before .put-working .ensures) (c .before .before .bind-main .ensures)
+    let past = c .before .before .before .before .before .before in
+    let earlier = past .before .before .before .before .before .before in
+    let former = earlier .before .before .before .before .before .before .before .before in
+    main-made (former .pre .0) (former .pre .2) (earlier .before .opening-of .ensures .1) (earlier .main-parent .ensures) (earlier .before .before .before .before .clear-words .ensures) (past .before .before .before .before .put-kept .ensures) (past .put-working .ensures) (c .before .before .bind-main .ensures)
 
 pub main-row-spec : {M : Type 1} → statement M
 main-row-spec =

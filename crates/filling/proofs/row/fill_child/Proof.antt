@@ -15,11 +15,13 @@ cast-parent-of c =
 
 parent-of-requires : tie.Need-parent-of-requires
 parent-of-requires c κs =
-    let M = c .before .before .before .before .before .before .pre .2 in (c .before .before .before .before .before .before .pre .1, M .parent, count-divides (now (c .before .before .before .before .before .before .args .m)) M (c .before .before .field-of .ensures))
+    let past = c .before .before .before .before .before .before in
+    let M = past .pre .2 in (past .pre .1, M .parent, count-divides (now (past .args .m)) M (c .before .before .field-of .ensures))
 
 children-requires : tie.Need-children-requires
 children-requires c κs =
-    (c .before .before .before .before .before .before .before .before .pre .1, c .before .before .before .before .before .before .before .before .pre .2 .parent)
+    let past = c .before .before .before .before .before .before .before .before in
+    (past .pre .1, past .pre .2 .parent)
 
 add-set-children : tie.Need-add-set-children
 add-set-children c =
@@ -27,11 +29,14 @@ add-set-children c =
 
 set-children-requires : tie.Need-set-children-requires
 set-children-requires c κs =
-    (c .before .before .before .before .before .before .before .before .before .before .pre .1, c .before .before .before .before .before .before .before .before .before .before .pre .2 .parent)
+    let past = c .before .before .before .before .before .before .before .before .before .before in
+    (past .pre .1, past .pre .2 .parent)
 
 fill-row-requires : tie.Need-fill-row-requires
 fill-row-requires c κs =
-    may-fill-row (now (c .before .before .before .before .before .before .before .before .before .before .before .before .before .before .args .m)) (c .before .before .before .before .before .before .before .before .before .before .before .before .before .before .pre .2) (c .before .before .before .before .before .before .before .before .before .before .field-of .ensures) (c .before .before .before .before .before .children .ensures) (c .before .before .before .before .before .before .before .parent-of .ensures) (c .before .before .before .set-children .ensures) (c .before .before .before .before .before .before .before .before .before .before .before .before .before .before .pre .0) (c .before .before .before .before .before .before .before .before .before .before .before .before .before .before .pre .1)
+    let past = c .before .before .before .before .before in
+    let earlier = past .before .before .before .before .before in
+    may-fill-row (now (earlier .before .before .before .before .args .m)) (earlier .before .before .before .before .pre .2) (earlier .field-of .ensures) (past .children .ensures) (past .before .before .parent-of .ensures) (c .before .before .before .set-children .ensures) (earlier .before .before .before .before .pre .0) (earlier .before .before .before .before .pre .1)
 
 same-length : tie.Need-same-length
 same-length c =
@@ -39,7 +44,9 @@ same-length c =
 
 returns : tie.Need-returns
 returns c =
-    child-filled (now (c .before .before .before .before .before .before .before .before .before .before .before .before .before .before .before .before .before .args .m)) (c .before .before .before .before .before .before .before .before .before .before .before .before .before .before .before .before .before .pre .2) (c .before .before .before .before .before .before .before .before .before .before .before .before .before .field-of .ensures) (c .before .before .before .before .before .before .before .before .children .ensures) (c .before .before .before .before .before .before .before .before .before .before .parent-of .ensures) (c .before .before .before .before .before .before .set-children .ensures) (c .before .before .fill-row .ensures)
+    let past = c .before .before .before .before .before .before in
+    let earlier = past .before .before .before .before .before .before .before in
+    child-filled (now (earlier .before .before .before .before .args .m)) (earlier .before .before .before .before .pre .2) (earlier .field-of .ensures) (past .before .before .children .ensures) (past .before .before .before .before .parent-of .ensures) (past .set-children .ensures) (c .before .before .fill-row .ensures)
 
 pub fill-child-spec : {M : Type 1} → statement M
 fill-child-spec =

@@ -26,21 +26,25 @@ cast-place c = search needs
 
 wait-mark-requires : tie.Need-wait-mark-requires
 wait-mark-requires c κs =
-    let M = c .before .before .before .before .before .pre in
-    (M .table, subst (λ (r : ℕ). r < word (now (c .before .before .before .before .before .args .t)) 2) (sym (M .called)) (M .field .callee), subst (λ (x : ℕ). x < sizeOf (now (c .before .before .before .before .before .args .t)) (c .before .before .before .before .before .args .callee)) (sym (c .place .ensures)) (M .place))
+    let past = c .before .before .before .before .before in
+    let M = past .pre in
+    (M .table, subst (λ (r : ℕ). r < word (now (past .args .t)) 2) (sym (M .called)) (M .field .callee), subst (λ (x : ℕ). x < sizeOf (now (past .args .t)) (past .args .callee)) (sym (c .place .ensures)) (M .place))
 
 child-requires : tie.Need-child-requires
 child-requires c κs =
-    (c .before .before .before .before .before .before .before .pre .size, c .before .before .before .before .before .before .before .pre .slot)
+    let past = c .before .before .before .before .before .before .before in
+    (past .pre .size, past .pre .slot)
 
 cast-put-working : tie.Need-cast-put-working
 cast-put-working c =
-    omega (arith, callee-small (c .before .before .before .before .before .before .before .before .before .pre .table) (c .before .before .before .before .before .before .before .before .before .pre .field) (c .before .before .before .before .before .before .before .before .before .pre .called))
+    let past = c .before .before .before .before .before .before .before .before .before in
+    omega (arith, callee-small (past .pre .table) (past .pre .field) (past .pre .called))
 
 put-working-requires : tie.Need-put-working-requires
 put-working-requires c κs =
-    let M = c .before .before .before .before .before .before .before .before .before .pre in
-    (M .size, M .slot, M .least, subst (λ (i : ℕ). Reaches (c .before .before .before .before .before .before .before .before .before .args .parent) i) (sym (c .before .child .ensures)) (M .reaches))
+    let past = c .before .before .before .before .before .before .before .before .before in
+    let M = past .pre in
+    (M .size, M .slot, M .least, subst (λ (i : ℕ). Reaches (past .args .parent) i) (sym (c .before .child .ensures)) (M .reaches))
 
 add-bind-names : tie.Need-add-bind-names
 add-bind-names c =
@@ -48,7 +52,8 @@ add-bind-names c =
 
 bind-names-requires : tie.Need-bind-names-requires
 bind-names-requires c κs =
-    names-may-bind (c .before .before .before .before .before .before .before .before .before .before .before .before .before .pre) (c .before .before .before .before .before .before .before .before .before .before .opening-of .ensures .1) (c .before .before .before .put-working .ensures)
+    let past = c .before .before .before .before .before .before .before .before .before .before in
+    names-may-bind (past .before .before .before .pre) (past .opening-of .ensures .1) (c .before .before .before .put-working .ensures)
 
 same-length : tie.Need-same-length
 same-length c =
@@ -56,11 +61,14 @@ same-length c =
 
 returns : tie.Need-returns
 returns c =
-    let a = c .before .before .before .before .before .before .before .before .before .before .before .before .before .before .before .before .args in
-    let M = c .before .before .before .before .before .before .before .before .before .before .before .before .before .before .before .before .pre in
-    child-row-filled M (c .before .before .before .before .before .before .before .before .before .before .before .before .before .opening-of .ensures .1) (c .before .before .before .before .before .before .before .before .before .before .wait-mark .result)
-    (c .before .before .before .before .before .before .before .before .before .before .wait-mark .ensures ∙ ap (λ (x : ℕ). isWait (instructionAt (tableListing (now (a .t))) (a .callee) x)) (c .before .before .before .before .before .before .before .before .before .before .before .place .ensures))
-    (rw (c .before .before .before .before .before .before .before .before .child .ensures) at (c .before .before .before .before .before .before .put-working .ensures)) (c .before .before .bind-names .ensures)
+    let past = c .before .before .before .before .before .before in
+    let earlier = past .before .before .before .before .before in
+    let former = earlier .before .before .before .before .before in
+    let a = former .args in
+    let M = former .pre in
+    child-row-filled M (earlier .before .before .opening-of .ensures .1) (past .before .before .before .before .wait-mark .result)
+    (past .before .before .before .before .wait-mark .ensures ∙ ap (λ (x : ℕ). isWait (instructionAt (tableListing (now (a .t))) (a .callee) x)) (earlier .place .ensures))
+    (rw (past .before .before .child .ensures) at (past .put-working .ensures)) (c .before .before .bind-names .ensures)
 
 pub fill-row-spec : {M : Type 1} → statement M
 fill-row-spec =

@@ -22,7 +22,8 @@ sooner-of-variables-requires c κs = search needs
 
 order-slots-requires : tie.Need-order-slots-requires
 order-slots-requires c κs =
-    (search needs, cleared-tidy (c .before .before .before .before .before .clear-header .ensures) (c .before .before .before .before .before .before .before .before .pre .2))
+    let past = c .before .before .before .before .before in
+    (search needs, cleared-tidy (past .clear-header .ensures) (past .before .before .before .pre .2))
 
 set-places-requires : tie.Need-set-places-requires
 set-places-requires c κs =
@@ -43,12 +44,15 @@ same-length c = search needs
 
 returns : tie.Need-returns
 returns c =
-    let a = c .before .before .before .before .before .before .before .before .before .before .before .before .before .before .before .before .before .before .before .before .before .before .before .args in
-    let h = c .before .before .before .before .before .before .before .before .before .before .before .before .before .before .before .before .before .before .before .before .clear-header .ensures in
-    let o = c .before .before .before .before .before .before .before .before .before .before .before .before .before .before .order-slots .ensures in (
+    let past = c .before .before .before .before .before .before in
+    let earlier = past .before .before .before .before .before .before .before .before in
+    let former = earlier .before .before .before .before .before .before in
+    let a = former .before .before .before .args in
+    let h = former .clear-header .ensures in
+    let o = earlier .order-slots .ensures in (
       subst (λ (l : List ℕ). Ended (a .present .0) (walkingOrder (rowsOf (now (a .m)))) (now (a .m)) l) (sym (c .before .before .store-header .ensures))
-          (instant-ended (a .present .0) _ (search needs) h (o .0) (c .before .before .before .before .before .before .before .before .before .before .set-places .ensures) (c .before .before .before .before .before .before .clear-working .ensures)),
-      all-due (now (a .m)) _ (a .size) _ _ h (c .before .before .before .before .before .before .before .before .before .before .before .before .before .before .before .before .before .before .before .before .before .before .before .pre .1) (c .before .before .before .before .before .before .before .before .before .before .before .before .before .before .before .before .sooner-of-variables .ensures) (o .1),
+          (instant-ended (a .present .0) _ (search needs) h (o .0) (past .before .before .before .before .set-places .ensures) (past .clear-working .ensures)),
+      all-due (now (a .m)) _ (a .size) _ _ h (former .before .before .before .pre .1) (earlier .before .before .sooner-of-variables .ensures) (o .1),
     )
 
 pub finish-spec : {M : Type 1} → statement M

@@ -38,9 +38,10 @@ cast-put-word c = search needs
 
 put-word-requires : tie.Need-put-word-requires Inv-loop μ-loop
 put-word-requires c κs =
-    let a = c .before .before .before .before .before .args in
+    let past = c .before .before .before .before .before in
+    let a = past .args in
     let v = c .before .before .before .loop in
-    let z = slot-small (v .k) (a .count) (search needs) (search needs) (search needs) (c .before .before .before .before .before .pre .2) (c .before .before .before .before .before .pre .3) (v .inv .1) in
+    let z = slot-small (v .k) (a .count) (search needs) (search needs) (search needs) (past .pre .2) (past .pre .3) (v .inv .1) in
     (search needs, omega (arith, z), search needs)
 
 add-k : tie.Need-add-k Inv-loop μ-loop
@@ -51,10 +52,11 @@ loop-less c = search needs
 
 loop-again : tie.Need-loop-again Inv-loop μ-loop
 loop-again c =
-    let a = c .before .before .before .before .before .before .before .before .args in
-    let v = c .before .before .before .before .before .before .loop in (
+    let past = c .before .before .before .before .before .before in
+    let a = past .before .before .args in
+    let v = past .loop in (
       search needs,
-      one-more-placed (v .k) (a .count) (search needs) (search needs) (search needs) (c .before .before .before .before .before .before .before .before .pre .2) (c .before .before .before .before .before .before .before .before .pre .3) (v .inv .1) (c .before .before .put-word .ensures),
+      one-more-placed (v .k) (a .count) (search needs) (search needs) (search needs) (past .before .before .pre .2) (past .before .before .pre .3) (v .inv .1) (c .before .before .put-word .ensures),
     )
 
 same-length : tie.Need-same-length Inv-loop μ-loop

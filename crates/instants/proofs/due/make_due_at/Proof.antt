@@ -17,9 +17,10 @@ same-length c = search needs
 
 returns : tie.Need-returns
 returns c =
-    let a = c .before .before .before .before .before .before .before .before .args in
-    let p = c .before .before .before .before .before .before .before .before .pre in
-    let slots = c .before .before .before .before .before .make-due-slots .ensures in (
+    let past = c .before .before .before .before .before in
+    let a = past .before .before .before .args in
+    let p = past .before .before .before .pre in
+    let slots = past .make-due-slots .ensures in (
       due-made (a .n) (a .present .0) (search needs) (search needs) (now (a .m)) _ _ (slots .0) (environment-told (a .n) (a .present .0) (slots .0) (p .4 .environment (c .if1 .taken))),
       slots .1,
       slots .2 (a .n),
@@ -33,8 +34,9 @@ same-length-2 c = search needs
 
 returns-2 : tie.Need-returns-2
 returns-2 c =
-    let a = c .before .before .before .before .before .before .before .before .before .before .before .before .args in
-    let slots = c .before .before .before .before .before .before .before .before .before .make-due-slots .ensures in
+    let past = c .before .before .before .before .before .before .before .before .before in
+    let a = past .before .before .before .args in
+    let slots = past .make-due-slots .ensures in
     let outer = c .before .before .make-due-in .ensures in (
       due-made (a .n) (a .present .0) (search needs) (search needs) (now (a .m)) _ _ (slots .0) (outer .0),
       outer .1,

@@ -36,9 +36,10 @@ loop-less c = search needs
 
 loop-again : tie.Need-loop-again Inv-loop μ-loop
 loop-again c =
-    let a = c .before .before .before .before .before .before .before .before .before .args in
-    let v = c .before .before .before .before .before .before .before .loop in
-    (search needs, one-more-due (a .s) (a .count) (a .present .0) (v .i) (search needs) (search needs) (search needs) (c .before .before .before .before .before .before .loop-test .taken) (v .inv .1) (c .before .before .before .before .make-due .ensures) (c .wake-if-written .ensures))
+    let past = c .before .before .before .before .before .before in
+    let a = past .before .before .before .args in
+    let v = past .before .loop in
+    (search needs, one-more-due (a .s) (a .count) (a .present .0) (v .i) (search needs) (search needs) (search needs) (past .loop-test .taken) (v .inv .1) (c .before .before .before .before .make-due .ensures) (c .wake-if-written .ensures))
 
 same-length : tie.Need-same-length Inv-loop μ-loop
 same-length c = search needs

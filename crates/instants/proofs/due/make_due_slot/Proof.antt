@@ -24,9 +24,10 @@ same-length c = search needs
 
 returns-2 : tie.Need-returns-2
 returns-2 c =
-    let a = c .before .before .before .before .before .before .args in (
+    let past = c .before .before .before .before .before .before in
+    let a = past .args in (
       free-slot-stays (a .present .0) (now (a .m)) (a .s) (sym (c .before .word-at .ensures) ∙ c .if2 .taken),
-      c .before .before .before .before .before .before .pre .4,
+      past .pre .4,
       λ n u. reaches-none n (now (a .m)) (slotsOf (a .ready)),
     )
 
@@ -44,10 +45,11 @@ same-length-2 c = search needs
 
 returns-3 : tie.Need-returns-3
 returns-3 c =
-    let a = c .before .before .before .before .before .before .before .before .before .before .before .before .before .args in
-    let own = c .before .before .before .before .at-most-16 .ensures ∙ ap (λ (n : ℕ). min n 16) (c .before .before .before .before .before .word-at2 .ensures) in
+    let past = c .before .before .before .before .before in
+    let a = past .before .before .before .before .before .before .before .before .args in
+    let own = c .before .before .before .before .at-most-16 .ensures ∙ ap (λ (n : ℕ). min n 16) (past .word-at2 .ensures) in
     let made = c .before .before .make-due-in .ensures in (
-      taken-slot-done (a .present .0) _ (λ z. c .before .before .before .before .before .before .before .if2 .left (c .before .before .before .before .before .before .before .before .word-at .ensures ∙ z)) own (made .0),
+      taken-slot-done (a .present .0) _ (λ z. past .before .before .if2 .left (past .before .before .before .word-at .ensures ∙ z)) own (made .0),
       made .1,
       λ n u. slot-reaches n (a .s) _ (search needs) own (made .2) u,
     )

@@ -42,8 +42,9 @@ loop-less c = search needs
 
 loop-again : tie.Need-loop-again Inv-loop μ-loop
 loop-again c =
-    let a = c .before .before .before .before .before .before .before .before .args in
-    let v = c .before .before .before .before .before .before .loop in
+    let past = c .before .before .before .before .before .before in
+    let a = past .before .before .args in
+    let v = past .loop in
     let one = c .before .before .make-due-slot .ensures in
     (search needs, one-more-slot (a .present .0) (v .s) (search needs) (v .inv .1) (one .0) (one .1) (one .2))
 

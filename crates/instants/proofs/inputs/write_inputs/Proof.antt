@@ -50,8 +50,9 @@ assign-requires c κs =
 
 wake-all-requires : tie.Need-wake-all-requires Inv-loop μ-loop
 wake-all-requires c κs =
-    let v = c .before .before .before .before .before .before .before .before .loop in
-    (search needs, search needs, c .before .before .before .before .before .before .before .before .before .before .before .before .pre .2 .below (v .k) (search needs), order-kept _ _ (slotsOf (v .woken)) (c .before .before .before .assign .ensures) (v .inv .2))
+    let past = c .before .before .before .before .before .before .before .before in
+    let v = past .loop in
+    (search needs, search needs, past .before .before .before .before .pre .2 .below (v .k) (search needs), order-kept _ _ (slotsOf (v .woken)) (c .before .before .before .assign .ensures) (v .inv .2))
 
 add-k : tie.Need-add-k Inv-loop μ-loop
 add-k c = search needs
@@ -61,10 +62,11 @@ loop-less c = search needs
 
 loop-again : tie.Need-loop-again Inv-loop μ-loop
 loop-again c =
-    let a = c .before .before .before .before .before .before .before .before .before .before .before .before .before .args in
-    let v = c .before .before .before .before .before .before .before .before .before .loop in
+    let past = c .before .before .before .before .before .before .before .before .before in
+    let a = past .before .before .before .before .args in
+    let v = past .loop in
     let w = c .wake-all .ensures in
-    let below = c .before .before .before .before .before .before .before .before .before .before .before .before .before .pre .2 .below (v .k) (search needs) in (
+    let below = past .before .before .before .before .pre .2 .below (v .k) (search needs) in (
       search needs,
       one-more-input (now (a .numbers)) (now (a .values)) (v .k) (search needs) (search needs) (v .inv .1) (c .before .before .before .before .assign .ensures),
       w .1,

@@ -43,8 +43,9 @@ same-length c = search needs
 
 returns-2 : tie.Need-returns-2
 returns-2 c =
-    let a = c .before .before .before .before .before .before .before .before .before .args in
-    let e = ap (outcomeOf (now (a .listing))) (sym (c .before .before .before .before .enum-told .given .1)) ∙ c .before .before .before .before .before .before .put-questions .ensures in
+    let past = c .before .before .before .before .before .before in
+    let a = past .before .before .before .args in
+    let e = ap (outcomeOf (now (a .listing))) (sym (c .before .before .before .before .enum-told .given .1)) ∙ past .put-questions .ensures in
     promised.filled (now (a .listing)) (now (a .table)) e _ (c .before .before .write-table .ensures) (search needs)
 
 pub load-spec : {M : Type 1} → statement M

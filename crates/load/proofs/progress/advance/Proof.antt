@@ -23,7 +23,8 @@ add-t7 c = search needs
 
 add-t8 : tie.Need-add-t8
 add-t8 c =
-    omega (arith, c .before .before .before .before .before .pre .cells, c .before .before .before .before .before .pre .more, ap wordsIn (c .before .before .before .holds .given .1))
+    let past = c .before .before .before .before .before in
+    omega (arith, past .pre .cells, past .pre .more, ap wordsIn (c .before .before .before .holds .given .1))
 
 add-t9 : tie.Need-add-t9
 add-t9 c = search needs

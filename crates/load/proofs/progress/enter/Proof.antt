@@ -59,14 +59,16 @@ same-length c = search needs
 
 returns : tie.Need-returns
 returns c =
-    rw (c .before .before .before .before .before .before .before .before .before .holds .given .1, c .before .before .put2 .ensures, c .before .before .before .before .before .before .put .ensures)
+    let past = c .before .before .before .before .before .before in
+    rw (past .before .before .before .holds .given .1, c .before .before .put2 .ensures, past .put .ensures)
 
 same-length-2 : tie.Need-same-length-2
 same-length-2 c = search needs
 
 returns-2 : tie.Need-returns-2
 returns-2 c =
-    rw (c .before .before .before .before .before .before .before .before .before .holds2 .given .1, c .before .before .put3 .ensures, c .before .before .before .before .before .before .put-entry .ensures)
+    let past = c .before .before .before .before .before .before in
+    rw (past .before .before .before .holds2 .given .1, c .before .before .put3 .ensures, past .put-entry .ensures)
 
 same-length-3 : tie.Need-same-length-3
 same-length-3 c = search needs

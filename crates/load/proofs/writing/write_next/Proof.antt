@@ -31,16 +31,18 @@ enter-requires c κs =
 
 advance-requires : tie.Need-advance-requires
 advance-requires c κs =
-    let p = c .before .before .before .before .before .before .before .before .before .before .before .pre in
-    turn.room _ (p .0) _ _ (p .1) (p .2) _ _ (c .before .before .before .before .before .before .before .write-line .ensures)
+    let past = c .before .before .before .before .before .before .before in
+    let p = past .before .before .before .before .pre in
+    turn.room _ (p .0) _ _ (p .1) (p .2) _ _ (past .write-line .ensures)
 
 same-length : tie.Need-same-length
 same-length c = search needs
 
 returns : tie.Need-returns
 returns c =
-    let p = c .before .before .before .before .before .before .before .before .before .before .before .before .pre in
-    let w = c .before .before .before .before .before .before .before .before .write-line .ensures in
+    let past = c .before .before .before .before .before .before .before .before in
+    let p = past .before .before .before .before .pre in
+    let w = past .write-line .ensures in
     let e = c .before .before .before .enter .ensures in (
       turn.progress-is _ (p .0) _ _ (p .1) (p .2) _ _ w _ _ e (c .advance .ensures),
       turn.words-are _ (p .0) _ _ (p .1) (p .2) _ _ w _ _ e (c .advance .ensures),

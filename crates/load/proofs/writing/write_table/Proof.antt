@@ -22,7 +22,8 @@ blank-requires c κs = search needs
 
 loop-holds : tie.Need-loop-holds Inv-loop μ-loop
 loop-holds c =
-    (beginning.writing-begun _ (c .before .before .before .before .before .before .pre .0) _ (now (c .before .before .before .before .before .before .args .t)) (c .before .before .before .before .before .before .pre .1) (c .before .before .blank .ensures), search needs)
+    let past = c .before .before .before .before .before .before in
+    (beginning.writing-begun _ (past .pre .0) _ (now (past .args .t)) (past .pre .1) (c .before .before .blank .ensures), search needs)
 
 write-next-requires : tie.Need-write-next-requires Inv-loop μ-loop
 write-next-requires c κs = search needs

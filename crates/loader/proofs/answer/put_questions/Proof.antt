@@ -30,18 +30,23 @@ there-place-requires c κs = search needs
 
 returns-4 : tie.Need-returns-4
 returns-4 c =
-    asking.refused-4 _ (not-false _ (c .before .before .before .before .before .before .if1 .left)) (now (c .before .before .before .before .before .before .before .before .args .s)) (sym (c .before .before .before .before .before .form-question .ensures) ∙ c .before .before .before .before .if2 .left) (sym (c .before .before .before .limit-place .ensures) ∙ c .before .before .if3 .left) _ (c .before .there-place .ensures) (c .if4 .taken)
+    let past = c .before .before .before .before .before in
+    asking.refused-4 _ (not-false _ (past .before .if1 .left)) (now (past .before .before .before .args .s)) (sym (past .form-question .ensures) ∙ c .before .before .before .before .if2 .left) (sym (c .before .before .before .limit-place .ensures) ∙ c .before .before .if3 .left) _ (c .before .there-place .ensures) (c .if4 .taken)
 
 ending-place-requires : tie.Need-ending-place-requires
 ending-place-requires c κs = search needs
 
 returns-5 : tie.Need-returns-5
 returns-5 c =
-    asking.refused-5 _ (not-false _ (c .before .before .before .before .before .before .before .before .if1 .left)) (now (c .before .before .before .before .before .before .before .before .before .before .args .s)) (sym (c .before .before .before .before .before .before .before .form-question .ensures) ∙ c .before .before .before .before .before .before .if2 .left) (sym (c .before .before .before .before .before .limit-place .ensures) ∙ c .before .before .before .before .if3 .left) (sym (c .before .before .before .there-place .ensures) ∙ c .before .before .if4 .left) _ (c .before .ending-place .ensures) (c .if5 .taken)
+    let past = c .before .before .before .before .before in
+    asking.refused-5 _ (not-false _ (past .before .before .before .if1 .left)) (now (past .before .before .before .before .before .args .s)) (sym (past .before .before .form-question .ensures) ∙ past .before .if2 .left)
+    (sym (past .limit-place .ensures) ∙ c .before .before .before .before .if3 .left) (sym (c .before .before .before .there-place .ensures) ∙ c .before .before .if4 .left) _ (c .before .ending-place .ensures) (c .if5 .taken)
 
 returns-6 : tie.Need-returns-6
 returns-6 c =
-    asking.all-passed _ (not-false _ (c .before .before .before .before .before .before .before .before .if1 .left)) (now (c .before .before .before .before .before .before .before .before .before .before .args .s)) (sym (c .before .before .before .before .before .before .before .form-question .ensures) ∙ c .before .before .before .before .before .before .if2 .left) (sym (c .before .before .before .before .before .limit-place .ensures) ∙ c .before .before .before .before .if3 .left) (sym (c .before .before .before .there-place .ensures) ∙ c .before .before .if4 .left) (sym (c .before .ending-place .ensures) ∙ c .if5 .left)
+    let past = c .before .before .before .before .before in
+    asking.all-passed _ (not-false _ (past .before .before .before .if1 .left)) (now (past .before .before .before .before .before .args .s)) (sym (past .before .before .form-question .ensures) ∙ past .before .if2 .left)
+    (sym (past .limit-place .ensures) ∙ c .before .before .before .before .if3 .left) (sym (c .before .before .before .there-place .ensures) ∙ c .before .before .if4 .left) (sym (c .before .ending-place .ensures) ∙ c .if5 .left)
 
 pub put-questions-spec : {M : Type 1} → statement M
 put-questions-spec =

@@ -22,8 +22,9 @@ word-field-requires c κs =
 
 returns : tie.Need-returns
 returns c =
-    let a = c .before .before .before .before .before .before .args in
-    openings.opens-held (now (a .s)) (a .place) (a .stop) (c .before .before .before .before .before .before .pre .0) (c .before .before .before .before .before .before .pre .1) _ (c .before .before .before .before .take-piece .ensures) _ (c .before .before .kinds-of .ensures) _ (c .before .word-field .ensures .0)
+    let past = c .before .before .before .before .before .before in
+    let a = past .args in
+    openings.opens-held (now (a .s)) (a .place) (a .stop) (past .pre .0) (past .pre .1) _ (c .before .before .before .before .take-piece .ensures) _ (c .before .before .kinds-of .ensures) _ (c .before .word-field .ensures .0)
 
 pub hold-opens-spec : {M : Type 1} → statement M
 hold-opens-spec =

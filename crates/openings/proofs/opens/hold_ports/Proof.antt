@@ -14,8 +14,9 @@ word-field-requires-2 c κs =
 
 returns : tie.Need-returns
 returns c =
-    let a = c .before .before .before .before .before .args in
-    openings.ports-held (now (a .s)) (a .place) (a .stop) (c .before .before .before .before .before .pre .0) (c .before .before .before .before .before .pre .1) _ (c .before .before .before .word-field .ensures .0) _ (c .before .word-field2 .ensures .0)
+    let past = c .before .before .before .before .before in
+    let a = past .args in
+    openings.ports-held (now (a .s)) (a .place) (a .stop) (past .pre .0) (past .pre .1) _ (c .before .before .before .word-field .ensures .0) _ (c .before .word-field2 .ensures .0)
 
 pub hold-ports-spec : {M : Type 1} → statement M
 hold-ports-spec = tie.close (tie.spec word-field-requires word-field-requires-2 returns)

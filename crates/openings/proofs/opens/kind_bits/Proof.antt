@@ -36,7 +36,8 @@ kind-bit-requires c κs =
 
 add-bits : tie.Need-add-bits Inv-loop μ-loop
 add-bits c =
-    omega (arith, openings.bits-word _ _ _ _ _ (c .before .before .before .loop .inv) (c .before .before .before .before .before .pre .1) (c .before .before .before .before .before .pre .2), c .kind-bit .ensures .1)
+    let past = c .before .before .before .before .before in
+    omega (arith, openings.bits-word _ _ _ _ _ (c .before .before .before .loop .inv) (past .pre .1) (past .pre .2), c .kind-bit .ensures .1)
 
 loop-less : tie.Need-loop-less Inv-loop μ-loop
 loop-less c =

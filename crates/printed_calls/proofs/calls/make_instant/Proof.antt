@@ -17,11 +17,13 @@ outputs-requires-2 c κs = search needs
 
 slice-aggregate-instant : tie.Need-slice-aggregate-instant
 slice-aggregate-instant c =
-    let a = c .before .before .before .before .before .before .before .before .before .args in sym (length-take-le (a .count) (now (a .in-numbers)) (c .before .before .before .before .before .before .before .before .before .pre .2))
+    let past = c .before .before .before .before .before .before .before .before .before in
+    let a = past .args in sym (length-take-le (a .count) (now (a .in-numbers)) (past .pre .2))
 
 slice-aggregate-instant-2 : tie.Need-slice-aggregate-instant-2
 slice-aggregate-instant-2 c =
-    let a = c .before .before .before .before .before .before .before .before .before .before .args in sym (length-take-le (a .count) (now (a .in-values)) (c .before .before .before .before .before .before .before .before .before .before .pre .3))
+    let past = c .before .before .before .before .before .before .before .before .before .before in
+    let a = past .args in sym (length-take-le (a .count) (now (a .in-values)) (past .pre .3))
 
 slice-aggregate-instant-3 : tie.Need-slice-aggregate-instant-3
 slice-aggregate-instant-3 c = search needs
@@ -51,17 +53,19 @@ same-length-2 c = c .before .out .given
 
 returns : tie.Need-returns
 returns c =
-    let s = c .before .before .before .before .before .before .before .before .before .before .instant in
+    let past = c .before .before .before .before .before .before .before .before in
+    let earlier = past .before .before .before .before .before .before .before .before in
+    let s = past .before .before .instant in
     record {
-      numbers = c .before .before .before .before .before .before .before .before .before .before .before .before .before .before .before .before .before .outputs .result;
-      values = c .before .before .before .before .before .before .before .before .before .before .before .before .before .before .before .before .outputs2 .result;
+      numbers = earlier .before .outputs .result;
+      values = earlier .outputs2 .result;
       numbers′ = _;
       values′ = _;
-      numbers-long = omega (arith, c .before .before .before .before .before .before .before .before .before .before .before .before .before .before .before .before .before .outputs .ensures);
-      values-long = omega (arith, c .before .before .before .before .before .before .before .before .before .before .before .before .before .before .before .before .outputs2 .ensures);
+      numbers-long = omega (arith, earlier .before .outputs .ensures);
+      values-long = omega (arith, earlier .outputs2 .ensures);
       result = resultOf (s .result);
       promise = s .ensures;
-      words = λ k. omega (arith, c .before .before .before .before .before .before .before .before .slice-known3 .given k);
+      words = λ k. omega (arith, past .slice-known3 .given k);
       prints = c .before .before .print-answer .ensures;
     }
 

@@ -40,17 +40,19 @@ same-length-2 c = c .before .out .given
 
 returns : tie.Need-returns
 returns c =
-    let s = c .before .before .before .before .before .before .before .before .before .before .start in
+    let past = c .before .before .before .before .before .before .before .before in
+    let earlier = past .before .before .before .before .before .before in
+    let s = past .before .before .start in
     record {
-      numbers = c .before .before .before .before .before .before .before .before .before .before .before .before .before .before .before .outputs .result;
-      values = c .before .before .before .before .before .before .before .before .before .before .before .before .before .before .outputs2 .result;
+      numbers = earlier .before .outputs .result;
+      values = earlier .outputs2 .result;
       numbers′ = _;
       values′ = _;
-      numbers-long = omega (arith, c .before .before .before .before .before .before .before .before .before .before .before .before .before .before .before .outputs .ensures);
-      values-long = omega (arith, c .before .before .before .before .before .before .before .before .before .before .before .before .before .before .outputs2 .ensures);
+      numbers-long = omega (arith, earlier .before .outputs .ensures);
+      values-long = omega (arith, earlier .outputs2 .ensures);
       result = resultOf (s .result);
       promise = s .ensures;
-      words = λ k. omega (arith, c .before .before .before .before .before .before .before .before .slice-known3 .given k);
+      words = λ k. omega (arith, past .slice-known3 .given k);
       prints = c .before .before .print-answer .ensures;
     }
 

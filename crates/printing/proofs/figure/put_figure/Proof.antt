@@ -40,9 +40,10 @@ loop-less c = omega (arith, c .before .before .before .before .before .loop-test
 
 loop-again : tie.Need-loop-again Inv-loop μ-loop
 loop-again c =
-    let v = c .before .before .before .before .before .before .loop in
-    let a = c .before .before .before .before .before .before .before .before .before .args in
-    decimals.storing-on _ (a .at) (a .n) _ _ _ _ (v .inv) (omega (arith, c .before .before .before .before .before .loop-test .taken))
+    let past = c .before .before .before .before .before in
+    let v = past .before .loop in
+    let a = past .before .before .before .before .args in
+    decimals.storing-on _ (a .at) (a .n) _ _ _ _ (v .inv) (omega (arith, past .loop-test .taken))
     _ (c .before .before .before .digit .ensures) _ (c .before .before .put-byte .ensures)
 
 add-result : tie.Need-add-result Inv-loop μ-loop

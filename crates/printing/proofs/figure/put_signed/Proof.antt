@@ -38,10 +38,11 @@ same-length-2 c = search needs
 
 returns-2 : tie.Need-returns-2
 returns-2 c =
-    let a = c .before .before .before .before .before .before .before .before .before .before .args in
+    let past = c .before .before .before .before .before .before in
+    let a = past .before .before .before .before .args in
     let e = c .before .before .put-figure2 .ensures in (
-      line.same-bytes (line.signed-high (a .word) (omega (arith, c .before .before .before .before .before .before .before .before .if1 .left)))
-          (line.then-bytes (line.one-byte (now (a .out)) (a .at) 45 _ (c .before .before .before .before .before .before .put-byte .ensures)) (e .0)),
+      line.same-bytes (line.signed-high (a .word) (omega (arith, past .before .before .if1 .left)))
+          (line.then-bytes (line.one-byte (now (a .out)) (a .at) 45 _ (past .put-byte .ensures)) (e .0)),
       omega (arith, e .1),
     )
 

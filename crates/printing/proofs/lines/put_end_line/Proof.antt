@@ -48,16 +48,19 @@ same-length c = search needs
 
 returns : tie.Need-returns
 returns c =
-    let a = c .before .before .before .before .before .before .before .before .before .before .before .before .before .before .before .before .before .before .before .before .before .before .before .before .before .args in
-    let first = c .before .before .before .before .before .before .before .before .before .before .before .before .before .before .put-figure .ensures in
-    let second = c .before .before .before .before .before .before .put-figure2 .ensures in (
+    let past = c .before .before .before .before .before .before in
+    let earlier = past .before .before .before .before .before .before .before .before in
+    let former = earlier .before .before .before .before .before .before .before .before in
+    let a = former .before .before .before .args in
+    let first = earlier .put-figure .ensures in
+    let second = past .put-figure2 .ensures in (
       line.same-bytes (line.end-line-is (a .code) (a .moment))
-          (line.then-bytes (line.one-byte (now (a .out)) (a .at) 88 _ (c .before .before .before .before .before .before .before .before .before .before .before .before .before .before .before .before .before .before .before .before .before .before .put-byte .ensures))
-          (line.then-bytes (line.one-byte (c .before .before .before .before .before .before .before .before .before .before .before .before .before .before .before .before .before .before .before .before .before .before .put-byte .last .0) (a .at + 1) 9 _ (c .before .before .before .before .before .before .before .before .before .before .before .before .before .before .before .before .before .before .put-byte2 .ensures))
+          (line.then-bytes (line.one-byte (now (a .out)) (a .at) 88 _ (former .put-byte .ensures))
+          (line.then-bytes (line.one-byte (former .put-byte .last .0) (a .at + 1) 9 _ (earlier .before .before .before .before .put-byte2 .ensures))
           (line.then-bytes (line.put-at (omega arith) (first .0))
-          (line.then-bytes (line.one-byte (c .before .before .before .before .before .before .before .before .before .before .before .before .before .before .put-figure .last .0) (c .before .before .before .before .before .before .before .before .before .before .before .before .before .before .put-figure .result) 9 _ (c .before .before .before .before .before .before .before .before .before .before .put-byte3 .ensures))
+          (line.then-bytes (line.one-byte (earlier .put-figure .last .0) (earlier .put-figure .result) 9 _ (past .before .before .before .before .put-byte3 .ensures))
           (line.then-bytes (second .0)
-          (line.one-byte (c .before .before .before .before .before .before .put-figure2 .last .0) (c .before .before .before .before .before .before .put-figure2 .result) 10 _ (c .before .before .put-byte4 .ensures))))))),
+          (line.one-byte (past .put-figure2 .last .0) (past .put-figure2 .result) 10 _ (c .before .before .put-byte4 .ensures))))))),
       omega (arith, first .1, second .1),
     )
 

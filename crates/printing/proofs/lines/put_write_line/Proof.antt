@@ -57,19 +57,23 @@ same-length c = search needs
 
 returns : tie.Need-returns
 returns c =
-    let a = c .before .before .before .before .before .before .before .before .before .before .before .before .before .before .before .before .before .before .before .before .before .before .before .before .before .before .before .before .before .before .before .before .before .args in
-    let first = c .before .before .before .before .before .before .before .before .before .before .before .before .before .before .before .before .before .before .before .before .before .before .put-figure .ensures in
-    let second = c .before .before .before .before .before .before .before .before .before .before .before .before .before .before .put-figure2 .ensures in
-    let third = c .before .before .before .before .before .before .put-signed .ensures in (
+    let past = c .before .before .before .before .before .before in
+    let earlier = past .before .before .before .before .before .before .before .before in
+    let former = earlier .before .before .before .before .before .before .before .before in
+    let older = former .before .before .before .before .before .before .before .before in
+    let a = older .before .before .before .args in
+    let first = former .put-figure .ensures in
+    let second = earlier .put-figure2 .ensures in
+    let third = past .put-signed .ensures in (
       line.same-bytes (line.write-line-is (record { moment = a .moment; number = a .number; value = a .value }))
-          (line.then-bytes (line.one-byte (now (a .out)) (a .at) 79 _ (c .before .before .before .before .before .before .before .before .before .before .before .before .before .before .before .before .before .before .before .before .before .before .before .before .before .before .before .before .before .before .put-byte .ensures))
-          (line.then-bytes (line.one-byte (c .before .before .before .before .before .before .before .before .before .before .before .before .before .before .before .before .before .before .before .before .before .before .before .before .before .before .before .before .before .before .put-byte .last .0) (a .at + 1) 9 _ (c .before .before .before .before .before .before .before .before .before .before .before .before .before .before .before .before .before .before .before .before .before .before .before .before .before .before .put-byte2 .ensures))
+          (line.then-bytes (line.one-byte (now (a .out)) (a .at) 79 _ (older .put-byte .ensures))
+          (line.then-bytes (line.one-byte (older .put-byte .last .0) (a .at + 1) 9 _ (former .before .before .before .before .put-byte2 .ensures))
           (line.then-bytes (line.put-at (omega arith) (first .0))
-          (line.then-bytes (line.one-byte (c .before .before .before .before .before .before .before .before .before .before .before .before .before .before .before .before .before .before .before .before .before .before .put-figure .last .0) (c .before .before .before .before .before .before .before .before .before .before .before .before .before .before .before .before .before .before .before .before .before .before .put-figure .result) 9 _ (c .before .before .before .before .before .before .before .before .before .before .before .before .before .before .before .before .before .before .put-byte3 .ensures))
+          (line.then-bytes (line.one-byte (former .put-figure .last .0) (former .put-figure .result) 9 _ (earlier .before .before .before .before .put-byte3 .ensures))
           (line.then-bytes (second .0)
-          (line.then-bytes (line.one-byte (c .before .before .before .before .before .before .before .before .before .before .before .before .before .before .put-figure2 .last .0) (c .before .before .before .before .before .before .before .before .before .before .before .before .before .before .put-figure2 .result) 9 _ (c .before .before .before .before .before .before .before .before .before .before .put-byte4 .ensures))
+          (line.then-bytes (line.one-byte (earlier .put-figure2 .last .0) (earlier .put-figure2 .result) 9 _ (past .before .before .before .before .put-byte4 .ensures))
           (line.then-bytes (third .0)
-          (line.one-byte (c .before .before .before .before .before .before .put-signed .last .0) (c .before .before .before .before .before .before .put-signed .result) 10 _ (c .before .before .put-byte5 .ensures))))))))),
+          (line.one-byte (past .put-signed .last .0) (past .put-signed .result) 10 _ (c .before .before .put-byte5 .ensures))))))))),
       omega (arith, first .1, second .1, third .1),
     )
 

@@ -38,17 +38,21 @@ put-write-line-requires c κs =
     omega (arith, few, most, pre .0, pre .1)
 
 add-k : tie.Need-add-k Inv-loop μ-loop
-add-k c = let l = c .before .before .before .before .before .before .loop-test .taken in let pre = c .before .before .before .before .before .before .before .before .before .before .before .pre in record { fits = omega (arith, l, pre .1) }
+add-k c =
+    let past = c .before .before .before .before .before .before in
+    let l = past .loop-test .taken in let pre = past .before .before .before .before .before .pre in record { fits = omega (arith, l, pre .1) }
 
 loop-less : tie.Need-loop-less Inv-loop μ-loop
 loop-less c = omega (arith, c .before .before .before .before .before .before .loop-test .taken)
 
 loop-again : tie.Need-loop-again Inv-loop μ-loop
 loop-again c =
-    let a = c .before .before .before .before .before .before .before .before .before .before .before .args in
-    let pre = c .before .before .before .before .before .before .before .before .before .before .before .pre in
-    let v = c .before .before .before .before .before .before .before .loop in
-    let l = c .before .before .before .before .before .before .loop-test .taken in
+    let past = c .before .before .before .before .before .before in
+    let earlier = past .before .before .before .before .before in
+    let a = earlier .args in
+    let pre = earlier .pre in
+    let v = past .before .loop in
+    let l = past .loop-test .taken in
     let e = c .before .before .put-write-line .ensures in
     listed.putting-on _ (a .at) (a .moment) _ _ (a .count) _ _ _ (v .inv) l (omega (arith, l, pre .2)) (omega (arith, l, pre .3)) _ _ (e .0) (e .1)
 

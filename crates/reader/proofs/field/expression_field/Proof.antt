@@ -25,15 +25,17 @@ returns c =
 
 returns-2 : tie.Need-returns-2
 returns-2 c =
+    let past = c .before .before .before .before .before in
     let v = c .before .before .before .g .given .0 in
     ap (λ (t : Bool). cond t (EV.Read (v .0 .count) (v .0 .there) (v .1 .0) (v .1 .1 .0)) EV.Bad) (sym (eq-eqb (v .0 .held) 1 (c .if1 .taken)))
-    ∙ ap gather.expressionBy (sym (c .before .before .before .g .given .1)) ∙ gather.expression-by (c .before .before .before .before .before .before .before .args .names) (omega arith) (now (c .before .before .before .before .before .before .before .args .s)) (c .before .before .before .before .before .before .before .args .place) _ _ (c .before .before .before .before .before .pieces-field .ensures)
+    ∙ ap gather.expressionBy (sym (c .before .before .before .g .given .1)) ∙ gather.expression-by (past .before .before .args .names) (omega arith) (now (past .before .before .args .s)) (past .before .before .args .place) _ _ (past .pieces-field .ensures)
 
 returns-3 : tie.Need-returns-3
 returns-3 c =
+    let past = c .before .before .before .before .before in
     let v = c .before .before .before .g .given .0 in
     ap (λ (t : Bool). cond t (EV.Read (v .0 .count) (v .0 .there) (v .1 .0) (v .1 .1 .0)) EV.Bad) (sym (ne-eqb (v .0 .held) 1 (c .if1 .left)))
-    ∙ ap gather.expressionBy (sym (c .before .before .before .g .given .1)) ∙ gather.expression-by (c .before .before .before .before .before .before .before .args .names) (omega arith) (now (c .before .before .before .before .before .before .before .args .s)) (c .before .before .before .before .before .before .before .args .place) _ _ (c .before .before .before .before .before .pieces-field .ensures)
+    ∙ ap gather.expressionBy (sym (c .before .before .before .g .given .1)) ∙ gather.expression-by (past .before .before .args .names) (omega arith) (now (past .before .before .args .s)) (past .before .before .args .place) _ _ (past .pieces-field .ensures)
 
 pub expression-field-spec : {M : Type 1} → statement M
 expression-field-spec =

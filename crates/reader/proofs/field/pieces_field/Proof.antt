@@ -39,9 +39,10 @@ gathered-requires c κs =
 
 returns-2 : tie.Need-returns-2 Inv-loop μ-loop
 returns-2 c =
-    let v = c .before .before .before .before .before .loop in
-    let one = c .before .before .gathered .ensures ∙ ap (gatherOne (c .before .before .before .before .before .before .before .before .args .names) (v .g)) (c .before .before .before .piece-of .ensures) in
-    gather.gathering-read (c .before .before .before .before .before .before .before .before .args .names) _ _ _ _ _ (v .inv) _ (c .before .before .before .before .take-piece .ensures) _ one (c .before .before .before .before .before .before .before .before .args .place) refl refl _ (c .before .before .before .before .before .before .if1 .left) (c .if2 .taken)
+    let past = c .before .before .before .before .before in
+    let v = past .loop in
+    let one = c .before .before .gathered .ensures ∙ ap (gatherOne (past .before .before .before .args .names) (v .g)) (c .before .before .before .piece-of .ensures) in
+    gather.gathering-read (past .before .before .before .args .names) _ _ _ _ _ (v .inv) _ (c .before .before .before .before .take-piece .ensures) _ one (past .before .before .before .args .place) refl refl _ (past .before .if1 .left) (c .if2 .taken)
 
 loop-less : tie.Need-loop-less Inv-loop μ-loop
 loop-less c =
@@ -53,9 +54,10 @@ loop-less c =
 
 loop-again : tie.Need-loop-again Inv-loop μ-loop
 loop-again c =
-    let v = c .before .before .before .before .before .loop in
-    let one = c .before .before .gathered .ensures ∙ ap (gatherOne (c .before .before .before .before .before .before .before .before .args .names) (v .g)) (c .before .before .before .piece-of .ensures) in
-    gather.gathering-on (c .before .before .before .before .before .before .before .before .args .names) _ _ _ _ _ (v .inv) _ (c .before .before .before .before .take-piece .ensures) _ one (c .if2 .left)
+    let past = c .before .before .before .before .before in
+    let v = past .loop in
+    let one = c .before .before .gathered .ensures ∙ ap (gatherOne (past .before .before .before .args .names) (v .g)) (c .before .before .before .piece-of .ensures) in
+    gather.gathering-on (past .before .before .before .args .names) _ _ _ _ _ (v .inv) _ (c .before .before .before .before .take-piece .ensures) _ one (c .if2 .left)
 
 pub pieces-field-spec : {M : Type 1} → statement M
 pieces-field-spec =

@@ -24,7 +24,9 @@ value-in-requires c κs = search needs
 
 returns : tie.Need-returns
 returns c =
-    gather.gather-first (c .before .before .before .before .before .before .before .before .args .names) (c .before .before .before .before .before .before .before .before .args .g) (c .before .before .before .before .before .before .before .before .args .p) _ _ _ _ _ (c .before .before .before .before .before .before .before .held-after .ensures) (c .before .before .before .before .before .before .is-value .ensures) (c .before .before .before .before .before .both .ensures) (c .before .before .before .before .is-there .ensures) (c .before .before .before .both2 .ensures) _ (c .value-in .ensures) (c .before .if1 .taken)
+    let past = c .before .before .before .before .before in
+    gather.gather-first (past .before .before .before .args .names) (past .before .before .before .args .g) (past .before .before .before .args .p) _ _ _ _ _ (past .before .before .held-after .ensures) (past .before .is-value .ensures)
+    (past .both .ensures) (c .before .before .before .before .is-there .ensures) (c .before .before .before .both2 .ensures) _ (c .value-in .ensures) (c .before .if1 .taken)
 
 both-requires-3 : tie.Need-both-requires-3
 both-requires-3 c κs = search needs
@@ -34,7 +36,9 @@ add-t11 c = search needs
 
 returns-2 : tie.Need-returns-2
 returns-2 c =
-    gather.gather-next (c .before .before .before .before .before .before .before .before .before .args .names) (c .before .before .before .before .before .before .before .before .before .args .g) (c .before .before .before .before .before .before .before .before .before .args .p) _ _ _ _ _ (c .before .before .before .before .before .before .before .before .held-after .ensures) (c .before .before .before .before .before .before .before .is-value .ensures) (c .before .before .before .before .before .before .both .ensures) (c .before .before .before .before .before .is-there .ensures) (c .before .before .before .before .both2 .ensures) _ (c .before .both3 .ensures) (c .before .before .if1 .left)
+    let past = c .before .before .before .before .before in
+    gather.gather-next (past .before .before .before .before .args .names) (past .before .before .before .before .args .g) (past .before .before .before .before .args .p) _ _ _ _ _ (past .before .before .before .held-after .ensures)
+    (past .before .before .is-value .ensures) (past .before .both .ensures) (past .is-there .ensures) (c .before .before .before .before .both2 .ensures) _ (c .before .both3 .ensures) (c .before .before .if1 .left)
 
 pub gathered-spec : {M : Type 1} → statement M
 gathered-spec =

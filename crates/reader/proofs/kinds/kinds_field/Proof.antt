@@ -29,12 +29,13 @@ returns c =
 
 kinds-of-requires : tie.Need-kinds-of-requires
 kinds-of-requires c κs =
-    let a = c .before .before .before .before .before .args in
+    let past = c .before .before .before .before .before in
+    let a = past .args in
     let s = now (a .s) in
     let r = c .before .before .take-piece .result in
     let ens : r ≡ takenAt s (a .place) = c .before .before .take-piece .ensures in
     let stop-is : r .stop ≡ getD s (pieceEnd s (a .place .offset)) 0 = ap (λ (t : Taken). t .stop) ens in
-    let t = places.taken-in s (a .place) (c .before .before .before .before .before .pre) in
+    let t = places.taken-in s (a .place) (past .pre) in
     let f : r .from ≡ takenAt s (a .place) .from = ap (λ (t : Taken). t .from) ens in
     let g : r .to ≡ takenAt s (a .place) .to = ap (λ (t : Taken). t .to) ens in
     (rw (f, g) (t .0), rw g (t .1))
@@ -47,25 +48,27 @@ enum-told c = search needs
 
 returns-2 : tie.Need-returns-2
 returns-2 c =
-    let a = c .before .before .before .before .before .before .before .before .args in
+    let past = c .before .before .before .before .before in
+    let a = past .before .before .before .args in
     let s = now (a .s) in
-    let r = c .before .before .before .before .before .take-piece .result in
-    let ens : r ≡ takenAt s (a .place) = c .before .before .before .before .before .take-piece .ensures in
+    let r = past .take-piece .result in
+    let ens : r ≡ takenAt s (a .place) = past .take-piece .ensures in
     let stop-is : r .stop ≡ getD s (pieceEnd s (a .place .offset)) 0 = ap (λ (t : Taken). t .stop) ens in
-    let sl : slice (r .from) (r .to) s ≡ firstPiece (drop (a .place .offset) s) = rw ens (places.before-slice endsPiece s (a .place .offset) (c .before .before .before .before .before .before .before .before .pre .inside)) in
+    let sl : slice (r .from) (r .to) s ≡ firstPiece (drop (a .place .offset) s) = rw ens (places.before-slice endsPiece s (a .place .offset) (past .before .before .before .pre .inside)) in
     let fg : kindsAnswer (firstPiece (drop (a .place .offset) s)) ≡ c .before .before .kinds-of .result = ap kindsAnswer (sym sl) ∙ sym (c .before .before .kinds-of .ensures) in
-    sym (kinds.kinds-piece s (a .place) (a .stop) (c .before .before .before .before .before .before .if1 .taken) (λ e. c .before .before .before .before .if2 .left (stop-is ∙ e)) ∙ rw (fg, c .enum-told .given .1))
+    sym (kinds.kinds-piece s (a .place) (a .stop) (past .before .if1 .taken) (λ e. c .before .before .before .before .if2 .left (stop-is ∙ e)) ∙ rw (fg, c .enum-told .given .1))
 
 returns-3 : tie.Need-returns-3
 returns-3 c =
-    let a = c .before .before .before .before .before .before .before .before .before .args in
+    let past = c .before .before .before .before .before in
+    let a = past .before .before .before .before .args in
     let s = now (a .s) in
-    let r = c .before .before .before .before .before .before .take-piece .result in
-    let ens : r ≡ takenAt s (a .place) = c .before .before .before .before .before .before .take-piece .ensures in
+    let r = past .before .take-piece .result in
+    let ens : r ≡ takenAt s (a .place) = past .before .take-piece .ensures in
     let stop-is : r .stop ≡ getD s (pieceEnd s (a .place .offset)) 0 = ap (λ (t : Taken). t .stop) ens in
-    let sl : slice (r .from) (r .to) s ≡ firstPiece (drop (a .place .offset) s) = rw ens (places.before-slice endsPiece s (a .place .offset) (c .before .before .before .before .before .before .before .before .before .pre .inside)) in
+    let sl : slice (r .from) (r .to) s ≡ firstPiece (drop (a .place .offset) s) = rw ens (places.before-slice endsPiece s (a .place .offset) (past .before .before .before .before .pre .inside)) in
     let fg : kindsAnswer (firstPiece (drop (a .place .offset) s)) ≡ c .before .before .before .kinds-of .result = ap kindsAnswer (sym sl) ∙ sym (c .before .before .before .kinds-of .ensures) in
-    sym (kinds.kinds-piece s (a .place) (a .stop) (c .before .before .before .before .before .before .before .if1 .taken) (λ e. c .before .before .before .before .before .if2 .left (stop-is ∙ e)) ∙ rw (fg, c .before .n .given .1) (ap (λ (t : Taken). KFV.Read (c .before .n .given .0 .0) (c .before .n .given .0 .1 .0) (t .stop) (t .next)) (sym ens)))
+    sym (kinds.kinds-piece s (a .place) (a .stop) (past .before .before .if1 .taken) (λ e. past .if2 .left (stop-is ∙ e)) ∙ rw (fg, c .before .n .given .1) (ap (λ (t : Taken). KFV.Read (c .before .n .given .0 .0) (c .before .n .given .0 .1 .0) (t .stop) (t .next)) (sym ens)))
 
 returns-4 : tie.Need-returns-4
 returns-4 c =

@@ -29,17 +29,19 @@ add-if3 c = search needs
 
 returns-2 : tie.Need-returns-2 Inv-loop μ-loop
 returns-2 c =
-    let a = c .before .before .before .before .before .args in
+    let past = c .before .before .before .before .before in
+    let a = past .args in
     let nf : a .from ≡ a .to → ⊥ = c .before .before .before .if1 .left in
-    let h : a .from < a .to = omega (arith, c .before .before .before .before .before .pre .0) in
-    sym (letters.kinds-dash (now (a .s)) (a .from) (a .to) h (c .before .before .before .before .before .pre .1) (c .before .if2 .taken) (c .if3 .taken))
+    let h : a .from < a .to = omega (arith, past .pre .0) in
+    sym (letters.kinds-dash (now (a .s)) (a .from) (a .to) h (past .pre .1) (c .before .if2 .taken) (c .if3 .taken))
 
 returns-3 : tie.Need-returns-3 Inv-loop μ-loop
 returns-3 c =
-    let a = c .before .before .before .before .before .args in
+    let past = c .before .before .before .before .before in
+    let a = past .args in
     let nf : a .from ≡ a .to → ⊥ = c .before .before .before .if1 .left in
-    let h : a .from < a .to = omega (arith, c .before .before .before .before .before .pre .0) in
-    sym (letters.kinds-dashed (now (a .s)) (a .from) (a .to) h (c .before .before .before .before .before .pre .1) (c .before .if2 .taken) (c .if3 .left))
+    let h : a .from < a .to = omega (arith, past .pre .0) in
+    sym (letters.kinds-dashed (now (a .s)) (a .from) (a .to) h (past .pre .1) (c .before .if2 .taken) (c .if3 .left))
 
 loop-holds : tie.Need-loop-holds Inv-loop μ-loop
 loop-holds c =
@@ -65,27 +67,31 @@ loop-less c = search needs
 
 loop-again : tie.Need-loop-again Inv-loop μ-loop
 loop-again c =
-    let v = c .before .before .before .before .before .loop in
-    let a = c .before .before .before .before .before .before .before .before .before .before .args in
-    letters.letters-on (now (a .s)) _ _ _ _ _ (v .inv) (c .before .before .before .before .loop-test .taken) (c .before .before .before .before .before .before .before .before .before .before .pre .1) (sym (c .before .before .is-kind .ensures) ∙ c .before .if4 .taken) _ (c .both .ensures)
+    let past = c .before .before .before .before .before in
+    let earlier = past .before .before .before .before .before in
+    let v = past .loop in
+    let a = earlier .args in
+    letters.letters-on (now (a .s)) _ _ _ _ _ (v .inv) (c .before .before .before .before .loop-test .taken) (earlier .pre .1) (sym (c .before .before .is-kind .ensures) ∙ c .before .if4 .taken) _ (c .both .ensures)
 
 returns-4 : tie.Need-returns-4 Inv-loop μ-loop
 returns-4 c =
+    let past = c .before .before .before .before .before in
     let v = c .before .before .before .before .loop in
-    let a = c .before .before .before .before .before .before .before .before .before .args in
-    let nf : a .from ≡ a .to → ⊥ = c .before .before .before .before .before .before .before .if1 .left in
-    let h : a .from < a .to = omega (arith, c .before .before .before .before .before .before .before .before .before .pre .0) in
-    sym (letters.kinds-some (now (a .s)) (a .from) (a .to) h (c .before .before .before .before .before .before .before .before .before .pre .1) (c .before .before .before .before .before .if2 .left) ∙ rw (letters.letters-out (now (a .s)) _ _ _ _ _ (v .inv) (c .before .before .before .loop-test .taken) (c .before .before .before .before .before .before .before .before .before .pre .1) (sym (c .before .is-kind .ensures) ∙ c .if4 .left)))
+    let a = past .before .before .before .before .args in
+    let nf : a .from ≡ a .to → ⊥ = past .before .before .if1 .left in
+    let h : a .from < a .to = omega (arith, past .before .before .before .before .pre .0) in
+    sym (letters.kinds-some (now (a .s)) (a .from) (a .to) h (past .before .before .before .before .pre .1) (past .if2 .left) ∙ rw (letters.letters-out (now (a .s)) _ _ _ _ _ (v .inv) (c .before .before .before .loop-test .taken) (past .before .before .before .before .pre .1) (sym (c .before .is-kind .ensures) ∙ c .if4 .left)))
 
 returns-5 : tie.Need-returns-5 Inv-loop μ-loop
 returns-5 c =
+    let past = c .before .before .before .before .before .before in
     let v = c .before .loop in
-    let a = c .before .before .before .before .before .before .args in
+    let a = past .args in
     let nf : a .from ≡ a .to → ⊥ = c .before .before .before .before .if1 .left in
-    let h : a .from < a .to = omega (arith, c .before .before .before .before .before .before .pre .0) in
+    let h : a .from < a .to = omega (arith, past .pre .0) in
     let at-end : v .i ≡ a .to = omega (arith, c .loop-test .left, v .inv .upTo) in
     let d = letters.letters-done (now (a .s)) _ _ _ _ _ (v .inv) at-end in
-    sym (letters.kinds-some (now (a .s)) (a .from) (a .to) h (c .before .before .before .before .before .before .pre .1) (c .before .before .if2 .left) ∙ rw (d .0, d .1, d .2))
+    sym (letters.kinds-some (now (a .s)) (a .from) (a .to) h (past .pre .1) (c .before .before .if2 .left) ∙ rw (d .0, d .1, d .2))
 
 pub kinds-of-spec : {M : Type 1} → statement M
 kinds-of-spec =

@@ -34,42 +34,47 @@ enum-told c = search needs
 
 returns : tie.Need-returns Inv-loop μ-loop
 returns c =
-    let v = c .before .before .before .before .before .loop in
-    let s = now (c .before .before .before .before .before .before .before .args .s) in
+    let past = c .before .before .before .before .before in
+    let v = past .loop in
+    let s = now (past .before .before .args .s) in
     sym (sym (v .inv .same) ∙ lines.place-unread s (v .at) (v .line) (c .before .before .before .before .loop-test .taken) (lines.line-unread _ _ s (v .at) (v .line) (sym (c .enum-told .given .1) ∙ c .before .before .read-line .ensures)))
 
 returns-2 : tie.Need-returns-2 Inv-loop μ-loop
 returns-2 c =
-    let v = c .before .before .before .before .before .before .before .loop in
-    let s = now (c .before .before .before .before .before .before .before .before .before .args .s) in
+    let past = c .before .before .before .before .before .before in
+    let v = past .before .loop in
+    let s = now (past .before .before .before .args .s) in
     let l = lines.line-read _ _ s (v .at) (v .line) _ _ _ (sym (c .before .before .r .given .1) ∙ c .before .before .before .before .read-line .ensures) in
-    sym (sym (v .inv .same) ∙ lines.place-open s (v .at) (v .line) (c .before .before .before .before .before .before .loop-test .taken) (λ e. c .if1 .taken (sym (l .stop-is) ∙ e)))
+    sym (sym (v .inv .same) ∙ lines.place-open s (v .at) (v .line) (past .loop-test .taken) (λ e. c .if1 .taken (sym (l .stop-is) ∙ e)))
 
 may-stand-on-requires : tie.Need-may-stand-on-requires Inv-loop μ-loop
 may-stand-on-requires c κs = search needs
 
 loop-less : tie.Need-loop-less Inv-loop μ-loop
 loop-less c =
-    let v = c .before .before .before .before .before .before .before .before .before .loop in
-    let s = now (c .before .before .before .before .before .before .before .before .before .before .before .args .s) in
-    let l = lines.line-read _ _ s (v .at) (v .line) _ _ _ (sym (c .before .before .before .before .r .given .1) ∙ c .before .before .before .before .before .before .read-line .ensures) in
+    let past = c .before .before .before .before .before .before in
+    let v = past .before .before .before .loop in
+    let s = now (past .before .before .before .before .before .args .s) in
+    let l = lines.line-read _ _ s (v .at) (v .line) _ _ _ (sym (c .before .before .before .before .r .given .1) ∙ past .read-line .ensures) in
     let m : lines.LineRead s (v .at) (v .line) _ 10 _ = rw (c .before .before .if1 .left) at l in
-    omega (arith, lines.pass-moved s (v .at) (v .line) _ _ (v .inv) m (sym (c .before .may-stand-on .ensures) ∙ c .if2 .taken), c .before .before .before .before .before .before .before .before .loop-test .taken)
+    omega (arith, lines.pass-moved s (v .at) (v .line) _ _ (v .inv) m (sym (c .before .may-stand-on .ensures) ∙ c .if2 .taken), past .before .before .loop-test .taken)
 
 loop-again : tie.Need-loop-again Inv-loop μ-loop
 loop-again c =
-    let v = c .before .before .before .before .before .before .before .before .before .loop in
-    let s = now (c .before .before .before .before .before .before .before .before .before .before .before .args .s) in
-    let l = lines.line-read _ _ s (v .at) (v .line) _ _ _ (sym (c .before .before .before .before .r .given .1) ∙ c .before .before .before .before .before .before .read-line .ensures) in
+    let past = c .before .before .before .before .before .before in
+    let v = past .before .before .before .loop in
+    let s = now (past .before .before .before .before .before .args .s) in
+    let l = lines.line-read _ _ s (v .at) (v .line) _ _ _ (sym (c .before .before .before .before .r .given .1) ∙ past .read-line .ensures) in
     let m : lines.LineRead s (v .at) (v .line) _ 10 _ = rw (c .before .before .if1 .left) at l in
     lines.pass-on s (v .at) (v .line) _ _ (v .inv) m (sym (c .before .may-stand-on .ensures) ∙ c .if2 .taken)
 
 returns-3 : tie.Need-returns-3 Inv-loop μ-loop
 returns-3 c =
-    let v = c .before .before .before .before .before .before .before .before .before .loop in
-    let s = now (c .before .before .before .before .before .before .before .before .before .before .before .args .s) in
-    let l = lines.line-read _ _ s (v .at) (v .line) _ _ _ (sym (c .before .before .before .before .r .given .1) ∙ c .before .before .before .before .before .before .read-line .ensures) in
-    sym (sym (v .inv .same) ∙ lines.place-unread s (v .at) (v .line) (c .before .before .before .before .before .before .before .before .loop-test .taken) (l .refused (sym (c .before .may-stand-on .ensures) ∙ c .if2 .left)))
+    let past = c .before .before .before .before .before .before in
+    let v = past .before .before .before .loop in
+    let s = now (past .before .before .before .before .before .args .s) in
+    let l = lines.line-read _ _ s (v .at) (v .line) _ _ _ (sym (c .before .before .before .before .r .given .1) ∙ past .read-line .ensures) in
+    sym (sym (v .inv .same) ∙ lines.place-unread s (v .at) (v .line) (past .before .before .loop-test .taken) (l .refused (sym (c .before .may-stand-on .ensures) ∙ c .if2 .left)))
 
 returns-4 : tie.Need-returns-4 Inv-loop μ-loop
 returns-4 c =

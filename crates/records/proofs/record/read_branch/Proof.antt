@@ -28,9 +28,10 @@ returns c =
 
 number-field-requires : tie.Need-number-field-requires
 number-field-requires c κs =
-    let a = c .before .before .before .before .before .args in
+    let past = c .before .before .before .before .before in
+    let a = past .args in
     let s = now (a .s) in
-    let g1 = chain.expression-got s (a .place) (a .stop) (c .before .before .before .before .before .pre) (a .scope .names) _ _ _ _ (sym (c .before .k .given .1) ∙ c .before .before .before .expression-field .ensures) in
+    let g1 = chain.expression-got s (a .place) (a .stop) (past .pre) (a .scope .names) _ _ _ _ (sym (c .before .k .given .1) ∙ c .before .before .before .expression-field .ensures) in
     g1 .1 .within
 
 enum-known-j : tie.Need-enum-known-j
@@ -41,16 +42,18 @@ enum-told-2 c = search needs
 
 returns-2 : tie.Need-returns-2
 returns-2 c =
-    let a = c .before .before .before .before .before .before .before .before .args in
+    let past = c .before .before .before .before .before .before in
+    let a = past .before .before .args in
     let s = now (a .s) in
-    let g1 = chain.expression-got s (a .place) (a .stop) (c .before .before .before .before .before .before .before .before .pre) (a .scope .names) _ _ _ _ (sym (c .before .before .before .before .k .given .1) ∙ c .before .before .before .before .before .before .expression-field .ensures) in
+    let g1 = chain.expression-got s (a .place) (a .stop) (past .before .before .pre) (a .scope .names) _ _ _ _ (sym (c .before .before .before .before .k .given .1) ∙ past .expression-field .ensures) in
     λ routines. chain.rest-bad routines (a .scope) _ _ _ (g1 .1 .on _ ∙ chain.number-none s _ _ (g1 .1 .within) (sym (c .enum-told2 .given .1) ∙ c .before .before .number-field .ensures) _)
 
 returns-3 : tie.Need-returns-3
 returns-3 c =
-    let a = c .before .before .before .before .before .before .before .before .before .before .args in
+    let past = c .before .before .before .before .before .before in
+    let a = past .before .before .before .before .args in
     let s = now (a .s) in
-    let g1 = chain.expression-got s (a .place) (a .stop) (c .before .before .before .before .before .before .before .before .before .before .pre) (a .scope .names) _ _ _ _ (sym (c .before .before .before .before .before .before .k .given .1) ∙ c .before .before .before .before .before .before .before .before .expression-field .ensures) in
+    let g1 = chain.expression-got s (a .place) (a .stop) (past .before .before .before .before .pre) (a .scope .names) _ _ _ _ (sym (past .k .given .1) ∙ past .before .before .expression-field .ensures) in
     let g2 = chain.number-got s _ _ (g1 .1 .within) _ _ _ (sym (c .before .before .j .given .1) ∙ c .before .before .before .before .number-field .ensures) in
     λ routines. chain.rest-bad routines (a .scope) _ _ _ (g1 .1 .on _ ∙ g2 .1 .on _ ∙ chain.end-open s (c .before .before .j .given .0 .1 .1 .0 .offset) _ (L.Line.instruction (L.Instruction.branch (g1 .0) (g2 .0))) (c .if1 .taken))
 
@@ -62,20 +65,24 @@ both-requires c κs = search needs
 
 add-t16 : tie.Need-add-t16
 add-t16 c =
-    let a = c .before .before .before .before .before .before .before .before .before .before .before .before .args in
+    let past = c .before .before .before .before .before .before in
+    let earlier = past .before .before .before .before .before .before in
+    let a = earlier .args in
     let s = now (a .s) in
-    let small : a .scope .names ≤ cap = omega (arith, c .before .before .before .before .before .before .before .before .before .before .before .before .good) in
-    let g1 = chain.expression-got s (a .place) (a .stop) (c .before .before .before .before .before .before .before .before .before .before .before .before .pre) (a .scope .names) _ _ _ _ (sym (c .before .before .before .before .before .before .before .before .k .given .1) ∙ c .before .before .before .before .before .before .before .before .before .before .expression-field .ensures) in
-    let g2 = chain.number-got s _ _ (g1 .1 .within) _ _ _ (sym (c .before .before .before .before .j .given .1) ∙ c .before .before .before .before .before .before .number-field .ensures) in
-    omega (arith, c .before .before .before .before .before .before .before .before .before .before .before .before .good, chain.expression-length s _ _ _ _ (g1 .0) (g1 .1), g1 .2, g1 .1 .moves, g1 .1 .within .inside, g2 .1 .opens, g1 .1 .moved (g2 .1 .opens))
+    let small : a .scope .names ≤ cap = omega (arith, earlier .good) in
+    let g1 = chain.expression-got s (a .place) (a .stop) (earlier .pre) (a .scope .names) _ _ _ _ (sym (past .before .before .k .given .1) ∙ past .before .before .before .before .expression-field .ensures) in
+    let g2 = chain.number-got s _ _ (g1 .1 .within) _ _ _ (sym (c .before .before .before .before .j .given .1) ∙ past .number-field .ensures) in
+    omega (arith, earlier .good, chain.expression-length s _ _ _ _ (g1 .0) (g1 .1), g1 .2, g1 .1 .moves, g1 .1 .within .inside, g2 .1 .opens, g1 .1 .moved (g2 .1 .opens))
 
 returns-4 : tie.Need-returns-4
 returns-4 c =
-    let a = c .before .before .before .before .before .before .before .before .before .before .before .before .args in
+    let past = c .before .before .before .before .before .before in
+    let earlier = past .before .before .before .before .before .before in
+    let a = earlier .args in
     let s = now (a .s) in
-    let small : a .scope .names ≤ cap = omega (arith, c .before .before .before .before .before .before .before .before .before .before .before .before .good) in
-    let g1 = chain.expression-got s (a .place) (a .stop) (c .before .before .before .before .before .before .before .before .before .before .before .before .pre) (a .scope .names) _ _ _ _ (sym (c .before .before .before .before .before .before .before .before .k .given .1) ∙ c .before .before .before .before .before .before .before .before .before .before .expression-field .ensures) in
-    let g2 = chain.number-got s _ _ (g1 .1 .within) _ _ _ (sym (c .before .before .before .before .j .given .1) ∙ c .before .before .before .before .before .before .number-field .ensures) in
+    let small : a .scope .names ≤ cap = omega (arith, earlier .good) in
+    let g1 = chain.expression-got s (a .place) (a .stop) (earlier .pre) (a .scope .names) _ _ _ _ (sym (past .before .before .k .given .1) ∙ past .before .before .before .before .expression-field .ensures) in
+    let g2 = chain.number-got s _ _ (g1 .1 .within) _ _ _ (sym (c .before .before .before .before .j .given .1) ∙ past .number-field .ensures) in
     λ routines. chain.rest-is routines (a .scope) s (a .place) (a .stop) _ (L.Line.instruction (L.Instruction.branch (g1 .0) (g2 .0))) _ _ _
     (g1 .1 .on _ ∙ g2 .1 .on _ ∙ chain.end-shut _ _ _ (c .before .before .if1 .left))
     (sym (g1 .1 .stops) ∙ sym (g2 .1 .stops) ∙ chain.stop-shut s _ _ (c .before .before .if1 .left))

@@ -43,8 +43,9 @@ enum-told c = search needs
 
 returns-2 : tie.Need-returns-2 Inv-loop μ-loop
 returns-2 c =
-    let a = c .before .before .before .before .before .before .before .args in
-    chain.rest-bad _ (a .scope) _ _ _ (forks.fork-unread _ (a .scope .names) (now (a .s)) _ _ _ _ _ _ _ _ _ (c .before .before .before .before .before .loop .inv) (omega (arith, c .before .before .before .before .before .before .before .good)) (c .before .before .before .before .loop-test .taken) (sym (c .enum-told .given .1) ∙ c .before .before .figures-field .ensures))
+    let past = c .before .before .before .before .before in
+    let a = past .before .before .args in
+    chain.rest-bad _ (a .scope) _ _ _ (forks.fork-unread _ (a .scope .names) (now (a .s)) _ _ _ _ _ _ _ _ _ (past .loop .inv) (omega (arith, past .before .before .good)) (c .before .before .before .before .loop-test .taken) (sym (c .enum-told .given .1) ∙ c .before .before .figures-field .ensures))
 
 call-is-there-requires : tie.Need-call-is-there-requires Inv-loop μ-loop
 call-is-there-requires c κs = search needs
@@ -58,13 +59,15 @@ add-count c =
 
 add-sum : tie.Need-add-sum Inv-loop μ-loop
 add-sum c =
-    let a = c .before .before .before .before .before .before .before .before .before .before .before .args in
+    let past = c .before .before .before .before .before .before in
+    let earlier = past .before .before .before .before .before in
+    let a = earlier .args in
     let s = now (a .s) in
-    let v = c .before .before .before .before .before .before .before .before .before .loop in
-    let small : a .scope .names ≤ cap = omega (arith, c .before .before .before .before .before .before .before .before .before .before .before .good) in
-    let g = chain.figures-got s _ _ (a .scope .names) small (v .inv .within) _ _ _ (sym (c .before .before .before .before .g .given .1) ∙ c .before .before .before .before .before .before .figures-field .ensures) in
+    let v = past .before .before .before .loop in
+    let small : a .scope .names ≤ cap = omega (arith, earlier .good) in
+    let g = chain.figures-got s _ _ (a .scope .names) small (v .inv .within) _ _ _ (sym (c .before .before .before .before .g .given .1) ∙ past .figures-field .ensures) in
     let f = forks.fork-sum _ _ s _ _ _ _ _ _ _ _ _ (v .inv) _ _ _ (g .0) (g .1) (g .2) (g .4) in
-    omega (arith, c .before .before .before .before .before .before .before .before .before .before .before .good)
+    omega (arith, earlier .good)
 
 loop-less : tie.Need-loop-less Inv-loop μ-loop
 loop-less c =
@@ -72,14 +75,16 @@ loop-less c =
 
 loop-again : tie.Need-loop-again Inv-loop μ-loop
 loop-again c =
-    let a = c .before .before .before .before .before .before .before .before .before .before .before .args in
+    let past = c .before .before .before .before .before .before in
+    let earlier = past .before .before .before .before .before in
+    let a = earlier .args in
     let s = now (a .s) in
-    let v = c .before .before .before .before .before .before .before .before .before .loop in
-    let small : a .scope .names ≤ cap = omega (arith, c .before .before .before .before .before .before .before .before .before .before .before .good) in
-    let g = chain.figures-got s _ _ (a .scope .names) small (v .inv .within) _ _ _ (sym (c .before .before .before .before .g .given .1) ∙ c .before .before .before .before .before .before .figures-field .ensures) in
-    let few : length (take (a .scope .routines) (now (a .arguments))) ≤ 64 = omega (arith, length-take (a .scope .routines) (now (a .arguments)), c .before .before .before .before .before .before .before .before .before .before .before .pre .1) in
+    let v = past .before .before .before .loop in
+    let small : a .scope .names ≤ cap = omega (arith, earlier .good) in
+    let g = chain.figures-got s _ _ (a .scope .names) small (v .inv .within) _ _ _ (sym (c .before .before .before .before .g .given .1) ∙ past .figures-field .ensures) in
+    let few : length (take (a .scope .routines) (now (a .arguments))) ≤ 64 = omega (arith, length-take (a .scope .routines) (now (a .arguments)), earlier .pre .1) in
     forks.fork-on _ _ s _ _ _ _ _ _ _ _ _ (v .inv) _ _ _ (g .0) (g .1) (g .2) (g .4) _
-    (forks.call-there (take (a .scope .routines) (now (a .arguments))) few (a .scope .names) _ (g .0) (g .1) (g .4) ∙ sym (c .before .before .call-is-there .ensures)) _ (c .before .both .ensures) (c .before .before .before .before .before .before .before .if1 .left)
+    (forks.call-there (take (a .scope .routines) (now (a .arguments))) few (a .scope .names) _ (g .0) (g .1) (g .4) ∙ sym (c .before .before .call-is-there .ensures)) _ (c .before .both .ensures) (past .before .if1 .left)
 
 returns-3 : tie.Need-returns-3 Inv-loop μ-loop
 returns-3 c =

@@ -28,9 +28,10 @@ returns c =
 
 returns-2 : tie.Need-returns-2
 returns-2 c =
-    let a = c .before .before .before .before .before .before .args in
+    let past = c .before .before .before .before .before .before in
+    let a = past .args in
     let s = now (a .s) in
-    let g1 = chain.number-got s (a .place) (a .stop) (c .before .before .before .before .before .before .pre) _ _ _ (sym (c .before .before .j .given .1) ∙ c .before .before .before .before .number-field .ensures) in
+    let g1 = chain.number-got s (a .place) (a .stop) (past .pre) _ _ _ (sym (c .before .before .j .given .1) ∙ c .before .before .before .before .number-field .ensures) in
     λ routines. chain.rest-bad routines (a .scope) _ _ _ (g1 .1 .on _ ∙ chain.end-open s (c .before .before .j .given .0 .1 .1 .0 .offset) _ (L.Line.instruction (L.Instruction.jump (g1 .0))) (c .if1 .taken))
 
 cast-t10 : tie.Need-cast-t10
@@ -38,10 +39,11 @@ cast-t10 c = search needs
 
 returns-3 : tie.Need-returns-3
 returns-3 c =
-    let a = c .before .before .before .before .before .before .before .args in
+    let past = c .before .before .before .before .before in
+    let a = past .before .before .args in
     let s = now (a .s) in
-    let small : a .scope .names ≤ cap = omega (arith, c .before .before .before .before .before .before .before .good) in
-    let g1 = chain.number-got s (a .place) (a .stop) (c .before .before .before .before .before .before .before .pre) _ _ _ (sym (c .before .before .before .j .given .1) ∙ c .before .before .before .before .before .number-field .ensures) in
+    let small : a .scope .names ≤ cap = omega (arith, past .before .before .good) in
+    let g1 = chain.number-got s (a .place) (a .stop) (past .before .before .pre) _ _ _ (sym (c .before .before .before .j .given .1) ∙ past .number-field .ensures) in
     λ routines. chain.rest-is routines (a .scope) s (a .place) (a .stop) _ (L.Line.instruction (L.Instruction.jump (g1 .0))) _ _ _
     (g1 .1 .on _ ∙ chain.end-shut _ _ _ (c .before .if1 .left))
     (sym (g1 .1 .stops) ∙ chain.stop-shut s _ _ (c .before .if1 .left))

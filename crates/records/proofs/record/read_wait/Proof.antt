@@ -29,26 +29,29 @@ returns c =
 
 returns-2 : tie.Need-returns-2
 returns-2 c =
-    let a = c .before .before .before .before .before .before .before .args in
+    let past = c .before .before .before .before .before in
+    let a = past .before .before .args in
     let s = now (a .s) in
-    let small : a .scope .names ≤ cap = omega (arith, c .before .before .before .before .before .before .before .good) in
-    let g = chain.figures-got s (a .place) (a .stop) (a .scope .names) small (c .before .before .before .before .before .before .before .pre) _ _ _ (sym (c .before .before .before .g .given .1) ∙ c .before .before .before .before .before .figures-field .ensures) in
+    let small : a .scope .names ≤ cap = omega (arith, past .before .before .good) in
+    let g = chain.figures-got s (a .place) (a .stop) (a .scope .names) small (past .before .before .pre) _ _ _ (sym (c .before .before .before .g .given .1) ∙ past .figures-field .ensures) in
     λ routines. chain.rest-bad routines (a .scope) _ _ _ (waits.names-many s (a .place) (a .stop) _ _ (g .0) (g .1) (g .2) _ (omega (arith, g .4 .count, c .if1 .taken)))
 
 returns-3 : tie.Need-returns-3
 returns-3 c =
-    let a = c .before .before .before .before .before .before .before .before .args in
+    let past = c .before .before .before .before .before .before in
+    let a = past .before .before .args in
     let s = now (a .s) in
-    let small : a .scope .names ≤ cap = omega (arith, c .before .before .before .before .before .before .before .before .good) in
-    let g = chain.figures-got s (a .place) (a .stop) (a .scope .names) small (c .before .before .before .before .before .before .before .before .pre) _ _ _ (sym (c .before .before .before .before .g .given .1) ∙ c .before .before .before .before .before .before .figures-field .ensures) in
+    let small : a .scope .names ≤ cap = omega (arith, past .before .before .good) in
+    let g = chain.figures-got s (a .place) (a .stop) (a .scope .names) small (past .before .before .pre) _ _ _ (sym (c .before .before .before .before .g .given .1) ∙ past .figures-field .ensures) in
     λ routines. chain.rest-bad routines (a .scope) _ _ _ (waits.names-few s (a .place) (a .stop) _ _ (g .0) (g .1) (g .2) _ (omega (arith, g .4 .count, c .before .if1 .left)) ∙ chain.end-open s (c .before .before .before .before .g .given .0 .1 .1 .0 .offset) _ (L.Line.instruction (L.Instruction.wait (g .0 ∷ g .1))) (c .if2 .taken))
 
 returns-4 : tie.Need-returns-4
 returns-4 c =
-    let a = c .before .before .before .before .before .before .before .before .args in
+    let past = c .before .before .before .before .before .before in
+    let a = past .before .before .args in
     let s = now (a .s) in
-    let small : a .scope .names ≤ cap = omega (arith, c .before .before .before .before .before .before .before .before .good) in
-    let g = chain.figures-got s (a .place) (a .stop) (a .scope .names) small (c .before .before .before .before .before .before .before .before .pre) _ _ _ (sym (c .before .before .before .before .g .given .1) ∙ c .before .before .before .before .before .before .figures-field .ensures) in
+    let small : a .scope .names ≤ cap = omega (arith, past .before .before .good) in
+    let g = chain.figures-got s (a .place) (a .stop) (a .scope .names) small (past .before .before .pre) _ _ _ (sym (c .before .before .before .before .g .given .1) ∙ past .figures-field .ensures) in
     λ routines. chain.rest-is routines (a .scope) s (a .place) (a .stop) _ (L.Line.instruction (L.Instruction.wait (g .0 ∷ g .1))) _ _ _
     (waits.names-few s (a .place) (a .stop) _ _ (g .0) (g .1) (g .2) _ (omega (arith, g .4 .count, c .before .if1 .left)) ∙ chain.end-shut _ _ _ (c .if2 .left))
     (sym (g .2 .stops) ∙ chain.stop-shut s _ _ (c .if2 .left))

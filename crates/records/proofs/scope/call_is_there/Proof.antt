@@ -27,13 +27,15 @@ add-if2 c = search needs
 
 returns-2 : tie.Need-returns-2
 returns-2 c =
-    let a = c .before .before .before .before .before .before .before .args in
-    sym (calls.call-fits (a .scope .routines) (now (a .arguments)) (a .g) (omega (arith, c .before .before .before .before .before .before .before .pre .0, c .before .before .before .before .before .before .before .pre .1)) (c .before .before .before .before .if1 .left) (c .if2 .taken ∙ ap (λ n. 1 + n) (c .before .before .wide .ensures .0)))
+    let past = c .before .before .before .before .before .before .before in
+    let a = past .args in
+    sym (calls.call-fits (a .scope .routines) (now (a .arguments)) (a .g) (omega (arith, past .pre .0, past .pre .1)) (c .before .before .before .before .if1 .left) (c .if2 .taken ∙ ap (λ n. 1 + n) (c .before .before .wide .ensures .0)))
 
 returns-3 : tie.Need-returns-3
 returns-3 c =
-    let a = c .before .before .before .before .before .before .before .args in
-    sym (calls.call-differs (a .scope .routines) (now (a .arguments)) (a .g) (omega (arith, c .before .before .before .before .before .before .before .pre .0, c .before .before .before .before .before .before .before .pre .1)) (c .before .before .before .before .if1 .left) (λ e. c .if2 .left (e ∙ ap (λ n. 1 + n) (sym (c .before .before .wide .ensures .0)))))
+    let past = c .before .before .before .before .before .before .before in
+    let a = past .args in
+    sym (calls.call-differs (a .scope .routines) (now (a .arguments)) (a .g) (omega (arith, past .pre .0, past .pre .1)) (c .before .before .before .before .if1 .left) (λ e. c .if2 .left (e ∙ ap (λ n. 1 + n) (sym (c .before .before .wide .ensures .0)))))
 
 pub call-is-there-spec : {M : Type 1} → statement M
 call-is-there-spec =

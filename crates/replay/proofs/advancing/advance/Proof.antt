@@ -30,9 +30,11 @@ same-length-3 c = c .before .out .given
 
 returns-2 : tie.Need-returns-2
 returns-2 c =
-    let a = c .before .before .before .before .before .before .before .before .before .before .before .before .before .before .before .before .before .args in
-    let s = c .before .before .before .before .before .before .step-on in
-    let long = sym (c .before .before .before .before .before .before .before .before .before .before .before .long-enough .ensures) ∙ not-false _ (c .before .before .before .before .before .before .before .before .before .before .if1 .left) in
+    let past = c .before .before .before .before .before .before in
+    let earlier = past .before .before .before .before .before in
+    let a = earlier .before .before .before .before .before .before .args in
+    let s = past .step-on in
+    let long = sym (earlier .long-enough .ensures) ∙ not-false _ (past .before .before .before .before .if1 .left) in
     went long (went-on (now (a .listing)) (now (a .trace)) (now (a .table)) (now (a .machine)) (now (a .out)) (a .phase) (s .last .1 .1 .0) (s .last .1 .1 .1 .0) (s .last .1 .1 .1 .1 .0) (s .result) long (s .ensures))
 
 pub advance-spec : {M : Type 1} → statement M

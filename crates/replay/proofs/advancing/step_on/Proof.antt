@@ -39,10 +39,11 @@ same-length-2 c = c .before .out .given
 
 returns : tie.Need-returns
 returns c =
-    let a = c .before .before .before .before .before .before .before .before .before .before .before .before .before .before .args in
+    let past = c .before .before .before .before .before .before .before in
+    let a = past .before .before .before .before .before .before .before .args in
     let s = c .before .before .before .before .from-opening in
     does-from (now (a .listing)) (now (a .trace)) (memories (now (a .table)) (now (a .machine)) (now (a .out))) (memories (s .last .1 .1 .0) (now (a .machine)) (s .last .1 .1 .1 .0))
-    (s .result) (a .phase) Opening (c .before .before .before .before .before .before .before .enum-told .given .1) (phases.from-opening (s .ensures) refl)
+    (s .result) (a .phase) Opening (past .enum-told .given .1) (phases.from-opening (s .ensures) refl)
 
 same-length-3 : tie.Need-same-length-3
 same-length-3 c = refl
@@ -55,10 +56,11 @@ same-length-5 c = c .before .out2 .given
 
 returns-2 : tie.Need-returns-2
 returns-2 c =
-    let a = c .before .before .before .before .before .before .before .before .before .before .before .before .before .before .before .args in
+    let past = c .before .before .before .before .before .before .before .before in
+    let a = past .before .before .before .before .before .before .before .args in
     let s = c .before .before .before .before .from-starting in
     does-from (now (a .listing)) (now (a .trace)) (memories (now (a .table)) (now (a .machine)) (now (a .out))) (memories (now (a .table)) (s .last .1 .0) (s .last .1 .1 .0))
-    (s .result) (a .phase) Starting (c .before .before .before .before .before .before .before .before .enum-told2 .given .1) (phases.from-starting (s .ensures) refl)
+    (s .result) (a .phase) Starting (past .enum-told2 .given .1) (phases.from-starting (s .ensures) refl)
 
 same-length-6 : tie.Need-same-length-6
 same-length-6 c = refl
@@ -71,10 +73,11 @@ same-length-8 c = c .before .out3 .given
 
 returns-3 : tie.Need-returns-3
 returns-3 c =
-    let a = c .before .before .before .before .before .before .before .before .before .before .before .before .before .before .before .before .args in
+    let past = c .before .before .before .before .before .before .before .before .before in
+    let a = past .before .before .before .before .before .before .before .args in
     let s = c .before .before .before .before .from-reading in
     does-from (now (a .listing)) (now (a .trace)) (memories (now (a .table)) (now (a .machine)) (now (a .out))) (memories (now (a .table)) (s .last .1 .1 .0) (s .last .1 .1 .1 .0))
-    (s .result) (a .phase) _ (c .before .before .before .before .before .before .before .before .before .phase .given .1) (phases.from-reading (s .ensures) refl)
+    (s .result) (a .phase) _ (past .phase .given .1) (phases.from-reading (s .ensures) refl)
 
 returns-4 : tie.Need-returns-4
 returns-4 c =

@@ -48,9 +48,10 @@ same-length-4 c = c .before .out3 .given
 
 returns-3 : tie.Need-returns-3
 returns-3 c =
-    let l = c .before .before .before .before .before .before .before .before .before .load in
-    let a = c .before .before .before .before .before .before .before .before .before .before .before .before .before .before .before .before .before .args in
-    let known = c .before .before .before .before .before .answer .given in
+    let past = c .before .before .before .before .before in
+    let l = past .before .before .before .before .load in
+    let a = past .before .before .before .before .before .before .before .before .before .before .before .before .args in
+    let known = past .answer .given in
     refused-opens (now (a .listing)) (now (a .trace)) (now (a .table)) (now (a .out)) (l .last .1 .0) (l .result) (omega arith) (omega arith) (l .ensures)
     (c .before .before .end-with3 .last .0) (c .before .before .end-with3 .result) _ _ (known .1) (c .before .before .end-with3 .ensures)
 

@@ -39,8 +39,9 @@ slice-aggregate-toward-call-2 c = search needs
 
 toward-call-requires : tie.Need-toward-call-requires
 toward-call-requires c κs =
-    let n = c .before .before .before .before .before .before .before .before .before .next-call in
-    let few = kept-few (n .ensures) _ _ _ (c .before .before .before .before .before .next .given .1) in
+    let past = c .before .before .before .before .before in
+    let n = past .before .before .before .before .next-call in
+    let few = kept-few (n .ensures) _ _ _ (past .next .given .1) in
     let ns : 17 ≤ length (n .last .1 .1 .0) = search needs in
     let vs : 17 ≤ length (n .last .1 .1 .1 .0) = search needs in
     (search needs, search needs, omega arith, omega arith, search needs)
@@ -65,12 +66,14 @@ same-length-2 c = c .before .out .given
 
 returns-2 : tie.Need-returns-2
 returns-2 c =
-    let a = c .before .before .before .before .before .before .before .before .before .before .before .before .before .before .before .before .before .before .before .before .before .before .before .before .args in
-    let n = c .before .before .before .before .before .before .before .before .before .before .before .before .before .before .next-call in
+    let past = c .before .before .before .before .before .before .before .before .before .before in
+    let earlier = past .before .before .before .before .before .before .before in
+    let a = earlier .before .before .before .before .before .before .before .args in
+    let n = past .before .before .before .before .next-call in
     let t = c .before .before .before .before .toward-call in
-    let ns : 17 ≤ length (n .last .1 .1 .0) = omega (arith, n .ensures .numbers-stay .size, c .before .before .before .before .before .before .before .before .before .before .before .before .before .before .before .before .before .before .inputs .ensures) in
-    let vs : 17 ≤ length (n .last .1 .1 .1 .0) = omega (arith, n .ensures .values-stay .size, c .before .before .before .before .before .before .before .before .before .before .before .before .before .before .before .before .before .inputs2 .ensures) in
-    read-call (n .ensures) (now (a .table)) (now (a .machine)) (now (a .out)) (a .clock) (t .last .1 .0) (t .last .1 .1 .1 .1 .0) (t .result) _ _ _ (c .before .before .before .before .before .before .before .before .before .before .next .given .1) ns vs (t .ensures .0) (t .ensures .1)
+    let ns : 17 ≤ length (n .last .1 .1 .0) = omega (arith, n .ensures .numbers-stay .size, earlier .before .inputs .ensures) in
+    let vs : 17 ≤ length (n .last .1 .1 .1 .0) = omega (arith, n .ensures .values-stay .size, earlier .inputs2 .ensures) in
+    read-call (n .ensures) (now (a .table)) (now (a .machine)) (now (a .out)) (a .clock) (t .last .1 .0) (t .last .1 .1 .1 .1 .0) (t .result) _ _ _ (past .next .given .1) ns vs (t .ensures .0) (t .ensures .1)
 
 same-length-3 : tie.Need-same-length-3
 same-length-3 c = c .before .before .before .machine2 .given
@@ -80,18 +83,20 @@ same-length-4 c = c .before .out2 .given
 
 returns-3 : tie.Need-returns-3
 returns-3 c =
-    let a = c .before .before .before .before .before .before .before .before .before .before .before .before .before .before .before .before .before .before .before .before .before .before .args in
-    let n = c .before .before .before .before .before .before .before .before .before .before .before .before .next-call in
+    let past = c .before .before .before .before .before .before .before .before in
+    let a = past .before .before .before .before .before .before .before .before .before .before .before .before .before .before .args in
+    let n = past .before .before .before .before .next-call in
     let t = c .before .before .before .before .until-end in
-    read-last (n .ensures) (now (a .table)) (now (a .machine)) (now (a .out)) (a .clock) (t .last .1 .0) (t .last .1 .1 .0) (t .result) _ _ (c .before .before .before .before .before .before .before .before .next2 .given .1) (t .ensures .0) (t .ensures .1)
+    read-last (n .ensures) (now (a .table)) (now (a .machine)) (now (a .out)) (a .clock) (t .last .1 .0) (t .last .1 .1 .0) (t .result) _ _ (past .next2 .given .1) (t .ensures .0) (t .ensures .1)
 
 same-length-5 : tie.Need-same-length-5
 same-length-5 c = c .before .out3 .given
 
 returns-4 : tie.Need-returns-4
 returns-4 c =
-    let a = c .before .before .before .before .before .before .before .before .before .before .before .before .before .before .before .before .before .before .args in
-    let n = c .before .before .before .before .before .before .before .before .next-call in
+    let past = c .before .before .before .before .before .before .before .before in
+    let a = past .before .before .before .before .before .before .before .before .before .before .args in
+    let n = past .next-call in
     let t = c .before .before .end-with in
     read-broken (n .ensures) (now (a .table)) (now (a .machine)) (now (a .out)) (a .clock) (now (a .machine)) (t .last .0) (t .result) (c .before .before .before .before .enum-told .given .1) refl (t .ensures)
 

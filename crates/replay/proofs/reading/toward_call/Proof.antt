@@ -28,8 +28,10 @@ same-length-2 c = c .before .before .out .given
 
 returns : tie.Need-returns
 returns c =
-    let f = c .before .before .before .before .before .before .before .before .before .before .before .before .before .before .before .before .fits in
-    (omega arith, phases.TowardCall.joins (rw (c .before .before .before .before .before .before .before .before .enum-told .given .1) at (c .before .before .before .before .before .before .before .before .before .before .due-before .ensures)) (c .before .before .before .before .before .make-instant .ensures) (c .step-after .ensures))
+    let past = c .before .before .before .before .before in
+    let earlier = past .before .before .before .before .before in
+    let f = earlier .before .before .before .before .before .before .fits in
+    (omega arith, phases.TowardCall.joins (rw (past .before .before .before .enum-told .given .1) at (earlier .due-before .ensures)) (past .make-instant .ensures) (c .step-after .ensures))
 
 make-instant-requires-2 : tie.Need-make-instant-requires-2
 make-instant-requires-2 c κs = search needs
@@ -45,8 +47,10 @@ same-length-4 c = c .before .before .out2 .given
 
 returns-2 : tie.Need-returns-2
 returns-2 c =
-    let f = c .before .before .before .before .before .before .before .before .before .before .before .before .before .before .before .before .before .fits in
-    (omega arith, phases.TowardCall.due (rw (c .before .before .before .before .before .before .before .before .before .soon .given .1) at (c .before .before .before .before .before .before .before .before .before .before .before .due-before .ensures)) (c .before .before .before .before .before .make-instant2 .ensures) (c .step-after2 .ensures))
+    let past = c .before .before .before .before .before in
+    let earlier = past .before .before .before .before .before .before in
+    let f = earlier .before .before .before .before .before .before .fits in
+    (omega arith, phases.TowardCall.due (rw (past .before .before .before .before .soon .given .1) at (earlier .due-before .ensures)) (past .make-instant2 .ensures) (c .step-after2 .ensures))
 
 pub toward-call-spec : {M : Type 1} → statement M
 toward-call-spec =

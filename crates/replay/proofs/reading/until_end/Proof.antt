@@ -26,8 +26,9 @@ same-length c = c .before .out .given
 
 returns : tie.Need-returns
 returns c =
-    let f = c .before .before .before .before .before .before .before .before .before .before .before .fits in
-    (omega arith, phases.UntilEnd.ends (rw (c .before .before .before .before .before .enum-told .given .1) at (c .before .before .before .before .before .before .before .due-until .ensures)) (c .before .before .before .before .end-code .ensures) refl (c .before .before .end-with .ensures))
+    let past = c .before .before .before .before .before in
+    let f = past .before .before .before .before .before .before .fits in
+    (omega arith, phases.UntilEnd.ends (rw (past .enum-told .given .1) at (past .before .before .due-until .ensures)) (c .before .before .before .before .end-code .ensures) refl (c .before .before .end-with .ensures))
 
 slice-aggregate-make-instant : tie.Need-slice-aggregate-make-instant
 slice-aggregate-make-instant c = search needs
@@ -49,8 +50,10 @@ same-length-3 c = c .before .before .out2 .given
 
 returns-2 : tie.Need-returns-2
 returns-2 c =
-    let f = c .before .before .before .before .before .before .before .before .before .before .before .before .before .before .before .before .before .fits in
-    (omega arith, phases.UntilEnd.due (rw (c .before .before .before .before .before .before .before .before .before .before .before .soon .given .1) at (c .before .before .before .before .before .before .before .before .before .before .before .before .before .due-until .ensures)) (c .before .before .before .before .before .make-instant .ensures) (c .step-after .ensures))
+    let past = c .before .before .before .before .before in
+    let earlier = past .before .before .before .before .before .before in
+    let f = earlier .before .before .before .before .before .before .fits in
+    (omega arith, phases.UntilEnd.due (rw (earlier .soon .given .1) at (earlier .before .before .due-until .ensures)) (past .make-instant .ensures) (c .step-after .ensures))
 
 pub until-end-spec : {M : Type 1} → statement M
 until-end-spec =

@@ -32,8 +32,9 @@ loop-less c = search needs
 
 loop-again : tie.Need-loop-again Inv-loop μ-loop
 loop-again c =
-    let g = one-taken _ _ (c .before .before .before .before .before .before .before .before .loop .inv) (omega (arith, c .before .before .before .before .before .before .before .loop-test .taken)) in
-    going-on _ _ g (c .before .before .before .before .before .step .ensures) (c .before .before .before .before .before .before .before .before .before .before .before .pre) (c .enum-told .given .1)
+    let past = c .before .before .before .before .before in
+    let g = one-taken _ _ (past .before .before .before .loop .inv) (omega (arith, past .before .before .loop-test .taken)) in
+    going-on _ _ g (past .step .ensures) (past .before .before .before .before .before .before .pre) (c .enum-told .given .1)
 
 enum-told-2 : tie.Need-enum-told-2 Inv-loop μ-loop
 enum-told-2 c =
@@ -41,12 +42,14 @@ enum-told-2 c =
 
 same-length : tie.Need-same-length Inv-loop μ-loop
 same-length c =
-    c .before .before .before .before .before .step .ensures .stays .outside .size ∙ c .before .before .before .before .before .before .before .before .loop .inv .stays .outside .size
+    let past = c .before .before .before .before .before in
+    past .step .ensures .stays .outside .size ∙ past .before .before .before .loop .inv .stays .outside .size
 
 returns : tie.Need-returns Inv-loop μ-loop
 returns c =
-    let g = one-taken _ _ (c .before .before .before .before .before .before .before .before .loop .inv) (omega (arith, c .before .before .before .before .before .before .before .loop-test .taken)) in
-    going-ends _ _ g (c .before .before .before .before .before .step .ensures) (c .before .before .before .before .before .before .before .before .before .before .before .pre) (c .enum-told2 .given .1)
+    let past = c .before .before .before .before .before in
+    let g = one-taken _ _ (past .before .before .before .loop .inv) (omega (arith, past .before .before .loop-test .taken)) in
+    going-ends _ _ g (past .step .ensures) (past .before .before .before .before .before .before .pre) (c .enum-told2 .given .1)
 
 enum-known-answer : tie.Need-enum-known-answer Inv-loop μ-loop
 enum-known-answer c =
@@ -54,12 +57,14 @@ enum-known-answer c =
 
 same-length-2 : tie.Need-same-length-2 Inv-loop μ-loop
 same-length-2 c =
-    c .before .before .before .before .before .before .step .ensures .stays .outside .size ∙ c .before .before .before .before .before .before .before .before .before .loop .inv .stays .outside .size
+    let past = c .before .before .before .before .before .before in
+    past .step .ensures .stays .outside .size ∙ past .before .before .before .loop .inv .stays .outside .size
 
 returns-2 : tie.Need-returns-2 Inv-loop μ-loop
 returns-2 c =
-    let g = one-taken _ _ (c .before .before .before .before .before .before .before .before .before .loop .inv) (omega (arith, c .before .before .before .before .before .before .before .before .loop-test .taken)) in
-    going-halts _ _ g (c .before .before .before .before .before .before .step .ensures) _ (c .before .answer .given .1)
+    let past = c .before .before .before .before .before .before in
+    let g = one-taken _ _ (past .before .before .before .loop .inv) (omega (arith, past .before .before .loop-test .taken)) in
+    going-halts _ _ g (past .step .ensures) _ (c .before .answer .given .1)
 
 same-length-3 : tie.Need-same-length-3 Inv-loop μ-loop
 same-length-3 c =

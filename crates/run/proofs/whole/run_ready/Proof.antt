@@ -15,7 +15,8 @@ enum-told c =
 
 run-on-requires : tie.Need-run-on-requires
 run-on-requires c κs =
-    may-run-first _ _ _ (c .before .before .before .before .before .before .next-ready .ensures) (c .before .before .before .before .before .before .before .before .before .before .pre) (c .before .enum-told .given .1)
+    let past = c .before .before .before .before .before .before in
+    may-run-first _ _ _ (past .next-ready .ensures) (past .before .before .before .before .pre) (c .before .enum-told .given .1)
 
 same-length : tie.Need-same-length
 same-length c =
@@ -35,7 +36,8 @@ same-length-2 c =
 
 returns-2 : tie.Need-returns-2
 returns-2 c =
-    first-ends _ _ _ (c .before .before .before .before .before .next-ready .ensures) (c .before .before .before .before .before .before .before .before .before .pre) (c .enum-told2 .given .1)
+    let past = c .before .before .before .before .before in
+    first-ends _ _ _ (past .next-ready .ensures) (past .before .before .before .before .pre) (c .enum-told2 .given .1)
 
 enum-known-answer : tie.Need-enum-known-answer
 enum-known-answer c =

@@ -37,7 +37,9 @@ part-same-end : tie.Need-part-same-end
 part-same-end c = search needs
 
 slice-aggregate-same : tie.Need-slice-aggregate-same
-slice-aggregate-same c = sym (length-take-le (c .before .before .before .before .before .before .before .args .n) (now (c .before .before .before .before .before .before .before .args .out)) (omega arith))
+slice-aggregate-same c =
+    let past = c .before .before .before .before .before .before .before in
+    sym (length-take-le (past .args .n) (now (past .args .out)) (omega arith))
 
 same-requires : tie.Need-same-requires
 same-requires c κs = search needs

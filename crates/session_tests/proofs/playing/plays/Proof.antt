@@ -22,7 +22,9 @@ is-over-requires : tie.Need-is-over-requires Inv-loop μ-loop
 is-over-requires c κs = tt
 
 take-step-requires : tie.Need-take-step-requires Inv-loop μ-loop
-take-step-requires c κs = still-long (made-as-long (c .before .before .before .before .before .loop .inv .made)) (c .before .before .before .before .before .before .before .before .before .before .before .before .pre)
+take-step-requires c κs =
+    let past = c .before .before .before .before .before in
+    still-long (made-as-long (past .loop .inv .made)) (past .before .before .before .before .before .before .before .pre)
 
 enum-known-next : tie.Need-enum-known-next Inv-loop μ-loop
 enum-known-next c = search needs
@@ -31,29 +33,39 @@ enum-told : tie.Need-enum-told Inv-loop μ-loop
 enum-told c = search needs
 
 same-length : tie.Need-same-length Inv-loop μ-loop
-same-length c = c .before .before .before .before .before .before .before .table .given ∙ made-as-long (c .before .before .before .before .before .before .before .before .before .before .before .before .before .before .loop .inv .made) .table-is
+same-length c =
+    let past = c .before .before .before .before .before .before .before in
+    past .table .given ∙ made-as-long (past .before .before .before .before .before .before .before .loop .inv .made) .table-is
 
 same-length-2 : tie.Need-same-length-2 Inv-loop μ-loop
-same-length-2 c = c .before .before .before .before .before .machine .given ∙ made-as-long (c .before .before .before .before .before .before .before .before .before .before .before .before .before .before .loop .inv .made) .machine-is
+same-length-2 c =
+    let past = c .before .before .before .before .before in
+    past .machine .given ∙ made-as-long (past .before .before .before .before .before .before .before .before .before .loop .inv .made) .machine-is
 
 same-length-3 : tie.Need-same-length-3 Inv-loop μ-loop
 same-length-3 c = c .before .before .before .out .given ∙ made-as-long (c .before .before .before .before .before .before .before .before .before .before .before .before .before .before .loop .inv .made) .out-is
 
 returns : tie.Need-returns Inv-loop μ-loop
 returns c =
-    let is-going = sym (c .before .before .before .before .before .before .before .before .before .before .before .before .before .is-over .ensures) ∙ not-true _ (c .before .before .before .before .before .before .before .before .before .before .before .before .if1 .taken) in
-    let wrong = taken-wrong (c .before .before .before .before .before .before .before .before .before .before .before .before .before .before .loop .inv) is-going (c .before .before .before .before .before .before .before .before .take-step .ensures) (c .enum-told .given .1) in
+    let past = c .before .before .before .before .before .before .before .before in
+    let earlier = past .before .before .before .before .before in
+    let is-going = sym (earlier .is-over .ensures) ∙ not-true _ (past .before .before .before .before .if1 .taken) in
+    let wrong = taken-wrong (earlier .before .loop .inv) is-going (past .take-step .ensures) (c .enum-told .given .1) in
     (wrong, record { table-is = same-length c; machine-is = same-length-2 c; out-is = same-length-3 c })
 
 loop-less : tie.Need-loop-less Inv-loop μ-loop
 loop-less c =
-    let is-going = sym (c .before .before .before .before .before .before .before .before .before .before .before .before .before .before .is-over .ensures) ∙ not-true _ (c .before .before .before .before .before .before .before .before .before .before .before .before .before .if1 .taken) in
-    taken-less (c .before .before .before .before .before .before .before .before .before .before .before .before .before .before .before .loop .inv) is-going (c .before .before .before .before .before .before .before .before .before .take-step .ensures) (c .before .next .given .1)
+    let past = c .before .before .before .before .before .before .before .before .before in
+    let earlier = past .before .before .before .before .before in
+    let is-going = sym (earlier .is-over .ensures) ∙ not-true _ (past .before .before .before .before .if1 .taken) in
+    taken-less (earlier .before .loop .inv) is-going (past .take-step .ensures) (c .before .next .given .1)
 
 loop-again : tie.Need-loop-again Inv-loop μ-loop
 loop-again c =
-    let is-going = sym (c .before .before .before .before .before .before .before .before .before .before .before .before .before .before .is-over .ensures) ∙ not-true _ (c .before .before .before .before .before .before .before .before .before .before .before .before .before .if1 .taken) in
-    taken-on (c .before .before .before .before .before .before .before .before .before .before .before .before .before .before .before .loop .inv) is-going (c .before .before .before .before .before .before .before .before .before .take-step .ensures) (c .before .next .given .1)
+    let past = c .before .before .before .before .before .before .before .before .before in
+    let earlier = past .before .before .before .before .before in
+    let is-going = sym (earlier .is-over .ensures) ∙ not-true _ (past .before .before .before .before .if1 .taken) in
+    taken-on (earlier .before .loop .inv) is-going (past .take-step .ensures) (c .before .next .given .1)
 
 same-length-4 : tie.Need-same-length-4 Inv-loop μ-loop
 same-length-4 c = made-as-long (c .before .before .loop .inv .made) .table-is

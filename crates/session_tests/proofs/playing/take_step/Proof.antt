@@ -33,7 +33,9 @@ same-length-3 : tie.Need-same-length-3
 same-length-3 c = c .before .before .before .out .given
 
 returns : tie.Need-returns
-returns c = not-short (rw (c .enum-told .given .1) at (c .before .before .before .before .before .before .before .before .advance .ensures)) (c .before .before .before .before .before .before .before .before .before .before .before .before .before .before .before .before .before .before .pre)
+returns c =
+    let past = c .before .before .before .before .before .before .before .before in
+    not-short (rw (c .enum-told .given .1) at (past .advance .ensures)) (past .before .before .before .before .before .before .before .before .before .before .pre)
 
 same-length-4 : tie.Need-same-length-4
 same-length-4 c = c .before .before .before .before .before .before .before .before .before .before .before .before .table .given
@@ -46,7 +48,8 @@ same-length-6 c = c .before .before .before .before .before .before .before .bef
 
 returns-2 : tie.Need-returns-2
 returns-2 c =
-    failed (call-of (c .before .before .before .before .before .before .before .before .before .before .before .before .before .advance .ensures) (c .before .before .before .before .before .next .given .1) (record { table-is = same-length-4 c; machine-is = same-length-5 c; out-is = same-length-6 c }))
+    let past = c .before .before .before .before .before in
+    failed (call-of (past .before .before .before .before .before .before .before .before .advance .ensures) (past .next .given .1) (record { table-is = same-length-4 c; machine-is = same-length-5 c; out-is = same-length-6 c }))
     (not-followed (c .before .before .follows .ensures) (c .enum-told2 .given .1))
 
 same-length-7 : tie.Need-same-length-7
@@ -60,8 +63,9 @@ same-length-9 c = c .before .before .before .before .before .before .before .bef
 
 returns-3 : tie.Need-returns-3
 returns-3 c =
+    let past = c .before .before .before .before .before .before in
     let f = followed (c .before .before .before .follows .ensures) (c .before .to .given .1) in
-    on (call-of (c .before .before .before .before .before .before .before .before .before .before .before .before .before .before .advance .ensures) (c .before .before .before .before .before .before .next .given .1) (record { table-is = same-length-7 c; machine-is = same-length-8 c; out-is = same-length-9 c })) (f .0) (f .1)
+    on (call-of (past .before .before .before .before .before .before .before .before .advance .ensures) (past .next .given .1) (record { table-is = same-length-7 c; machine-is = same-length-8 c; out-is = same-length-9 c })) (f .0) (f .1)
 
 pub take-step-spec : {M : Type 1} → statement M
 take-step-spec =

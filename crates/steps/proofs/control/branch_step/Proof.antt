@@ -26,11 +26,13 @@ same-length c = search needs
 
 returns : tie.Need-returns
 unfolding branchPlace
-returns c = λ listing moment.
-    let a = c .before .before .before .before .before .before .before .before .before .args in
-    let v = c .before .before .before .before .before .evaluate .result in
+returns c =
+    let past = c .before .before .before .before .before in
+    λ listing moment.
+    let a = past .before .before .before .before .args in
+    let v = past .evaluate .result in
     let here : branchPlace (eqb v 0) (a .k) (suc ((rowsOf (now (a .m)) (a .running .me)) .place)) ≡ a .k = rw (eq-eqb v 0 (c .before .before .before .before .if1 .taken)) in
-    branches listing moment (piecesAt (now (a .t)) (a .cells) (a .pieces)) (a .k) v (a .k) (c .before .before .before .before .before .evaluate .ensures) here (c .before .before .jump-step .ensures listing moment)
+    branches listing moment (piecesAt (now (a .t)) (a .cells) (a .pieces)) (a .k) v (a .k) (past .evaluate .ensures) here (c .before .before .jump-step .ensures listing moment)
 
 place-requires : tie.Need-place-requires
 place-requires c κs = search needs
@@ -46,12 +48,14 @@ same-length-2 c = search needs
 
 returns-2 : tie.Need-returns-2
 unfolding branchPlace
-returns-2 c = λ listing moment.
-    let a = c .before .before .before .before .before .before .before .before .before .before .before .args in
-    let v = c .before .before .before .before .before .before .before .evaluate .result in
+returns-2 c =
+    let past = c .before .before .before .before .before .before in
+    λ listing moment.
+    let a = past .before .before .before .before .before .args in
+    let v = past .before .evaluate .result in
     let place = (rowsOf (now (a .m)) (a .running .me)) .place in
-    let here : branchPlace (eqb v 0) (a .k) (suc place) ≡ c .before .before .before .before .place .result + 1 = rw (ne-eqb v 0 (c .before .before .before .before .before .before .if1 .left), add-one) (ap suc (sym (c .before .before .before .before .place .ensures))) in
-    branches listing moment (piecesAt (now (a .t)) (a .cells) (a .pieces)) (a .k) v (c .before .before .before .before .place .result + 1) (c .before .before .before .before .before .before .before .evaluate .ensures) here
+    let here : branchPlace (eqb v 0) (a .k) (suc place) ≡ c .before .before .before .before .place .result + 1 = rw (ne-eqb v 0 (past .if1 .left), add-one) (ap suc (sym (c .before .before .before .before .place .ensures))) in
+    branches listing moment (piecesAt (now (a .t)) (a .cells) (a .pieces)) (a .k) v (c .before .before .before .before .place .result + 1) (past .before .evaluate .ensures) here
     (c .before .before .jump-step2 .ensures listing moment)
 
 pub branch-step-spec : {M : Type 1} → statement M

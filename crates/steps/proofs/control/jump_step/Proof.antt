@@ -12,8 +12,10 @@ same-length : tie.Need-same-length
 same-length c = search needs
 
 returns : tie.Need-returns
-returns c = λ listing moment.
-    jumps (c .before .before .before .before .before .args .k) (c .before .before .set-place .ensures) (c .before .before .before .before .before .pre .slot) listing moment (c .before .before .before .before .before .args .running) refl
+returns c =
+    let past = c .before .before .before .before .before in
+    λ listing moment.
+    jumps (past .args .k) (c .before .before .set-place .ensures) (past .pre .slot) listing moment (past .args .running) refl
 
 pub jump-step-spec : {M : Type 1} → statement M
 jump-step-spec = tie.close (tie.spec set-place-requires same-length returns)

@@ -27,23 +27,27 @@ same-length : tie.Need-same-length
 same-length c = search needs
 
 returns : tie.Need-returns
-returns c = λ listing moment.
-    let u = c .before .before .before .before .before .before .before .before .before .before .before .args .running in
-    ends-main u (record { ready = u .ready; live = c .before .before .before .before .before .before .before .before .before .one-less .result; woken = u .woken; me = u .me }) (c .before .before .before .free .ensures) (c .before .before .before .before .before .before .before .before .before .before .before .pre .slot)
-    refl (c .before .before .before .before .before .before .before .before .before .one-less .ensures) refl listing moment (sym (c .before .before .before .before .before .before .before .level .ensures) ∙ c .if1 .taken)
+returns c =
+    let past = c .before .before .before .before .before .before .before in
+    λ listing moment.
+    let u = past .before .before .before .before .args .running in
+    ends-main u (record { ready = u .ready; live = past .before .before .one-less .result; woken = u .woken; me = u .me }) (c .before .before .before .free .ensures) (past .before .before .before .before .pre .slot)
+    refl (past .before .before .one-less .ensures) refl listing moment (sym (past .level .ensures) ∙ c .if1 .taken)
 
 join-step-requires : tie.Need-join-step-requires
 join-step-requires c κs =
-    let a = c .before .before .before .before .before .before .before .before .before .before .before .before .args in
+    let past = c .before .before .before .before .before .before in
+    let earlier = past .before .before .before .before .before .before in
+    let a = earlier .args in
     let u = a .running in
     let row = rowsOf (now (a .m)) (u .me) in
-    let v : Running = record { ready = u .ready; live = c .before .before .before .before .before .before .before .before .before .before .one-less .result; woken = u .woken; me = u .me } in
-    let is = c .before .before .before .before .before .before .before .before .level .ensures in
+    let v : Running = record { ready = u .ready; live = past .before .before .before .before .one-less .result; woken = u .woken; me = u .me } in
+    let is = past .before .before .level .ensures in
     let deeper = c .before .if1 .left in
     let level : row .level ≡ suc (row .level - 1) = omega (arith, deeper) in
-    let up = c .before .before .before .before .before .before .before .before .before .before .before .before .pre .parent (row .level - 1) level in
-    let here : c .before .before .before .before .before .before .parent .result ≡ row .parent = c .before .before .before .before .before .before .parent .ensures in (
-      may-still-pop (λ (r : Row). freeRow) (c .before .before .before .before .free .ensures) free-awake u v refl refl (c .before .before .before .before .before .before .before .before .before .before .before .before .pre .pops),
+    let up = earlier .pre .parent (row .level - 1) level in
+    let here : past .parent .result ≡ row .parent = past .parent .ensures in (
+      may-still-pop (λ (r : Row). freeRow) (c .before .before .before .before .free .ensures) free-awake u v refl refl (earlier .pre .pops),
       rw here (up .0),
       rw here (freed-place (c .before .before .before .before .free .ensures) (row .parent) (up .1)),
     )
@@ -52,11 +56,14 @@ same-length-2 : tie.Need-same-length-2
 same-length-2 c = search needs
 
 returns-2 : tie.Need-returns-2
-returns-2 c = λ listing moment.
-    let u = c .before .before .before .before .before .before .before .before .before .before .before .before .before .before .before .args .running in
-    ends-child u (record { ready = u .ready; live = c .before .before .before .before .before .before .before .before .before .before .before .before .before .one-less .result; woken = u .woken; me = u .me }) (c .before .before .before .before .before .before .before .free .ensures) (c .before .before .before .before .before .before .before .before .before .before .before .before .before .before .before .pre .slot)
-    refl (c .before .before .before .before .before .before .before .before .before .before .before .before .before .one-less .ensures) refl listing moment (λ e. c .before .before .before .before .if1 .left (c .before .before .before .before .before .before .before .before .before .before .before .level .ensures ∙ e))
-    (rw (c .before .before .before .before .before .before .before .before .before .parent .ensures) at (c .before .before .join-step .ensures))
+returns-2 c =
+    let past = c .before .before .before .before .before .before .before in
+    let earlier = past .before .before .before .before .before .before in
+    λ listing moment.
+    let u = earlier .before .before .args .running in
+    ends-child u (record { ready = u .ready; live = earlier .one-less .result; woken = u .woken; me = u .me }) (past .free .ensures) (earlier .before .before .pre .slot)
+    refl (earlier .one-less .ensures) refl listing moment (λ e. c .before .before .before .before .if1 .left (past .before .before .before .before .level .ensures ∙ e))
+    (rw (past .before .before .parent .ensures) at (c .before .before .join-step .ensures))
 
 pub end-step-spec : {M : Type 1} → statement M
 end-step-spec =

@@ -32,12 +32,14 @@ same-length c = search needs
 
 returns : tie.Need-returns
 returns c =
-    let a = c .before .before .before .before .before .before .before .before .before .before .before .before .before .before .args in
+    let past = c .before .before .before .before .before .before in
+    let earlier = past .before .before .before .before .before in
+    let a = earlier .before .before .before .args in
     let u = a .running in
     let row = rowsOf (now (a .m)) (a .parent) in
-    let next : c .before .before .before .before .before .before .before .before .place .result + 1 ≡ suc (row .place) = rw add-one (ap suc (c .before .before .before .before .before .before .before .before .place .ensures)) in
-    let one : row .children ≡ 1 = sym (c .before .before .before .before .before .before .before .before .before .before .before .children .ensures) ∙ c .before .before .before .before .before .before .before .before .before .before .if1 .taken in
-    joins-last 0 (c .before .before .before .before .before .before .set-children .ensures) (c .before .before .before .before .before .before .before .before .before .before .before .before .before .before .pre .1) (c .before .before .before .before .before .before .before .before .place .result + 1) (c .before .before .set-place .ensures) u
+    let next : past .before .before .place .result + 1 ≡ suc (row .place) = rw add-one (ap suc (past .before .before .place .ensures)) in
+    let one : row .children ≡ 1 = sym (earlier .children .ensures) ∙ past .before .before .before .before .if1 .taken in
+    joins-last 0 (past .set-children .ensures) (earlier .before .before .before .pre .1) (past .before .before .place .result + 1) (c .before .before .set-place .ensures) u
     (record { ready = u .ready; live = u .live; woken = u .woken; me = a .parent }) refl next one refl refl refl refl
 
 one-less-requires : tie.Need-one-less-requires
@@ -48,19 +50,22 @@ set-children-requires-2 c κs = search needs
 
 next-ready-requires : tie.Need-next-ready-requires
 next-ready-requires c κs =
-    let u = c .before .before .before .before .before .before .before .before .before .before .args .running in
+    let past = c .before .before .before .before .before .before .before .before .before .before in
+    let u = past .args .running in
     let k = c .before .before .before .before .one-less .result in
-    may-still-pop (λ (r : Row). withChildren r k) (c .before .before .before .set-children2 .ensures) (children-asleep k) u u refl refl (c .before .before .before .before .before .before .before .before .before .before .pre .0)
+    may-still-pop (λ (r : Row). withChildren r k) (c .before .before .before .set-children2 .ensures) (children-asleep k) u u refl refl (past .pre .0)
 
 same-length-2 : tie.Need-same-length-2
 same-length-2 c = search needs
 
 returns-2 : tie.Need-returns-2
 returns-2 c =
-    let row = rowsOf (now (c .before .before .before .before .before .before .before .before .before .before .before .before .before .args .m)) (c .before .before .before .before .before .before .before .before .before .before .before .before .before .args .parent) in
-    let count : c .before .before .before .before .before .before .before .before .before .before .children .result ≡ row .children = c .before .before .before .before .before .before .before .before .before .before .children .ensures in
-    let less : c .before .before .before .before .before .before .before .one-less .result ≡ row .children - 1 = c .before .before .before .before .before .before .before .one-less .ensures ∙ ap (λ (x : ℕ). x - 1) count in
-    joins-others (c .before .before .before .before .before .before .before .one-less .result) (c .before .before .before .before .before .before .set-children2 .ensures) (c .before .before .before .before .before .before .before .before .before .before .before .before .before .pre .1) less (λ e. c .before .before .before .before .before .before .before .before .before .if1 .left (count ∙ e)) (c .before .before .next-ready .ensures)
+    let past = c .before .before .before .before .before .before in
+    let earlier = past .before .before .before .before .before .before .before in
+    let row = rowsOf (now (earlier .args .m)) (earlier .args .parent) in
+    let count : past .before .before .before .before .children .result ≡ row .children = past .before .before .before .before .children .ensures in
+    let less : past .before .one-less .result ≡ row .children - 1 = past .before .one-less .ensures ∙ ap (λ (x : ℕ). x - 1) count in
+    joins-others (past .before .one-less .result) (past .set-children2 .ensures) (earlier .pre .1) less (λ e. past .before .before .before .if1 .left (count ∙ e)) (c .before .before .next-ready .ensures)
 
 pub join-step-spec : {M : Type 1} → statement M
 join-step-spec =

@@ -38,13 +38,15 @@ asleep-requires c κs =
 
 add-set-place : tie.Need-add-set-place
 add-set-place c =
+    let past = c .before .before .before .before .before .before .before in
     let e = c .before .before .before .before .place .ensures in
-    let bound = c .before .before .before .before .before .before .before .before .before .before .before .before .pre .sleepers (c .before .before .before .before .before .before .before .pop .result .slot) (sym (c .before .before .asleep .ensures) ∙ c .before .if2 .taken) in
+    let bound = past .before .before .before .before .before .pre .sleepers (past .pop .result .slot) (sym (c .before .before .asleep .ensures) ∙ c .before .if2 .taken) in
     record { fits = omega arith }
 
 set-place-requires : tie.Need-set-place-requires
 set-place-requires c κs =
-    let small : c .before .before .before .before .before .before .before .pop .result .slot < 64 = first-small (c .before .before .before .before .before .before .before .before .before .before .before .before .pre .slots) (c .before .before .before .before .before .before .before .pop .ensures .1) in search needs
+    let past = c .before .before .before .before .before .before .before in
+    let small : past .pop .result .slot < 64 = first-small (past .before .before .before .before .before .pre .slots) (past .pop .ensures .1) in search needs
 
 add-t20 : tie.Need-add-t20
 add-t20 c = search needs
@@ -55,19 +57,23 @@ same-length c = search needs
 returns-2 : tie.Need-returns-2
 unfolding firstPlace countIf
 returns-2 c =
-    let u = c .before .before .before .before .before .before .before .before .before .before .before .before .before .before .before .args .running in
-    let s = c .before .before .before .before .before .before .before .before .before .before .pop .result .slot in
-    let row = rowsOf (now (c .before .before .before .before .before .before .before .before .before .before .before .before .before .before .before .args .m)) s in
-    let up : row .asleep ≡ true = sym (c .before .before .before .before .before .asleep .ensures) ∙ c .before .before .before .before .if2 .taken in
-    let small : s < 64 = first-small (c .before .before .before .before .before .before .before .before .before .before .before .before .before .before .before .pre .slots) (c .before .before .before .before .before .before .before .before .before .before .pop .ensures .1) in
-    let place : c .before .before .before .before .before .before .before .place .result + 1 ≡ firstPlace (row .asleep) (row .place) = rw (up, add-one) (ap suc (c .before .before .before .before .before .before .before .place .ensures)) in
+    let past = c .before .before .before .before .before in
+    let earlier = past .before .before .before .before .before in
+    let former = earlier .before .before .before .before .before in
+    let u = former .args .running in
+    let s = earlier .pop .result .slot in
+    let row = rowsOf (now (former .args .m)) s in
+    let up : row .asleep ≡ true = sym (past .asleep .ensures) ∙ c .before .before .before .before .if2 .taken in
+    let small : s < 64 = first-small (former .pre .slots) (earlier .pop .ensures .1) in
+    let place : past .before .before .place .result + 1 ≡ firstPlace (row .asleep) (row .place) = rw (up, add-one) (ap suc (past .before .before .place .ensures)) in
     let woken : u .woken + 1 ≡ countIf (row .asleep) (u .woken) = rw (up, add-one) in
-    pops-first (c .before .before .before .before .before .before .before .place .result + 1) (c .before .before .set-place .ensures) small u
-    (record { ready = c .before .before .before .before .before .before .before .before .before .before .pop .result .rest; live = u .live; woken = u .woken + 1; me = s }) (c .before .before .before .before .before .before .before .before .before .before .pop .ensures .1) refl refl place woken
+    pops-first (past .before .before .place .result + 1) (c .before .before .set-place .ensures) small u
+    (record { ready = earlier .pop .result .rest; live = u .live; woken = u .woken + 1; me = s }) (earlier .pop .ensures .1) refl refl place woken
 
 set-place-requires-2 : tie.Need-set-place-requires-2
 set-place-requires-2 c κs =
-    let small : c .before .before .before .before .before .before .before .pop .result .slot < 64 = first-small (c .before .before .before .before .before .before .before .before .before .before .before .before .pre .slots) (c .before .before .before .before .before .before .before .pop .ensures .1) in search needs
+    let past = c .before .before .before .before .before .before .before in
+    let small : past .pop .result .slot < 64 = first-small (past .before .before .before .before .before .pre .slots) (past .pop .ensures .1) in search needs
 
 same-length-2 : tie.Need-same-length-2
 same-length-2 c = search needs
@@ -75,15 +81,18 @@ same-length-2 c = search needs
 returns-3 : tie.Need-returns-3
 unfolding firstPlace countIf
 returns-3 c =
-    let u = c .before .before .before .before .before .before .before .before .before .before .before .before .before .before .before .args .running in
-    let s = c .before .before .before .before .before .before .before .before .before .before .pop .result .slot in
-    let row = rowsOf (now (c .before .before .before .before .before .before .before .before .before .before .before .before .before .before .before .args .m)) s in
-    let up : row .asleep ≡ false = sym (c .before .before .before .before .before .asleep .ensures) ∙ c .before .before .before .before .if2 .left in
-    let small : s < 64 = first-small (c .before .before .before .before .before .before .before .before .before .before .before .before .before .before .before .pre .slots) (c .before .before .before .before .before .before .before .before .before .before .pop .ensures .1) in
-    let place : c .before .before .before .before .before .before .before .place .result ≡ firstPlace (row .asleep) (row .place) = rw up (c .before .before .before .before .before .before .before .place .ensures) in
+    let past = c .before .before .before .before .before in
+    let earlier = past .before .before .before .before .before in
+    let former = earlier .before .before .before .before .before in
+    let u = former .args .running in
+    let s = earlier .pop .result .slot in
+    let row = rowsOf (now (former .args .m)) s in
+    let up : row .asleep ≡ false = sym (past .asleep .ensures) ∙ c .before .before .before .before .if2 .left in
+    let small : s < 64 = first-small (former .pre .slots) (earlier .pop .ensures .1) in
+    let place : past .before .before .place .result ≡ firstPlace (row .asleep) (row .place) = rw up (past .before .before .place .ensures) in
     let woken : u .woken ≡ countIf (row .asleep) (u .woken) = rw up in
-    pops-first (c .before .before .before .before .before .before .before .place .result) (c .before .before .set-place2 .ensures) small u
-    (record { ready = c .before .before .before .before .before .before .before .before .before .before .pop .result .rest; live = u .live; woken = u .woken; me = s }) (c .before .before .before .before .before .before .before .before .before .before .pop .ensures .1) refl refl place woken
+    pops-first (past .before .before .place .result) (c .before .before .set-place2 .ensures) small u
+    (record { ready = earlier .pop .result .rest; live = u .live; woken = u .woken; me = s }) (earlier .pop .ensures .1) refl refl place woken
 
 pub next-ready-spec : {M : Type 1} → statement M
 next-ready-spec =

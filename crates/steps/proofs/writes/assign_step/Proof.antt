@@ -26,9 +26,10 @@ evaluate-requires c κs = search needs
 
 owner-requires : tie.Need-owner-requires
 owner-requires c κs =
-    let few = names-few (now (c .before .before .before .before .before .args .m)) (c .before .before .before .before .before .args .running .me) (c .before .before .before .before .before .pre .0 .runs .slot) in
-    let there = c .before .before .before .before .before .pre .0 .there in
-    (c .before .before .before .before .before .pre .0 .runs .size, c .before .before .before .before .before .pre .0 .runs .slot, omega arith)
+    let past = c .before .before .before .before .before in
+    let few = names-few (now (past .args .m)) (past .args .running .me) (past .pre .0 .runs .slot) in
+    let there = past .pre .0 .there in
+    (past .pre .0 .runs .size, past .pre .0 .runs .slot, omega arith)
 
 low-requires : tie.Need-low-requires
 low-requires c κs = search needs
@@ -52,24 +53,28 @@ same-length : tie.Need-same-length
 same-length c = search needs
 
 returns : tie.Need-returns
-returns c = λ listing moment.
-    let a = c .before .before .before .before .before .before .before .before .before .before .before .before .before .before .before .before .before .before .before .before .before .args in
+returns c =
+    let past = c .before .before .before .before .before .before in
+    let earlier = past .before .before .before .before .before .before .before in
+    let former = earlier .before .before .before .before .before .before .before .before in
+    λ listing moment.
+    let a = former .args in
     let u = a .running in
-    let value = c .before .before .before .before .before .before .before .before .before .before .before .before .before .before .before .before .before .evaluate .result in
-    let binding = c .before .before .before .before .before .before .before .before .before .before .before .before .before .before .before .owner .result in
-    let bound = c .before .before .before .before .before .before .before .before .before .before .before .before .before .before .before .owner .ensures in
-    let few = c .before .before .before .before .before .before .before .before .before .before .before .before .before .before .before .before .before .before .before .before .before .pre .0 .there in
+    let value = earlier .before .before .before .before .evaluate .result in
+    let binding = earlier .before .before .owner .result in
+    let bound = earlier .before .before .owner .ensures in
+    let few = former .pre .0 .there in
     let here = (rowsOf (now (a .m)) (u .me)) .place in
-    let next : c .before .before .before .before .before .before .before .before .place .result + 1 ≡ suc here = rw add-one (ap suc (c .before .before .before .before .before .before .before .before .place .ensures)) in
-    let p = c .before .before .before .before .before .before .assign .ensures in
-    let q = placed-as (c .before .before .before .before .before .before .before .before .place .result + 1) (suc here) next (c .before .before .set-place .ensures) in
-    let changed = changes-name u (a .name) binding bound few (c .before .before .before .before .before .before .before .before .before .before .before .before .before .before .before .before .before .before .before .before .before .pre .0 .runs .slot) (λ (y : Variable). writtenTo y value) p q
+    let next : past .before .before .place .result + 1 ≡ suc here = rw add-one (ap suc (past .before .before .place .ensures)) in
+    let p = past .assign .ensures in
+    let q = placed-as (past .before .before .place .result + 1) (suc here) next (c .before .before .set-place .ensures) in
+    let changed = changes-name u (a .name) binding bound few (former .pre .0 .runs .slot) (λ (y : Variable). writtenTo y value) p q
     (λ n there. assigned-all (binding .index) (bound .block) there value p) in
-    let woken = c .before .before .before .before .before .before .before .before .before .before .wake in
-    let low = c .before .before .before .before .before .before .before .before .before .before .before .before .before .low in
+    let woken = past .before .before .before .before .wake in
+    let low = earlier .low in
     let ready = subst (λ (k : ℕ). slotsOf (woken .result) ≡ insertAll (rowsOf (now (a .m))) (triggered (rowsOf (now (a .m))) k (triggersAt (now (a .m)) (binding .block) (binding .index))) (slotsOf (u .ready))) (low .ensures) (woken .ensures .0) in
-    assigns u (record { ready = c .before .before .before .before .before .before .before .before .before .before .wake .result; live = u .live; woken = u .woken; me = u .me }) (a .name) value
-    (piecesAt (now (a .t)) (a .cells) (a .pieces)) binding changed bound few (c .before .before .before .before .before .before .before .before .before .before .before .before .before .before .before .before .before .evaluate .ensures) ready refl refl refl listing moment
+    assigns u (record { ready = past .before .before .before .before .wake .result; live = u .live; woken = u .woken; me = u .me }) (a .name) value
+    (piecesAt (now (a .t)) (a .cells) (a .pieces)) binding changed bound few (earlier .before .before .before .before .evaluate .ensures) ready refl refl refl listing moment
 
 pub assign-step-spec : {M : Type 1} → statement M
 assign-step-spec =

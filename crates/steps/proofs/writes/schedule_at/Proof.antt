@@ -41,15 +41,17 @@ same-length c = search needs
 
 returns : tie.Need-returns
 returns c =
-    let o = c .before .before .before .before .before .before .before .before .before .before .before .before .before .before .before .before .before in
+    let past = c .before .before .before .before .before .before in
+    let earlier = past .before .before .before .before .before .before in
+    let o = earlier .before .before .before .before .before in
     let a = o .args in
     let u = a .running in
-    let binding = c .before .before .before .before .before .before .before .before .before .before .before .before .before .before .owner .result in
-    let bound = c .before .before .before .before .before .before .before .before .before .before .before .before .before .before .owner .ensures in
+    let binding = earlier .before .before .owner .result in
+    let bound = earlier .before .before .owner .ensures in
     let here = (rowsOf (now (a .m)) (u .me)) .place in
-    let next : c .before .before .before .before .before .before .before .before .before .before .before .before .place .result + 1 ≡ suc here = rw add-one (ap suc (c .before .before .before .before .before .before .before .before .before .before .before .before .place .ensures)) in
-    let p = then-queued (bound .block) (c .before .before .before .before .before .before .before .before .before .before .schedule .ensures) (c .before .before .before .before .before .before .put-word .ensures) in
-    let q = placed-as (c .before .before .before .before .before .before .before .before .before .before .before .before .place .result + 1) (suc here) next (c .before .before .set-place .ensures) in
+    let next : earlier .place .result + 1 ≡ suc here = rw add-one (ap suc (earlier .place .ensures)) in
+    let p = then-queued (bound .block) (past .before .before .before .before .schedule .ensures) (past .put-word .ensures) in
+    let q = placed-as (earlier .place .result + 1) (suc here) next (c .before .before .set-place .ensures) in
     changes-name u (a .name) binding bound (o .pre .0 .there) (o .pre .0 .runs .slot) (λ (y : Variable). scheduledOn y (a .moment .0) (a .value)) p q
     (λ n there. scheduled-all (binding .index) (bound .block) there (a .moment .0) (a .value) (o .pre .1) p)
 

@@ -46,15 +46,17 @@ enum-known-moment c = search needs
 
 schedule-at-requires : tie.Need-schedule-at-requires
 schedule-at-requires c κs =
-    let a = c .before .before .before .before .before .before .before .before .before .before .before .before .before .args in
-    let delay = c .before .before .before .before .before .before .before .before .before .evaluate .result in
+    let past = c .before .before .before .before .before in
+    let earlier = past .before .before .before .before .before .before .before .before in
+    let a = earlier .args in
+    let delay = past .before .before .before .before .evaluate .result in
     let due = c .before .before .moment .given .0 .0 .0 in
-    let positive : isPositive delay ≡ true = sym (c .before .before .before .before .before .before .is-positive .ensures) ∙ not-false _ (c .before .before .before .before .before .if1 .left) in
+    let positive : isPositive delay ≡ true = sym (past .before .is-positive .ensures) ∙ not-false _ (past .if1 .left) in
     let e : laterAt due ≡ laterMoment (a .present .0) delay = sym (ap laterOf (c .before .before .moment .given .1)) ∙ c .before .before .before .before .later-moment .ensures in
     let l = later-at (a .present .0) delay due e in
     let some = positive-some delay positive in
     let is = l .1 in
-    (c .before .before .before .before .before .before .before .before .before .before .before .before .before .pre .0, omega arith)
+    (earlier .pre .0, omega arith)
 
 enum-told : tie.Need-enum-told
 enum-told c = search needs
@@ -63,28 +65,33 @@ same-length-2 : tie.Need-same-length-2
 same-length-2 c = search needs
 
 returns-2 : tie.Need-returns-2
-returns-2 c = λ listing.
-    let a = c .before .before .before .before .before .before .before .before .before .before .before .before .before .before .before .before .args in
-    let delay = c .before .before .before .before .before .before .before .before .before .before .before .before .evaluate .result in
-    let due = c .before .before .before .before .before .moment .given .0 .0 .0 in
-    let positive : isPositive delay ≡ true = sym (c .before .before .before .before .before .before .before .before .before .is-positive .ensures) ∙ not-false _ (c .before .before .before .before .before .before .before .before .if1 .left) in
-    let e : laterAt due ≡ laterMoment (a .present .0) delay = sym (ap laterOf (c .before .before .before .before .before .moment .given .1)) ∙ c .before .before .before .before .before .before .before .later-moment .ensures in
+returns-2 c =
+    let past = c .before .before .before .before .before in
+    let earlier = past .before .before .before .before .before in
+    λ listing.
+    let a = earlier .before .before .before .before .before .before .args in
+    let delay = earlier .before .before .evaluate .result in
+    let due = past .moment .given .0 .0 .0 in
+    let positive : isPositive delay ≡ true = sym (past .before .before .before .before .is-positive .ensures) ∙ not-false _ (past .before .before .before .if1 .left) in
+    let e : laterAt due ≡ laterMoment (a .present .0) delay = sym (ap laterOf (past .moment .given .1)) ∙ past .before .before .later-moment .ensures in
     let l = later-at (a .present .0) delay due e in
-    schedules (a .running) (a .name) delay (c .before .before .before .before .before .before .before .before .before .before .evaluate2 .result) (a .present .0) (piecesAt (now (a .t)) (a .cells) (a .first))
-    (piecesAt (now (a .t)) (a .cells + 2 * a .first) (a .second)) listing (c .before .before .before .before .before .before .before .before .before .before .before .before .evaluate .ensures) positive due (c .before .before .schedule-at .ensures)
-    (c .before .before .before .before .before .before .before .before .before .before .evaluate2 .ensures) (l .0) (l .1)
+    schedules (a .running) (a .name) delay (earlier .evaluate2 .result) (a .present .0) (piecesAt (now (a .t)) (a .cells) (a .first))
+    (piecesAt (now (a .t)) (a .cells + 2 * a .first) (a .second)) listing (earlier .before .before .evaluate .ensures) positive due (c .before .before .schedule-at .ensures)
+    (earlier .evaluate2 .ensures) (l .0) (l .1)
 
 same-length-3 : tie.Need-same-length-3
 same-length-3 c = search needs
 
 returns-3 : tie.Need-returns-3
-returns-3 c = λ listing.
-    let a = c .before .before .before .before .before .before .before .before .before .before .before .args in
-    let delay = c .before .before .before .before .before .before .before .evaluate .result in
+returns-3 c =
+    let past = c .before .before .before .before .before in
+    λ listing.
+    let a = past .before .before .before .before .before .before .args in
+    let delay = past .before .before .evaluate .result in
     let positive : isPositive delay ≡ true = sym (c .before .before .before .before .is-positive .ensures) ∙ not-false _ (c .before .before .before .if1 .left) in
     let e : stopsWith 17 ≡ laterMoment (a .present .0) delay = sym (ap laterOf (c .enum-told .given .1)) ∙ c .before .before .later-moment .ensures in
-    moment-late (a .running) (a .name) delay (c .before .before .before .before .before .evaluate2 .result) (a .present .0) (piecesAt (now (a .t)) (a .cells) (a .first))
-    (piecesAt (now (a .t)) (a .cells + 2 * a .first) (a .second)) listing (c .before .before .before .before .before .before .before .evaluate .ensures) positive (too-late (a .present .0) delay e)
+    moment-late (a .running) (a .name) delay (past .evaluate2 .result) (a .present .0) (piecesAt (now (a .t)) (a .cells) (a .first))
+    (piecesAt (now (a .t)) (a .cells + 2 * a .first) (a .second)) listing (past .before .before .evaluate .ensures) positive (too-late (a .present .0) delay e)
 
 pub schedule-step-spec : {M : Type 1} → statement M
 schedule-step-spec =

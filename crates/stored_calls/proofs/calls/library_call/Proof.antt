@@ -25,9 +25,10 @@ same-length-3 c =
 
 returns : tie.Need-returns
 returns c =
-    let a = c .before .before .before .before .before .before .before .before .before .before .before .before .before .before .before .before .before .before .before .args in
-    let k = c .before .before .before .before .before .before .before .fabrwent-start .ensures in
-    by-start (a .call) (now (a .ins)) (now (a .news)) (c .before .before .before .before .before .before .before .before .before .before .before .if1 .taken) (c .report-in .ensures (k .1)) (k .0)
+    let past = c .before .before .before .before .before .before .before in
+    let a = past .before .before .before .before .before .before .before .before .before .before .before .before .args in
+    let k = past .fabrwent-start .ensures in
+    by-start (a .call) (now (a .ins)) (now (a .news)) (past .before .before .before .before .if1 .taken) (c .report-in .ensures (k .1)) (k .0)
 
 fabrwent-instant-requires : tie.Need-fabrwent-instant-requires
 fabrwent-instant-requires c κs =
@@ -51,9 +52,10 @@ same-length-6 c =
 
 returns-2 : tie.Need-returns-2
 returns-2 c =
-    let a = c .before .before .before .before .before .before .before .before .before .before .before .before .before .before .before .before .before .before .before .args in
-    let k = c .before .before .before .before .before .before .before .fabrwent-instant .ensures in
-    by-instant (a .call) (now (a .ins)) (now (a .news)) (c .before .before .before .before .before .before .before .before .before .before .before .if1 .left) (c .report-in2 .ensures (k .1)) (k .0)
+    let past = c .before .before .before .before .before .before .before in
+    let a = past .before .before .before .before .before .before .before .before .before .before .before .before .args in
+    let k = past .fabrwent-instant .ensures in
+    by-instant (a .call) (now (a .ins)) (now (a .news)) (past .before .before .before .before .if1 .left) (c .report-in2 .ensures (k .1)) (k .0)
 
 pub library-call-spec : {M : Type 1} → statement M
 library-call-spec =

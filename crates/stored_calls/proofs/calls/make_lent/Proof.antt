@@ -64,32 +64,41 @@ library-call-requires c κs = tt
 
 same-length : tie.Need-same-length
 same-length c =
-    let s = c .before .before .before .before .before .before .library-call in
-    length-front (now (c .before .before .before .before .before .before .before .before .before .before .before .before .before .before .before .before .before .before .before .before .before .before .before .before .before .before .before .args .machine)) (s .last .1 .1 .0) (c .before .before .before .before .before .before .before .before .before .before .before .before .before .before .before .before .before .before .lent2 .result) (s .kept .1 .1 .0)
+    let past = c .before .before .before .before .before .before in
+    let earlier = past .before .before .before .before .before .before .before .before .before .before .before .before in
+    let s = past .library-call in
+    length-front (now (earlier .before .before .before .before .before .before .before .before .before .args .machine)) (s .last .1 .1 .0) (earlier .lent2 .result) (s .kept .1 .1 .0)
 
 same-length-2 : tie.Need-same-length-2
 same-length-2 c =
-    let s = c .before .before .before .before .before .before .library-call in
-    length-front (now (c .before .before .before .before .before .before .before .before .before .before .before .before .before .before .before .before .before .before .before .before .before .before .before .before .before .before .before .args .numbers)) (s .last .1 .1 .1 .1 .1 .0) (c .before .before .before .before .before .before .before .before .before .before .before .before .before .before .before .before .lent3 .result) (s .kept .1 .1 .1 .1 .1 .0)
+    let past = c .before .before .before .before .before .before in
+    let earlier = past .before .before .before .before .before .before .before .before .before .before in
+    let s = past .library-call in
+    length-front (now (earlier .before .before .before .before .before .before .before .before .before .before .before .args .numbers)) (s .last .1 .1 .1 .1 .1 .0) (earlier .lent3 .result) (s .kept .1 .1 .1 .1 .1 .0)
 
 same-length-3 : tie.Need-same-length-3
 same-length-3 c =
-    let s = c .before .before .before .before .before .before .library-call in
-    length-front (now (c .before .before .before .before .before .before .before .before .before .before .before .before .before .before .before .before .before .before .before .before .before .before .before .before .before .before .before .args .values)) (s .last .1 .1 .1 .1 .1 .1 .0) (c .before .before .before .before .before .before .before .before .before .before .before .before .before .before .lent4 .result) (s .kept .1 .1 .1 .1 .1 .1 .0)
+    let past = c .before .before .before .before .before .before in
+    let earlier = past .before .before .before .before .before .before .before .before in
+    let s = past .library-call in
+    length-front (now (earlier .before .before .before .before .before .before .before .before .before .before .before .before .before .args .values)) (s .last .1 .1 .1 .1 .1 .1 .0) (earlier .lent4 .result) (s .kept .1 .1 .1 .1 .1 .1 .0)
 
 returns : tie.Need-returns
 returns c =
-    let a = c .before .before .before .before .before .before .before .before .before .before .before .before .before .before .before .before .before .before .before .before .before .before .before .before .before .before .before .args in
+    let past = c .before .before .before .before .before .before in
+    let earlier = past .before .before .before .before .before .before in
+    let former = earlier .before .before .before .before .before .before in
+    let a = former .before .before .before .before .before .before .before .before .before .args in
     let t = now (a .table) in
     let m = now (a .machine) in
     let n = now (a .numbers) in
     let v = now (a .values) in
-    let s = c .before .before .before .before .before .before .library-call in
+    let s = past .library-call in
     made (a .call) t m n v (s .last .1 .1 .0) (s .last .1 .1 .1 .1 .1 .0) (s .last .1 .1 .1 .1 .1 .1 .0)
     (λ (i j k l w : ℕ). callOutcome (a .call) (take i t) (take j m) (now (a .ins)) (take w (now (a .news))) (take k n) (take l v))
-    (s .result) (c .before .before .before .before .before .before .before .before .before .before .before .before .before .before .before .before .before .before .before .before .lent .result) (c .before .before .before .before .before .before .before .before .before .before .before .before .before .before .before .before .before .before .lent2 .result) (c .before .before .before .before .before .before .before .before .before .before .before .before .before .before .before .before .lent3 .result) (c .before .before .before .before .before .before .before .before .before .before .before .before .before .before .lent4 .result) (c .before .before .before .before .before .before .before .before .before .before .before .before .lent5 .result) _
-    (c .before .before .before .before .before .before .before .before .before .before .before .before .before .before .before .before .before .before .before .before .lent .ensures .1) (c .before .before .before .before .before .before .before .before .before .before .before .before .before .before .before .before .before .before .lent2 .ensures .1) (c .before .before .before .before .before .before .before .before .before .before .before .before .before .before .before .before .lent3 .ensures .1) (c .before .before .before .before .before .before .before .before .before .before .before .before .before .before .lent4 .ensures .1)
-    (c .before .before .before .before .before .before .before .before .before .before .before .before .lent5 .ensures .1 ∙ ap (λ (k : ℕ). lentPlaces (a .call .spoil) 5 k (now (a .news))) (c .before .before .before .before .before .before .before .before .before .before .before .before .before .all-but-one .ensures))
+    (s .result) (former .before .before .lent .result) (former .lent2 .result) (earlier .before .before .before .before .lent3 .result) (earlier .before .before .lent4 .result) (earlier .lent5 .result) _
+    (former .before .before .lent .ensures .1) (former .lent2 .ensures .1) (earlier .before .before .before .before .lent3 .ensures .1) (earlier .before .before .lent4 .ensures .1)
+    (earlier .lent5 .ensures .1 ∙ ap (λ (k : ℕ). lentPlaces (a .call .spoil) 5 k (now (a .news))) (earlier .before .all-but-one .ensures))
     (s .kept .1 .1 .0) (s .ensures)
 
 pub make-lent-spec : {M : Type 1} → statement M

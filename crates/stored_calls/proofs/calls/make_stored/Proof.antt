@@ -62,11 +62,14 @@ same-length-3 c =
 
 returns : tie.Need-returns
 returns c =
-    let pairs = c .before .before .before .before .before .before .before .before .before .before .before .before .before .before .before .before .before .before .read-pairs in
-    let call = c .before .before .before .before .before .before .before .before .before .before .before .before .before .before .before .before .before .before .before .before .before .before .before .before .before .before .before .args .call in
-    by-stored (c .before .before .before .before .before .before .before .before .before .before .before .before .before .before .least .result) (c .before .before .before .before .before .before .before .before .before .before .before .before .least2 .result) (pairs .ensures)
-    (c .before .before .before .before .before .before .before .before .before .before .before .before .before .before .least .ensures .1 ∙ ap (min (call .inputs)) (pairs .kept .1 .1 .1 .0)) (c .before .before .before .before .before .before .before .before .before .before .before .before .least2 .ensures .1 ∙ ap (min (call .inputs)) (pairs .kept .1 .1 .1 .1 .0))
-    (c .before .before .before .before .before .before .make-lent .ensures)
+    let past = c .before .before .before .before .before .before in
+    let earlier = past .before .before .before .before .before .before in
+    let former = earlier .before .before .before .before .before .before in
+    let pairs = former .read-pairs in
+    let call = former .before .before .before .before .before .before .before .before .before .args .call in
+    by-stored (earlier .before .before .least .result) (earlier .least2 .result) (pairs .ensures)
+    (earlier .before .before .least .ensures .1 ∙ ap (min (call .inputs)) (pairs .kept .1 .1 .1 .0)) (earlier .least2 .ensures .1 ∙ ap (min (call .inputs)) (pairs .kept .1 .1 .1 .1 .0))
+    (past .make-lent .ensures)
 
 pub make-stored-spec : {M : Type 1} → statement M
 make-stored-spec =

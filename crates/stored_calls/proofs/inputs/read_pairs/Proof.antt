@@ -81,8 +81,9 @@ loop-less c = search needs
 
 loop-again : tie.Need-loop-again Inv-loop μ-loop
 loop-again c =
-    let a = c .before .before .before .before .before .before .before .before .before .before .before .args in
-    let v = c .before .before .before .before .before .before .before .loop in
+    let earlier = c .before .before .before .before .before .before .before in
+    let a = earlier .before .before .before .before .args in
+    let v = earlier .loop in
     let l = v .inv .3 .as-long in
     let m = v .inv .3 .values-as-long in (
       omega arith,

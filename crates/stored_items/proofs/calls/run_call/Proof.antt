@@ -62,15 +62,17 @@ same-length-2 c =
 
 returns-2 : tie.Need-returns-2
 returns-2 c =
-    let made = c .before .before .before .before .before .before .before .before .before .before .before .before .before .before .make-stored in
-    let copy = c .before .before .before .before .before .before .before .before .before .before .before .before .before .before .before .before .before .before .copy-of in
+    let past = c .before .before .before .before .before in
+    let earlier = past .before .before .before .before .before .before .before .before .before in
+    let made = earlier .make-stored in
+    let copy = earlier .before .before .before .before .copy-of in
     let words = c .before .before .before .least in
-    let machine = now (c .before .before .before .before .before .before .before .before .before .before .before .before .before .before .before .before .before .before .before .before .before .before .before .args .machine) in
+    let machine = now (earlier .before .before .before .before .before .before .before .before .before .args .machine) in
     let is = words .ensures .1 in
     let long = made .kept .1 .1 .1 .0 in
     let room = copy .ensures .0 in
     let e : words .result ≡ min (length machine) 12300 = omega arith in
-    by-machine (made .ensures) (c .before .before .before .before .before .before .before .before .before .answer-place .ensures) (c .before .before .before .before .before .before .answer-right .ensures) (copy .result) (words .result) (not-false _ (c .before .before .before .before .before .if1 .left)) e (copy .ensures .1) (c .machine-right .ensures)
+    by-machine (made .ensures) (past .before .before .before .before .answer-place .ensures) (past .before .answer-right .ensures) (copy .result) (words .result) (not-false _ (past .if1 .left)) e (copy .ensures .1) (c .machine-right .ensures)
 
 pub run-call-spec : {M : Type 1} → statement M
 run-call-spec =

@@ -25,20 +25,25 @@ spoil-first-requires-4 c κs = tt
 
 same-length : tie.Need-same-length
 same-length c =
-    c .before .before .before .before .before .before .spoil-first3 .kept .0 ∙ c .before .before .before .before .before .before .before .before .before .before .before .before .before .before .before .before .before .before .before .spoil-first .kept .0
+    let past = c .before .before .before .before .before .before in
+    past .spoil-first3 .kept .0 ∙ past .before .before .before .before .before .before .before .before .before .before .before .before .before .spoil-first .kept .0
 
 same-length-2 : tie.Need-same-length-2
 same-length-2 c =
-    c .before .before .spoil-first4 .kept .0 ∙ (c .before .before .before .before .before .before .before .before .before .before .run-call .kept .1 .1 .1 .0 ∙ c .before .before .before .before .before .before .before .before .before .before .before .before .before .before .before .spoil-first2 .kept .0)
+    let past = c .before .before .before .before .before .before .before .before .before .before in
+    c .before .before .spoil-first4 .kept .0 ∙ (past .run-call .kept .1 .1 .1 .0 ∙ past .before .before .before .before .before .spoil-first2 .kept .0)
 
 returns : tie.Need-returns
 returns c =
-    let a = c .before .before .before .before .before .before .before .before .before .before .before .before .before .before .before .before .before .before .before .before .before .before .before .before .before .args in
-    let call = c .before .before .before .before .before .before .before .before .before .before .before .before .before .before .before .before .before .before .before .before .before .call-at in
-    let t = c .before .before .before .before .before .before .before .before .before .before .before .before .before .before .before .before .before .before .before .spoil-first in
-    let m = c .before .before .before .before .before .before .before .before .before .before .before .before .before .before .before .spoil-first2 in
-    let r = c .before .before .before .before .before .before .before .before .before .before .run-call in
-    let u = c .before .before .before .before .before .before .spoil-first3 in
+    let past = c .before .before .before .before .before .before in
+    let earlier = past .before .before .before .before .before .before .before .before .before in
+    let former = earlier .before .before .before .before .before .before in
+    let a = former .before .before .before .before .args in
+    let call = former .call-at in
+    let t = earlier .before .before .before .before .spoil-first in
+    let m = earlier .spoil-first2 in
+    let r = past .before .before .before .before .run-call in
+    let u = past .spoil-first3 in
     let n = c .before .before .spoil-first4 in (
       spoilt-back (call .result .spoil) 6 2147483648 (t .result) (now (a .table)) (t .last .0) (u .last .0) (t .ensures .1) (t .ensures .0) (u .ensures .1),
       ran-spoilt (now (a .s)) (a .at) (call .result) (now (a .table)) (now (a .machine)) (t .last .0) (m .last .0) (r .last .1 .1 .1 .0) (n .last .0) (m .result)

@@ -19,14 +19,16 @@ past-requires c κs = tt
 
 returns-2 : tie.Need-returns-2
 returns-2 c =
-    after-a-copy (now (c .before .before .before .before .before .args .s)) (c .before .before .before .before .before .args .at) (c .before .before .before .word-at .result) _ (c .before .before .before .word-at .ensures) (c .before .if2 .taken) (c .past .ensures)
+    let earlier = c .before .before .before .before .before in
+    after-a-copy (now (earlier .args .s)) (earlier .args .at) (c .before .before .before .word-at .result) _ (c .before .before .before .word-at .ensures) (c .before .if2 .taken) (c .past .ensures)
 
 past-requires-2 : tie.Need-past-requires-2
 past-requires-2 c κs = tt
 
 returns-3 : tie.Need-returns-3
 returns-3 c =
-    after-a-comparison (now (c .before .before .before .before .before .args .s)) (c .before .before .before .before .before .args .at) (c .before .before .before .word-at .result) _ (c .before .before .before .word-at .ensures) (omega arith) (c .past2 .ensures)
+    let past = c .before .before .before .before .before in
+    after-a-comparison (now (past .args .s)) (past .args .at) (c .before .before .before .word-at .result) _ (c .before .before .before .word-at .ensures) (omega arith) (c .past2 .ensures)
 
 pub after-item-spec : {M : Type 1} → statement M
 after-item-spec =

@@ -38,8 +38,9 @@ same-length-4 c =
 
 returns-2 : tie.Need-returns-2
 returns-2 c =
-    let w = c .before .before .before .before .before .before .before .word-at .ensures in
-    (refl, copy (sym w ∙ c .before .before .before .before .before .if2 .taken) refl (c .before .before .copy .ensures) refl)
+    let past = c .before .before .before .before .before in
+    let w = past .before .before .word-at .ensures in
+    (refl, copy (sym w ∙ past .if2 .taken) refl (c .before .before .copy .ensures) refl)
 
 compare-spoilt-requires : tie.Need-compare-spoilt-requires
 compare-spoilt-requires c κs = tt

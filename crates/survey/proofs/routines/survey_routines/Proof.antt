@@ -36,8 +36,9 @@ enum-told c = search needs
 
 returns : tie.Need-returns Inv-loop μ-loop
 returns c =
-    let v = c .before .before .before .before .before .loop in
-    let s = now (c .before .before .before .before .before .before .before .args .s) in
+    let past = c .before .before .before .before .before in
+    let v = past .loop in
+    let s = now (past .before .before .args .s) in
     absurd (steps.never-bad s (v .at) (v .line) (lines.next-line s (v .at) (v .line) (v .inv .limiting .formed) (c .before .before .before .before .loop-test .taken)) _ _ (sym (c .enum-told .given .1) ∙ c .before .before .read-line .ensures))
 
 with-line-requires : tie.Need-with-line-requires Inv-loop μ-loop
@@ -46,24 +47,26 @@ with-line-requires c κs =
 
 loop-less : tie.Need-loop-less Inv-loop μ-loop
 loop-less c =
-    let v = c .before .before .before .before .before .before .before .loop in
-    let s = now (c .before .before .before .before .before .before .before .before .before .args .s) in
-    let n = lines.next-line s (v .at) (v .line) (v .inv .limiting .formed) (c .before .before .before .before .before .before .loop-test .taken) in
+    let past = c .before .before .before .before .before .before in
+    let v = past .before .loop in
+    let s = now (past .before .before .before .args .s) in
+    let n = lines.next-line s (v .at) (v .line) (v .inv .limiting .formed) (past .loop-test .taken) in
     let e = sym (c .before .before .r .given .1) ∙ c .before .before .before .before .read-line .ensures in
     let o = steps.offset-is s (v .at) (v .line) n _ _ _ _ _ e in
-    omega (arith, o, c .before .before .before .before .before .before .loop-test .taken)
+    omega (arith, o, past .loop-test .taken)
 
 loop-again : tie.Need-loop-again Inv-loop μ-loop
 loop-again c =
-    let v = c .before .before .before .before .before .before .before .loop in
-    let s = now (c .before .before .before .before .before .before .before .before .before .args .s) in
-    let n = lines.next-line s (v .at) (v .line) (v .inv .limiting .formed) (c .before .before .before .before .before .before .loop-test .taken) in
+    let past = c .before .before .before .before .before .before in
+    let v = past .before .loop in
+    let s = now (past .before .before .before .args .s) in
+    let n = lines.next-line s (v .at) (v .line) (v .inv .limiting .formed) (past .loop-test .taken) in
     let e = sym (c .before .before .r .given .1) ∙ c .before .before .before .before .read-line .ensures in
     let o = steps.offset-is s (v .at) (v .line) n _ _ _ _ _ e in
     let l = steps.line-is s (v .at) (v .line) n _ _ _ _ _ e in
     let r = steps.record-is s (v .at) (v .line) n _ _ _ _ _ e in
     let w = c .with-line .ensures ∙ ap (surveyOne (v .survey)) r in
-    rw (o, l, w) (pass.surveying-on s (v .at) (v .line) (v .survey) (v .inv) (c .before .before .before .before .before .before .before .before .before .pre .1) n _ _)
+    rw (o, l, w) (pass.surveying-on s (v .at) (v .line) (v .survey) (v .inv) (past .before .before .before .pre .1) n _ _)
 
 returns-2 : tie.Need-returns-2 Inv-loop μ-loop
 returns-2 c =

@@ -16,13 +16,15 @@ returns-2 c =
 
 returns-3 : tie.Need-returns-3
 returns-3 c =
-    let a = c .before .before .before .before .before .before .before .args in
-    laws.as-many (a .here) (a .arguments) (a .stated) (not-false (a .here .unopened) (c .before .before .before .before .before .if1 .left)) (c .before .before .before .if2 .left) (c .if3 .taken)
+    let past = c .before .before .before .before .before in
+    let a = past .before .before .args in
+    laws.as-many (a .here) (a .arguments) (a .stated) (not-false (a .here .unopened) (past .if1 .left)) (c .before .before .before .if2 .left) (c .if3 .taken)
 
 returns-4 : tie.Need-returns-4
 returns-4 c =
-    let a = c .before .before .before .before .before .before .before .args in
-    laws.other-many (a .here) (a .arguments) (a .stated) (not-false (a .here .unopened) (c .before .before .before .before .before .if1 .left)) (c .before .before .before .if2 .left) (c .if3 .left)
+    let past = c .before .before .before .before .before in
+    let a = past .before .before .args in
+    laws.other-many (a .here) (a .arguments) (a .stated) (not-false (a .here .unopened) (past .if1 .left)) (c .before .before .before .if2 .left) (c .if3 .left)
 
 pub is-stated-spec : {M : Type 1} → statement M
 is-stated-spec = tie.close (tie.spec returns returns-2 returns-3 returns-4)

@@ -25,8 +25,9 @@ add-t5 c = search needs
 
 returns-4 : tie.Need-returns-4
 returns-4 c =
-    let a = c .before .before .before .before .before .args in
-    laws.opens-counted (a .held) (c .before .before .before .before .before .pre) (a .arguments) (a .locals) (c .before .before .before .if1 .left) (omega (arith, c .before .if3 .left, c .before .before .if2 .left))
+    let past = c .before .before .before .before .before in
+    let a = past .args in
+    laws.opens-counted (a .held) (past .pre) (a .arguments) (a .locals) (c .before .before .before .if1 .left) (omega (arith, c .before .if3 .left, c .before .before .if2 .left))
 
 pub count-opens-spec : {M : Type 1} → statement M
 count-opens-spec = tie.close (tie.spec returns returns-2 returns-3 add-t5 returns-4)

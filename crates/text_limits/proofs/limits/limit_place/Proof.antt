@@ -35,8 +35,9 @@ enum-told c = search needs
 
 returns : tie.Need-returns Inv-loop μ-loop
 returns c =
-    let v = c .before .before .before .before .before .loop in
-    let s = now (c .before .before .before .before .before .before .before .args .s) in
+    let past = c .before .before .before .before .before in
+    let v = past .loop in
+    let s = now (past .before .before .args .s) in
     absurd (steps.never-bad s (v .at) (v .line) (lines.next-line s (v .at) (v .line) (v .inv .formed) (c .before .before .before .before .loop-test .taken)) _ _ (sym (c .enum-told .given .1) ∙ c .before .before .read-line .ensures))
 
 count-line-requires : tie.Need-count-line-requires Inv-loop μ-loop
@@ -51,27 +52,32 @@ enum-told-2 c = search needs
 
 returns-2 : tie.Need-returns-2 Inv-loop μ-loop
 returns-2 c =
-    let v = c .before .before .before .before .before .before .before .before .before .loop in
-    let s = now (c .before .before .before .before .before .before .before .before .before .before .before .args .s) in
-    let n = lines.next-line s (v .at) (v .line) (v .inv .formed) (c .before .before .before .before .before .before .before .before .loop-test .taken) in
-    let e = sym (c .before .before .before .before .r .given .1) ∙ c .before .before .before .before .before .before .read-line .ensures in
+    let past = c .before .before .before .before .before .before in
+    let v = past .before .before .before .loop in
+    let s = now (past .before .before .before .before .before .args .s) in
+    let n = lines.next-line s (v .at) (v .line) (v .inv .formed) (past .before .before .loop-test .taken) in
+    let e = sym (c .before .before .before .before .r .given .1) ∙ past .read-line .ensures in
     pass.limit-passed s (v .at) (v .line) (v .held) (v .inv) n _ _ _ _ (steps.record-is s (v .at) (v .line) n _ _ _ _ _ e) (steps.offset-is s (v .at) (v .line) n _ _ _ _ _ e) _ (c .before .before .count-line .ensures) (c .enum-told2 .given .1)
 
 loop-less : tie.Need-loop-less Inv-loop μ-loop
 loop-less c =
-    let v = c .before .before .before .before .before .before .before .before .before .before .loop in
-    let s = now (c .before .before .before .before .before .before .before .before .before .before .before .before .args .s) in
-    let n = lines.next-line s (v .at) (v .line) (v .inv .formed) (c .before .before .before .before .before .before .before .before .before .loop-test .taken) in
-    let e = sym (c .before .before .before .before .before .r .given .1) ∙ c .before .before .before .before .before .before .before .read-line .ensures in
+    let past = c .before .before .before .before .before in
+    let earlier = past .before .before .before .before .before in
+    let v = earlier .loop in
+    let s = now (earlier .before .before .args .s) in
+    let n = lines.next-line s (v .at) (v .line) (v .inv .formed) (past .before .before .before .before .loop-test .taken) in
+    let e = sym (past .r .given .1) ∙ past .before .before .read-line .ensures in
     let o = steps.offset-is s (v .at) (v .line) n _ _ _ _ _ e in
-    omega (arith, o, c .before .before .before .before .before .before .before .before .before .loop-test .taken)
+    omega (arith, o, past .before .before .before .before .loop-test .taken)
 
 loop-again : tie.Need-loop-again Inv-loop μ-loop
 loop-again c =
-    let v = c .before .before .before .before .before .before .before .before .before .before .loop in
-    let s = now (c .before .before .before .before .before .before .before .before .before .before .before .before .args .s) in
-    let n = lines.next-line s (v .at) (v .line) (v .inv .formed) (c .before .before .before .before .before .before .before .before .before .loop-test .taken) in
-    let e = sym (c .before .before .before .before .before .r .given .1) ∙ c .before .before .before .before .before .before .before .read-line .ensures in
+    let past = c .before .before .before .before .before in
+    let earlier = past .before .before .before .before .before in
+    let v = earlier .loop in
+    let s = now (earlier .before .before .args .s) in
+    let n = lines.next-line s (v .at) (v .line) (v .inv .formed) (past .before .before .before .before .loop-test .taken) in
+    let e = sym (past .r .given .1) ∙ past .before .before .read-line .ensures in
     let o = steps.offset-is s (v .at) (v .line) n _ _ _ _ _ e in
     let l = steps.line-is s (v .at) (v .line) n _ _ _ _ _ e in
     rw (o, l) (pass.limit-met s (v .at) (v .line) (v .held) (v .inv) n _ _ _ _ (steps.record-is s (v .at) (v .line) n _ _ _ _ _ e) o _ (c .before .before .before .count-line .ensures) _ (c .before .more .given .1))

@@ -39,21 +39,23 @@ add-if3 c = search needs
 
 returns-2 : tie.Need-returns-2 Inv-loop μ-loop
 returns-2 c =
-    let a = c .before .before .before .before .before .args in
+    let past = c .before .before .before .before .before in
+    let a = past .args in
     let s = now (a .s) in
     let lt : a .from < a .to = omega (arith, c .if3 .taken) in
-    let k : a .to ≤ length s = c .before .before .before .before .before .pre .1 in
+    let k : a .to ≤ length s = past .pre .1 in
     let single : suc (a .from) ≡ a .to = omega (arith, c .if3 .taken) in
     rw (slice-cons (a .from) (a .to) s 0 lt k, c .before .if2 .taken, single, slice-empty) (sym figures.zero-alone)
 
 returns-3 : tie.Need-returns-3 Inv-loop μ-loop
 returns-3 c =
-    let a = c .before .before .before .before .before .args in
+    let past = c .before .before .before .before .before in
+    let a = past .args in
     let s = now (a .s) in
-    let k : a .to ≤ length s = c .before .before .before .before .before .pre .1 in
+    let k : a .to ≤ length s = past .pre .1 in
     let ne : a .from + 1 ≡ a .to → ⊥ = c .if3 .left in
     let nf : a .from ≡ a .to → ⊥ = c .before .before .before .if1 .left in
-    let le : a .from ≤ a .to = c .before .before .before .before .before .pre .0 in
+    let le : a .from ≤ a .to = past .pre .0 in
     let lt : a .from < a .to = omega arith in
     let l2 : suc (a .from) < a .to = omega arith in
     rw (slice-cons (a .from) (a .to) s 0 lt k, c .before .if2 .taken, slice-cons (suc (a .from)) (a .to) s 0 l2 k) (sym (figures.zero-first _ _))
@@ -69,8 +71,9 @@ is-digit-requires c κs = search needs
 
 sub-wide : tie.Need-sub-wide Inv-loop μ-loop
 sub-wide c =
-    let d : isDigit (getD (now (c .before .before .before .before .before .before .before .before .before .args .s)) (c .before .before .before .before .loop .i) 0) ≡ true = sym (c .before .is-digit .ensures) ∙ c .if4 .taken in
-    let lo : 48 ≤ getD (now (c .before .before .before .before .before .before .before .before .before .args .s)) (c .before .before .before .before .loop .i) 0 = leb-true 48 _ (and-left _ (leb (getD (now (c .before .before .before .before .before .before .before .before .before .args .s)) (c .before .before .before .before .loop .i) 0) 57) d) in
+    let past = c .before .before .before .before .before .before .before .before .before in
+    let d : isDigit (getD (now (past .args .s)) (c .before .before .before .before .loop .i) 0) ≡ true = sym (c .before .is-digit .ensures) ∙ c .if4 .taken in
+    let lo : 48 ≤ getD (now (past .args .s)) (c .before .before .before .before .loop .i) 0 = leb-true 48 _ (and-left _ (leb (getD (now (past .args .s)) (c .before .before .before .before .loop .i) 0) 57) d) in
     omega arith
 
 wide-requires : tie.Need-wide-requires Inv-loop μ-loop
@@ -78,11 +81,12 @@ wide-requires c κs = search needs
 
 append-digit-requires : tie.Need-append-digit-requires Inv-loop μ-loop
 append-digit-requires c κs =
-    let b = getD (now (c .before .before .before .before .before .before .before .before .before .before .args .s)) (c .before .before .before .before .before .loop .i) 0 in
+    let past = c .before .before .before .before .before in
+    let b = getD (now (past .before .before .before .before .before .args .s)) (past .loop .i) 0 in
     let d : isDigit b ≡ true = sym (c .before .before .is-digit .ensures) ∙ c .before .if4 .taken in
     let hi : b ≤ 57 = leb-true b 57 (and-right (leb 48 b) (leb b 57) d) in
     let w : c .wide .result ≡ b - 48 = c .wide .ensures in
-    (c .before .before .before .before .before .loop .inv .2, omega arith)
+    (past .loop .inv .2, omega arith)
 
 add-i : tie.Need-add-i Inv-loop μ-loop
 add-i c = search needs
@@ -92,12 +96,14 @@ loop-less c = search needs
 
 loop-again : tie.Need-loop-again Inv-loop μ-loop
 loop-again c =
-    let v = c .before .before .before .before .before .before .loop in
-    let a = c .before .before .before .before .before .before .before .before .before .before .before .args in
+    let past = c .before .before .before .before .before in
+    let earlier = past .before .before .before .before .before .before in
+    let v = past .before .loop in
+    let a = earlier .args in
     let s = now (a .s) in
     let b = getD s (v .i) 0 in
-    let lt : v .i < a .to = c .before .before .before .before .before .loop-test .taken in
-    let k : a .to ≤ length s = c .before .before .before .before .before .before .before .before .before .before .before .pre .1 in
+    let lt : v .i < a .to = past .loop-test .taken in
+    let k : a .to ≤ length s = earlier .pre .1 in
     let d : isDigit b ≡ true = sym (c .before .before .before .is-digit .ensures) ∙ c .before .before .if4 .taken in
     let m : ℕ = v .n * 10 + (b - 48) in
     let r : c .append-digit .result ≡ min m cap = c .append-digit .ensures ∙ rw (c .before .wide .ensures) in (
@@ -110,23 +116,25 @@ loop-again c =
 
 returns-4 : tie.Need-returns-4 Inv-loop μ-loop
 returns-4 c =
+    let past = c .before .before .before .before .before .before .before .before .before in
     let v = c .before .before .before .before .loop in
-    let a = c .before .before .before .before .before .before .before .before .before .args in
+    let a = past .args in
     let s = now (a .s) in
     let lt : v .i < a .to = c .before .before .before .loop-test .taken in
-    let k : a .to ≤ length s = c .before .before .before .before .before .before .before .before .before .pre .1 in
+    let k : a .to ≤ length s = past .pre .1 in
     let d : isDigit (getD s (v .i) 0) ≡ false = sym (c .before .is-digit .ensures) ∙ c .if4 .left in
     sym (figures.no-digits (slice (a .from) (a .to) s) (sym (v .inv .3) ∙ figures.digits-out s (v .i) (a .to) lt k d))
 
 returns-5 : tie.Need-returns-5 Inv-loop μ-loop
 returns-5 c =
+    let past = c .before .before .before .before .before .before in
     let v = c .before .loop in
-    let a = c .before .before .before .before .before .before .args in
+    let a = past .args in
     let s = now (a .s) in
     let at-end : v .i ≡ a .to = omega (arith, c .loop-test .left, v .inv .1) in
-    let k : a .to ≤ length s = c .before .before .before .before .before .before .pre .1 in
+    let k : a .to ≤ length s = past .pre .1 in
     let nf : a .from ≡ a .to → ⊥ = c .before .before .before .before .if1 .left in
-    let le : a .from ≤ a .to = c .before .before .before .before .before .before .pre .0 in
+    let le : a .from ≤ a .to = past .pre .0 in
     let lt : a .from < a .to = omega arith in
     let sc = slice-cons (a .from) (a .to) s 0 lt k in
     let n : v .n ≡ min (readOn 0 (slice (a .from) (a .to) s)) cap = omega (arith, figures.number-none s (v .i) (a .to) (v .n) at-end, v .inv .4, v .inv .2) in

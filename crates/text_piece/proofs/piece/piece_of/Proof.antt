@@ -36,7 +36,8 @@ enum-told c = search needs
 
 returns-2 : tie.Need-returns-2
 returns-2 c =
-    sym (pieces.piece-mark _ _ _ (c .before .before .before .before .before .before .before .pre) (c .before .before .before .before .before .if1 .left) (c .before .before .before .match .keys2) ∙ rw (← c .before .before .figure-of .ensures, c .enum-told .given .1))
+    let past = c .before .before .before .before .before in
+    sym (pieces.piece-mark _ _ _ (past .before .before .pre) (past .if1 .left) (c .before .before .before .match .keys2) ∙ rw (← c .before .before .figure-of .ensures, c .enum-told .given .1))
 
 add-if-alone : tie.Need-add-if-alone
 add-if-alone c = search needs
@@ -73,8 +74,9 @@ enum-told-2 c = search needs
 
 returns-3 : tie.Need-returns-3
 returns-3 c =
+    let past = c .before .before .before .before .before in
     let r = c .before .before .before .match .rest in
-    sym (pieces.piece-value _ _ _ (c .before .before .before .before .before .before .before .pre) (c .before .before .before .before .before .if1 .left) (r .0 .0 .0 .0 .0 .1) (r .0 .0 .0 .0 .1) (r .0 .0 .0 .1) (r .0 .0 .1) (r .0 .1) (r .1) ∙ rw (← c .before .before .figure-of2 .ensures, c .enum-told2 .given .1))
+    sym (pieces.piece-value _ _ _ (past .before .before .pre) (past .if1 .left) (r .0 .0 .0 .0 .0 .1) (r .0 .0 .0 .0 .1) (r .0 .0 .0 .1) (r .0 .0 .1) (r .0 .1) (r .1) ∙ rw (← c .before .before .figure-of2 .ensures, c .enum-told2 .given .1))
 
 returns-4 : tie.Need-returns-4
 returns-4 c =
@@ -82,7 +84,8 @@ returns-4 c =
 
 returns-5 : tie.Need-returns-5
 returns-5 c =
-    sym (pieces.piece-mark _ _ _ (c .before .before .before .before .before .before .before .before .pre) (c .before .before .before .before .before .before .if1 .left) (c .before .before .before .before .match .keys2) ∙ rw (← c .before .before .before .figure-of .ensures, c .before .n .given .1))
+    let past = c .before .before .before .before .before .before in
+    sym (pieces.piece-mark _ _ _ (past .before .before .pre) (past .if1 .left) (c .before .before .before .before .match .keys2) ∙ rw (← c .before .before .before .figure-of .ensures, c .before .n .given .1))
 
 returns-6 : tie.Need-returns-6
 returns-6 c =
@@ -102,8 +105,9 @@ returns-9 c =
 
 returns-10 : tie.Need-returns-10
 returns-10 c =
+    let past = c .before .before .before .before .before .before in
     let r = c .before .before .before .before .match .rest in
-    sym (pieces.piece-value _ _ _ (c .before .before .before .before .before .before .before .before .pre) (c .before .before .before .before .before .before .if1 .left) (r .0 .0 .0 .0 .0 .1) (r .0 .0 .0 .0 .1) (r .0 .0 .0 .1) (r .0 .0 .1) (r .0 .1) (r .1) ∙ rw (← c .before .before .before .figure-of2 .ensures, c .before .n2 .given .1))
+    sym (pieces.piece-value _ _ _ (past .before .before .pre) (past .if1 .left) (r .0 .0 .0 .0 .0 .1) (r .0 .0 .0 .0 .1) (r .0 .0 .0 .1) (r .0 .0 .1) (r .0 .1) (r .1) ∙ rw (← c .before .before .before .figure-of2 .ensures, c .before .n2 .given .1))
 
 pub piece-of-spec : {M : Type 1} → statement M
 piece-of-spec =

@@ -26,17 +26,19 @@ add-if3 c = search needs
 
 returns-2 : tie.Need-returns-2 Inv-loop μ-loop
 returns-2 c =
-    let a = c .before .before .before .before .before .args in
+    let past = c .before .before .before .before .before in
+    let a = past .args in
     let s = now (a .s) in
-    let k : a .to ≤ length s = c .before .before .before .before .before .pre .1 in
+    let k : a .to ≤ length s = past .pre .1 in
     sym (bounds.zero-only s (a .from) (a .to) k (c .before .if2 .taken) (c .if3 .taken))
 
 returns-3 : tie.Need-returns-3 Inv-loop μ-loop
 returns-3 c =
-    let a = c .before .before .before .before .before .args in
+    let past = c .before .before .before .before .before in
+    let a = past .args in
     let s = now (a .s) in
-    let k : a .to ≤ length s = c .before .before .before .before .before .pre .1 in
-    sym (bounds.zero-leads s (a .from) (a .to) k (c .before .before .before .before .before .pre .0) (c .before .before .before .if1 .left) (c .before .if2 .taken) (c .if3 .left))
+    let k : a .to ≤ length s = past .pre .1 in
+    sym (bounds.zero-leads s (a .from) (a .to) k (past .pre .0) (c .before .before .before .if1 .left) (c .before .if2 .taken) (c .if3 .left))
 
 loop-holds : tie.Need-loop-holds Inv-loop μ-loop
 loop-holds c = bounds.reading-begun _ _ _ (c .before .before .before .before .pre .0)
@@ -49,9 +51,10 @@ is-digit-requires c κs = search needs
 
 returns-4 : tie.Need-returns-4 Inv-loop μ-loop
 returns-4 c =
-    let a = c .before .before .before .before .before .before .before .before .before .args in
+    let past = c .before .before .before .before .before .before .before .before .before in
+    let a = past .args in
     let s = now (a .s) in
-    let k : a .to ≤ length s = c .before .before .before .before .before .before .before .before .before .pre .1 in
+    let k : a .to ≤ length s = past .pre .1 in
     let v = c .before .before .before .before .loop in
     sym (bounds.reading-bad s (a .from) (a .to) (v .n) (v .i) k (v .inv) (c .before .before .before .loop-test .taken) _ (c .before .is-digit .ensures) (bounds.was-false _ (c .if4 .taken)))
 
@@ -62,7 +65,9 @@ wide-requires : tie.Need-wide-requires Inv-loop μ-loop
 wide-requires c κs = search needs
 
 append-digit-requires : tie.Need-append-digit-requires Inv-loop μ-loop
-append-digit-requires c κs = let d = bounds.digit-high (getD (now (c .before .before .before .before .before .before .before .before .before .before .args .s)) (c .before .before .before .before .before .loop .i) 0) _ (c .before .before .is-digit .ensures) (bounds.was-true _ (c .before .if4 .left)) in omega (arith, d, c .wide .ensures)
+append-digit-requires c κs =
+    let past = c .before .before .before .before .before in
+    let d = bounds.digit-high (getD (now (past .before .before .before .before .before .args .s)) (past .loop .i) 0) _ (c .before .before .is-digit .ensures) (bounds.was-true _ (c .before .if4 .left)) in omega (arith, d, c .wide .ensures)
 
 enum-known-more : tie.Need-enum-known-more Inv-loop μ-loop
 enum-known-more c = search needs
@@ -72,11 +77,13 @@ enum-told c = search needs
 
 returns-5 : tie.Need-returns-5 Inv-loop μ-loop
 returns-5 c =
-    let a = c .before .before .before .before .before .before .before .before .before .before .before .before .before .args in
+    let past = c .before .before .before .before .before .before .before in
+    let earlier = past .before .before .before .before .before .before in
+    let a = earlier .args in
     let s = now (a .s) in
-    let k : a .to ≤ length s = c .before .before .before .before .before .before .before .before .before .before .before .before .before .pre .1 in
-    let v = c .before .before .before .before .before .before .before .before .loop in
-    sym (bounds.reading-large s (a .from) (a .to) (v .n) (v .i) k (v .inv) (c .before .before .before .before .before .before .before .loop-test .taken) _ (c .before .before .before .wide .ensures)
+    let k : a .to ≤ length s = earlier .pre .1 in
+    let v = past .before .loop in
+    sym (bounds.reading-large s (a .from) (a .to) (v .n) (v .i) k (v .inv) (past .loop-test .taken) _ (c .before .before .before .wide .ensures)
     (sym (c .enum-told .given .1) ∙ c .before .before .append-digit .ensures))
 
 add-i : tie.Need-add-i Inv-loop μ-loop
@@ -87,20 +94,23 @@ loop-less c = search needs
 
 loop-again : tie.Need-loop-again Inv-loop μ-loop
 loop-again c =
-    let a = c .before .before .before .before .before .before .before .before .before .before .before .before .before .before .args in
+    let past = c .before .before .before .before .before in
+    let earlier = past .before .before .before .before .before .before .before .before .before in
+    let a = earlier .args in
     let s = now (a .s) in
-    let k : a .to ≤ length s = c .before .before .before .before .before .before .before .before .before .before .before .before .before .before .pre .1 in
-    let v = c .before .before .before .before .before .before .before .before .before .loop in
-    bounds.reading-on s (a .from) (a .to) (v .n) (v .i) k (v .inv) (c .before .before .before .before .before .before .before .before .loop-test .taken) _ (c .before .before .before .before .before .before .is-digit .ensures) (bounds.was-true _ (c .before .before .before .before .before .if4 .left))
+    let k : a .to ≤ length s = earlier .pre .1 in
+    let v = past .before .before .before .before .loop in
+    bounds.reading-on s (a .from) (a .to) (v .n) (v .i) k (v .inv) (past .before .before .before .loop-test .taken) _ (past .before .is-digit .ensures) (bounds.was-true _ (past .if4 .left))
     _ (c .before .before .before .before .wide .ensures) _ (sym (c .before .more .given .1) ∙ c .before .before .before .append-digit .ensures)
 
 returns-6 : tie.Need-returns-6 Inv-loop μ-loop
 returns-6 c =
-    let a = c .before .before .before .before .before .before .args in
+    let past = c .before .before .before .before .before .before in
+    let a = past .args in
     let s = now (a .s) in
-    let k : a .to ≤ length s = c .before .before .before .before .before .before .pre .1 in
+    let k : a .to ≤ length s = past .pre .1 in
     let v = c .before .loop in
-    bounds.reading-done s (a .from) (a .to) (v .n) (v .i) k (c .before .before .before .before .before .before .pre .0) (v .inv) (c .loop-test .left) (c .before .before .before .before .if1 .left) (c .before .before .if2 .left)
+    bounds.reading-done s (a .from) (a .to) (v .n) (v .i) k (past .pre .0) (v .inv) (c .loop-test .left) (c .before .before .before .before .if1 .left) (c .before .before .if2 .left)
 
 pub moment-of-spec : {M : Type 1} → statement M
 moment-of-spec =

@@ -31,42 +31,48 @@ enum-told c = search needs
 
 returns-2 : tie.Need-returns-2
 returns-2 c =
-    let a = c .before .before .before .before .before .before .before .args in
+    let past = c .before .before .before .before .before in
+    let a = past .before .before .args in
     let s = now (a .s) in
-    let k : a .to ≤ length s = c .before .before .before .before .before .before .before .pre .1 in
-    let low : a .from ≤ a .to = c .before .before .before .before .before .before .before .pre .0 in
-    let first : a .from < a .to = omega (arith, low, c .before .before .before .before .before .if1 .left) in
+    let k : a .to ≤ length s = past .before .before .pre .1 in
+    let low : a .from ≤ a .to = past .before .before .pre .0 in
+    let first : a .from < a .to = omega (arith, low, past .if1 .left) in
     sym (bounds.signed-minus s (a .from) (a .to) first k (c .before .before .before .if2 .taken) _ (sym (c .enum-told .given .1) ∙ c .before .before .moment-of .ensures))
 
 returns-3 : tie.Need-returns-3
 returns-3 c =
-    let a = c .before .before .before .before .before .before .before .before .before .args in
+    let past = c .before .before .before .before .before in
+    let a = past .before .before .before .before .args in
     let s = now (a .s) in
-    let k : a .to ≤ length s = c .before .before .before .before .before .before .before .before .before .pre .1 in
-    let low : a .from ≤ a .to = c .before .before .before .before .before .before .before .before .before .pre .0 in
-    let first : a .from < a .to = omega (arith, low, c .before .before .before .before .before .before .before .if1 .left) in
-    sym (bounds.signed-minus s (a .from) (a .to) first k (c .before .before .before .before .before .if2 .taken) _ (sym (c .before .before .n .given .1) ∙ c .before .before .before .before .moment-of .ensures) ∙ bounds.negated-zero _ (c .if3 .taken))
+    let k : a .to ≤ length s = past .before .before .before .before .pre .1 in
+    let low : a .from ≤ a .to = past .before .before .before .before .pre .0 in
+    let first : a .from < a .to = omega (arith, low, past .before .before .if1 .left) in
+    sym (bounds.signed-minus s (a .from) (a .to) first k (past .if2 .taken) _ (sym (c .before .before .n .given .1) ∙ c .before .before .before .before .moment-of .ensures) ∙ bounds.negated-zero _ (c .if3 .taken))
 
 returns-4 : tie.Need-returns-4
 returns-4 c =
-    let a = c .before .before .before .before .before .before .before .before .before .before .args in
+    let past = c .before .before .before .before .before in
+    let earlier = past .before .before .before .before .before in
+    let a = earlier .args in
     let s = now (a .s) in
-    let k : a .to ≤ length s = c .before .before .before .before .before .before .before .before .before .before .pre .1 in
-    let low : a .from ≤ a .to = c .before .before .before .before .before .before .before .before .before .before .pre .0 in
-    let first : a .from < a .to = omega (arith, low, c .before .before .before .before .before .before .before .before .if1 .left) in
-    sym (bounds.signed-minus s (a .from) (a .to) first k (c .before .before .before .before .before .before .if2 .taken) _ (sym (c .before .before .before .n .given .1) ∙ c .before .before .before .before .before .moment-of .ensures) ∙ bounds.negated-large _ (c .if4 .taken))
+    let k : a .to ≤ length s = earlier .pre .1 in
+    let low : a .from ≤ a .to = earlier .pre .0 in
+    let first : a .from < a .to = omega (arith, low, past .before .before .before .if1 .left) in
+    sym (bounds.signed-minus s (a .from) (a .to) first k (past .before .if2 .taken) _ (sym (c .before .before .before .n .given .1) ∙ past .moment-of .ensures) ∙ bounds.negated-large _ (c .if4 .taken))
 
 sub-t12 : tie.Need-sub-t12
 sub-t12 c = search needs
 
 returns-5 : tie.Need-returns-5
 returns-5 c =
-    let a = c .before .before .before .before .before .before .before .before .before .before .args in
+    let past = c .before .before .before .before .before in
+    let earlier = past .before .before .before .before .before in
+    let a = earlier .args in
     let s = now (a .s) in
-    let k : a .to ≤ length s = c .before .before .before .before .before .before .before .before .before .before .pre .1 in
-    let low : a .from ≤ a .to = c .before .before .before .before .before .before .before .before .before .before .pre .0 in
-    let first : a .from < a .to = omega (arith, low, c .before .before .before .before .before .before .before .before .if1 .left) in
-    sym (bounds.signed-minus s (a .from) (a .to) first k (c .before .before .before .before .before .before .if2 .taken) _ (sym (c .before .before .before .n .given .1) ∙ c .before .before .before .before .before .moment-of .ensures) ∙ bounds.negated-in _ (omega (arith, c .before .if3 .left)) (omega (arith, c .if4 .left)))
+    let k : a .to ≤ length s = earlier .pre .1 in
+    let low : a .from ≤ a .to = earlier .pre .0 in
+    let first : a .from < a .to = omega (arith, low, past .before .before .before .if1 .left) in
+    sym (bounds.signed-minus s (a .from) (a .to) first k (past .before .if2 .taken) _ (sym (c .before .before .before .n .given .1) ∙ past .moment-of .ensures) ∙ bounds.negated-in _ (omega (arith, c .before .if3 .left)) (omega (arith, c .if4 .left)))
 
 moment-of-requires-2 : tie.Need-moment-of-requires-2
 moment-of-requires-2 c κs = search needs
@@ -79,30 +85,33 @@ enum-told-2 c = search needs
 
 returns-6 : tie.Need-returns-6
 returns-6 c =
-    let a = c .before .before .before .before .before .before .before .args in
+    let past = c .before .before .before .before .before in
+    let a = past .before .before .args in
     let s = now (a .s) in
-    let k : a .to ≤ length s = c .before .before .before .before .before .before .before .pre .1 in
-    let low : a .from ≤ a .to = c .before .before .before .before .before .before .before .pre .0 in
-    let first : a .from < a .to = omega (arith, low, c .before .before .before .before .before .if1 .left) in
+    let k : a .to ≤ length s = past .before .before .pre .1 in
+    let low : a .from ≤ a .to = past .before .before .pre .0 in
+    let first : a .from < a .to = omega (arith, low, past .if1 .left) in
     sym (bounds.signed-plain s (a .from) (a .to) first k (c .before .before .before .if2 .left) _ (sym (c .enum-told2 .given .1) ∙ c .before .before .moment-of2 .ensures))
 
 returns-7 : tie.Need-returns-7
 returns-7 c =
-    let a = c .before .before .before .before .before .before .before .before .before .args in
+    let past = c .before .before .before .before .before in
+    let a = past .before .before .before .before .args in
     let s = now (a .s) in
-    let k : a .to ≤ length s = c .before .before .before .before .before .before .before .before .before .pre .1 in
-    let low : a .from ≤ a .to = c .before .before .before .before .before .before .before .before .before .pre .0 in
-    let first : a .from < a .to = omega (arith, low, c .before .before .before .before .before .before .before .if1 .left) in
-    sym (bounds.signed-plain s (a .from) (a .to) first k (c .before .before .before .before .before .if2 .left) _ (sym (c .before .before .n2 .given .1) ∙ c .before .before .before .before .moment-of2 .ensures) ∙ bounds.narrowed-in 2147483648 _ (c .if5 .taken))
+    let k : a .to ≤ length s = past .before .before .before .before .pre .1 in
+    let low : a .from ≤ a .to = past .before .before .before .before .pre .0 in
+    let first : a .from < a .to = omega (arith, low, past .before .before .if1 .left) in
+    sym (bounds.signed-plain s (a .from) (a .to) first k (past .if2 .left) _ (sym (c .before .before .n2 .given .1) ∙ c .before .before .before .before .moment-of2 .ensures) ∙ bounds.narrowed-in 2147483648 _ (c .if5 .taken))
 
 returns-8 : tie.Need-returns-8
 returns-8 c =
-    let a = c .before .before .before .before .before .before .before .before .before .args in
+    let past = c .before .before .before .before .before in
+    let a = past .before .before .before .before .args in
     let s = now (a .s) in
-    let k : a .to ≤ length s = c .before .before .before .before .before .before .before .before .before .pre .1 in
-    let low : a .from ≤ a .to = c .before .before .before .before .before .before .before .before .before .pre .0 in
-    let first : a .from < a .to = omega (arith, low, c .before .before .before .before .before .before .before .if1 .left) in
-    sym (bounds.signed-plain s (a .from) (a .to) first k (c .before .before .before .before .before .if2 .left) _ (sym (c .before .before .n2 .given .1) ∙ c .before .before .before .before .moment-of2 .ensures) ∙ bounds.narrowed-out 2147483648 _ (c .if5 .left))
+    let k : a .to ≤ length s = past .before .before .before .before .pre .1 in
+    let low : a .from ≤ a .to = past .before .before .before .before .pre .0 in
+    let first : a .from < a .to = omega (arith, low, past .before .before .if1 .left) in
+    sym (bounds.signed-plain s (a .from) (a .to) first k (past .if2 .left) _ (sym (c .before .before .n2 .given .1) ∙ c .before .before .before .before .moment-of2 .ensures) ∙ bounds.narrowed-out 2147483648 _ (c .if5 .left))
 
 pub value-of-spec : {M : Type 1} → statement M
 value-of-spec =

@@ -27,15 +27,17 @@ returns-2 c =
 
 returns-3 : tie.Need-returns-3
 returns-3 c =
-    let a = c .before .before .before .before .before .before .before .args in
+    let past = c .before .before .before .before .before in
+    let a = past .before .before .args in
     let s = now (a .trace) in
-    rw (← c .if2 .taken) (scripts.from-input s (a .at) _ _ _ _ _ (sym (c .before .before .before .t .given .1) ∙ c .before .before .before .before .before .read-trace-line .ensures) (c .before .if1 .left))
+    rw (← c .if2 .taken) (scripts.from-input s (a .at) _ _ _ _ _ (sym (c .before .before .before .t .given .1) ∙ past .read-trace-line .ensures) (c .before .if1 .left))
 
 returns-4 : tie.Need-returns-4
 returns-4 c =
-    let a = c .before .before .before .before .before .before .before .args in
+    let past = c .before .before .before .before .before in
+    let a = past .before .before .args in
     let s = now (a .trace) in
-    groups.other-time s (a .at) (a .time) _ _ _ _ _ (sym (c .before .before .before .t .given .1) ∙ c .before .before .before .before .before .read-trace-line .ensures) (c .before .if1 .left) (c .if2 .left)
+    groups.other-time s (a .at) (a .time) _ _ _ _ _ (sym (c .before .before .before .t .given .1) ∙ past .read-trace-line .ensures) (c .before .if1 .left) (c .if2 .left)
 
 pub joining-spec : {M : Type 1} → statement M
 joining-spec =

@@ -48,10 +48,12 @@ put-input-requires c κs = search needs
 
 loop-holds : tie.Need-loop-holds Inv-loop μ-loop
 loop-holds c =
-    let a = c .before .before .before .before .before .before .before .before .before .before .before .before .before .before .before .args in
+    let past = c .before .before .before .before .before .before .before in
+    let earlier = past .before .before .before .before .before .before .before .before in
+    let a = earlier .args in
     let s = now (a .trace) in
-    let j = scripts.from-input s (a .at) _ _ _ _ _ (sym (c .before .before .before .before .before .before .before .before .before .line .given .1) ∙ c .before .before .before .before .before .before .before .before .before .before .before .read-trace-line .ensures) (c .before .before .before .before .before .before .before .if1 .left) in
-    groups.group-begun s (a .at) _ _ _ _ _ _ _ _ _ j (c .before .before .before .before .before .before .before .before .before .before .before .before .before .before .before .pre .1) (c .before .before .before .before .before .before .before .before .before .before .before .before .before .before .before .pre .2) (c .before .before .before .before .put-input .ensures)
+    let j = scripts.from-input s (a .at) _ _ _ _ _ (sym (past .before .before .line .given .1) ∙ past .before .before .before .before .read-trace-line .ensures) (past .if1 .left) in
+    groups.group-begun s (a .at) _ _ _ _ _ _ _ _ _ j (earlier .pre .1) (earlier .pre .2) (c .before .before .before .before .put-input .ensures)
 
 joining-requires : tie.Need-joining-requires Inv-loop μ-loop
 joining-requires c κs =
@@ -73,12 +75,14 @@ same-length-2 c =
 
 returns-3 : tie.Need-returns-3 Inv-loop μ-loop
 returns-3 c =
-    let a = c .before .before .before .before .before .before .before .before .before .before .before .before .before .before .before .before .before .before .before .args in
+    let past = c .before .before .before .before .before .before .before .before in
+    let earlier = past .before .before .before .before .before in
+    let a = earlier .before .before .before .before .before .before .args in
     let s = now (a .trace) in
     let v = c .before .before .before .loop in
-    let time = c .before .before .before .before .before .before .before .before .before .before .before .before .before .line .given .0 .0 in
+    let time = earlier .line .given .0 .0 in
     let apart = subst (λ (r : Joins). JoinsIs s (v .next) time r) (c .enum-told .given .1) (c .before .before .joining .ensures) in
-    let put = c .before .before .before .before .before .before .before .before .put-input .ensures in
+    let put = past .put-input .ensures in
     groups.group-read (v .inv) put apart
 
 put-input-requires-2 : tie.Need-put-input-requires-2 Inv-loop μ-loop
@@ -88,20 +92,24 @@ put-input-requires-2 c κs =
 
 loop-less : tie.Need-loop-less Inv-loop μ-loop
 loop-less c =
-    let a = c .before .before .before .before .before .before .before .before .before .before .before .before .before .before .before .before .before .before .before .before .before .before .before .before .before .before .before .args in
+    let past = c .before .before .before .before .before .before .before .before in
+    let earlier = past .before .before .before .before .before .before .before .before .before .before .before .before .before in
+    let a = earlier .before .before .before .before .before .before .args in
     let s = now (a .trace) in
-    let v = c .before .before .before .before .before .before .before .before .before .before .before .loop in
-    let time = c .before .before .before .before .before .before .before .before .before .before .before .before .before .before .before .before .before .before .before .before .before .line .given .0 .0 in
-    let j = subst (λ (r : Joins). JoinsIs s (v .next) time r) (c .before .before .before .before .before .before .before .before .n .given .1) (c .before .before .before .before .before .before .before .before .before .before .joining .ensures) in
+    let v = past .before .before .before .loop in
+    let time = earlier .line .given .0 .0 in
+    let j = subst (λ (r : Joins). JoinsIs s (v .next) time r) (past .n .given .1) (past .before .before .joining .ensures) in
     omega (arith, j .forward, j .inside)
 
 loop-again : tie.Need-loop-again Inv-loop μ-loop
 loop-again c =
-    let a = c .before .before .before .before .before .before .before .before .before .before .before .before .before .before .before .before .before .before .before .before .before .before .before .before .before .before .before .args in
+    let past = c .before .before .before .before .before .before .before .before in
+    let earlier = past .before .before .before .before .before .before .before .before .before .before .before .before .before in
+    let a = earlier .before .before .before .before .before .before .args in
     let s = now (a .trace) in
-    let v = c .before .before .before .before .before .before .before .before .before .before .before .loop in
-    let time = c .before .before .before .before .before .before .before .before .before .before .before .before .before .before .before .before .before .before .before .before .before .line .given .0 .0 in
-    let j = subst (λ (r : Joins). JoinsIs s (v .next) time r) (c .before .before .before .before .before .before .before .before .n .given .1) (c .before .before .before .before .before .before .before .before .before .before .joining .ensures) in
+    let v = past .before .before .before .loop in
+    let time = earlier .line .given .0 .0 in
+    let j = subst (λ (r : Joins). JoinsIs s (v .next) time r) (past .n .given .1) (past .before .before .joining .ensures) in
     groups.group-on (v .inv) _ _ _ _ _ _ j (c .before .before .before .before .put-input2 .ensures)
 
 pub next-call-spec : {M : Type 1} → statement M

@@ -29,9 +29,10 @@ returns c =
 
 input-field-requires : tie.Need-input-field-requires
 input-field-requires c κs =
-    let a = c .before .before .before .before .before .args in
+    let past = c .before .before .before .before .before in
+    let a = past .args in
     let s = now (a .s) in
-    let g1 = fields.figure-got (readBelow momentRange) s (a .place) (a .stop) (c .before .before .before .before .before .pre) _ _ _ (sym (c .before .time .given .1) ∙ c .before .before .before .time-field .ensures) in
+    let g1 = fields.figure-got (readBelow momentRange) s (a .place) (a .stop) (past .pre) _ _ _ (sym (c .before .time .given .1) ∙ c .before .before .before .time-field .ensures) in
     g1 .within
 
 enum-known-number : tie.Need-enum-known-number
@@ -42,16 +43,18 @@ enum-told-2 c = search needs
 
 returns-2 : tie.Need-returns-2
 returns-2 c =
-    let a = c .before .before .before .before .before .before .before .before .args in
+    let past = c .before .before .before .before .before .before in
+    let a = past .before .before .args in
     let s = now (a .s) in
-    let g1 = fields.figure-got (readBelow momentRange) s (a .place) (a .stop) (c .before .before .before .before .before .before .before .before .pre) _ _ _ (sym (c .before .before .before .before .time .given .1) ∙ c .before .before .before .before .before .before .time-field .ensures) in
+    let g1 = fields.figure-got (readBelow momentRange) s (a .place) (a .stop) (past .before .before .pre) _ _ _ (sym (c .before .before .before .before .time .given .1) ∙ past .time-field .ensures) in
     lines.rest-bad s (a .place) (a .stop) readInputLine (fields.figure-on (readBelow momentRange) s _ _ g1 _ ∙ fields.figure-unread (readBelow wordRange) s (c .before .before .before .before .time .given .0 .1 .1 .0) _ (sym (c .enum-told2 .given .1) ∙ c .before .before .input-field .ensures) _)
 
 value-field-requires : tie.Need-value-field-requires
 value-field-requires c κs =
-    let a = c .before .before .before .before .before .before .before .before .before .args in
+    let past = c .before .before .before .before .before in
+    let a = past .before .before .before .before .args in
     let s = now (a .s) in
-    let g1 = fields.figure-got (readBelow momentRange) s (a .place) (a .stop) (c .before .before .before .before .before .before .before .before .before .pre) _ _ _ (sym (c .before .before .before .before .before .time .given .1) ∙ c .before .before .before .before .before .before .before .time-field .ensures) in
+    let g1 = fields.figure-got (readBelow momentRange) s (a .place) (a .stop) (past .before .before .before .before .pre) _ _ _ (sym (past .time .given .1) ∙ past .before .before .time-field .ensures) in
     let g2 = fields.figure-got (readBelow wordRange) s _ _ (g1 .within) _ _ _ (sym (c .before .number .given .1) ∙ c .before .before .before .input-field .ensures) in
     g2 .within
 
@@ -63,44 +66,54 @@ enum-told-3 c = search needs
 
 returns-3 : tie.Need-returns-3
 returns-3 c =
-    let a = c .before .before .before .before .before .before .before .before .before .before .before .before .args in
+    let past = c .before .before .before .before .before .before in
+    let earlier = past .before .before .before .before .before .before in
+    let a = earlier .args in
     let s = now (a .s) in
-    let g1 = fields.figure-got (readBelow momentRange) s (a .place) (a .stop) (c .before .before .before .before .before .before .before .before .before .before .before .before .pre) _ _ _ (sym (c .before .before .before .before .before .before .before .before .time .given .1) ∙ c .before .before .before .before .before .before .before .before .before .before .time-field .ensures) in
-    let g2 = fields.figure-got (readBelow wordRange) s _ _ (g1 .within) _ _ _ (sym (c .before .before .before .before .number .given .1) ∙ c .before .before .before .before .before .before .input-field .ensures) in
+    let g1 = fields.figure-got (readBelow momentRange) s (a .place) (a .stop) (earlier .pre) _ _ _ (sym (past .before .before .time .given .1) ∙ past .before .before .before .before .time-field .ensures) in
+    let g2 = fields.figure-got (readBelow wordRange) s _ _ (g1 .within) _ _ _ (sym (c .before .before .before .before .number .given .1) ∙ past .input-field .ensures) in
     lines.rest-bad s (a .place) (a .stop) readInputLine (fields.figure-on (readBelow momentRange) s _ _ g1 _ ∙ fields.figure-on (readBelow wordRange) s _ _ g2 _ ∙ fields.figure-unread readSigned s (c .before .before .before .before .number .given .0 .1 .1 .0) _ (sym (c .enum-told3 .given .1) ∙ c .before .before .value-field .ensures) _)
 
 returns-4 : tie.Need-returns-4
 returns-4 c =
-    let a = c .before .before .before .before .before .before .before .before .before .before .before .before .before .before .args in
+    let past = c .before .before .before .before .before .before in
+    let earlier = past .before .before .before .before .before .before in
+    let a = earlier .before .before .args in
     let s = now (a .s) in
-    let g1 = fields.figure-got (readBelow momentRange) s (a .place) (a .stop) (c .before .before .before .before .before .before .before .before .before .before .before .before .before .before .pre) _ _ _ (sym (c .before .before .before .before .before .before .before .before .before .before .time .given .1) ∙ c .before .before .before .before .before .before .before .before .before .before .before .before .time-field .ensures) in
-    let g2 = fields.figure-got (readBelow wordRange) s _ _ (g1 .within) _ _ _ (sym (c .before .before .before .before .before .before .number .given .1) ∙ c .before .before .before .before .before .before .before .before .input-field .ensures) in
+    let g1 = fields.figure-got (readBelow momentRange) s (a .place) (a .stop) (earlier .before .before .pre) _ _ _ (sym (past .before .before .before .before .time .given .1) ∙ earlier .time-field .ensures) in
+    let g2 = fields.figure-got (readBelow wordRange) s _ _ (g1 .within) _ _ _ (sym (past .number .given .1) ∙ past .before .before .input-field .ensures) in
     let g3 = fields.figure-got readSigned s _ _ (g2 .within) _ _ _ (sym (c .before .before .value .given .1) ∙ c .before .before .before .before .value-field .ensures) in
     lines.rest-bad s (a .place) (a .stop) readInputLine (fields.figure-on (readBelow momentRange) s _ _ g1 _ ∙ fields.figure-on (readBelow wordRange) s _ _ g2 _ ∙ fields.figure-on readSigned s _ _ g3 _ ∙ lines.end-open s (c .before .before .value .given .0 .1 .1 .0 .offset) _ _ (c .if1 .taken))
 
 cast-t17 : tie.Need-cast-t17
 cast-t17 c =
-    let a = c .before .before .before .before .before .before .before .before .before .before .before .before .before .before .args in
+    let past = c .before .before .before .before .before .before in
+    let earlier = past .before .before .before .before .before .before in
+    let a = earlier .before .before .args in
     let s = now (a .s) in
-    let g1 = fields.figure-got (readBelow momentRange) s (a .place) (a .stop) (c .before .before .before .before .before .before .before .before .before .before .before .before .before .before .pre) _ _ _ (sym (c .before .before .before .before .before .before .before .before .before .before .time .given .1) ∙ c .before .before .before .before .before .before .before .before .before .before .before .before .time-field .ensures) in
-    let g2 = fields.figure-got (readBelow wordRange) s _ _ (g1 .within) _ _ _ (sym (c .before .before .before .before .before .before .number .given .1) ∙ c .before .before .before .before .before .before .before .before .input-field .ensures) in
+    let g1 = fields.figure-got (readBelow momentRange) s (a .place) (a .stop) (earlier .before .before .pre) _ _ _ (sym (past .before .before .before .before .time .given .1) ∙ earlier .time-field .ensures) in
+    let g2 = fields.figure-got (readBelow wordRange) s _ _ (g1 .within) _ _ _ (sym (past .number .given .1) ∙ past .before .before .input-field .ensures) in
     omega (arith, lines.input-bits _ _ (g2 .read))
 
 cast-t18 : tie.Need-cast-t18
 cast-t18 c =
-    let a = c .before .before .before .before .before .before .before .before .before .before .before .before .before .before .args in
+    let past = c .before .before .before .before .before .before in
+    let earlier = past .before .before .before .before .before .before in
+    let a = earlier .before .before .args in
     let s = now (a .s) in
-    let g1 = fields.figure-got (readBelow momentRange) s (a .place) (a .stop) (c .before .before .before .before .before .before .before .before .before .before .before .before .before .before .pre) _ _ _ (sym (c .before .before .before .before .before .before .before .before .before .before .time .given .1) ∙ c .before .before .before .before .before .before .before .before .before .before .before .before .time-field .ensures) in
-    let g2 = fields.figure-got (readBelow wordRange) s _ _ (g1 .within) _ _ _ (sym (c .before .before .before .before .before .before .number .given .1) ∙ c .before .before .before .before .before .before .before .before .input-field .ensures) in
+    let g1 = fields.figure-got (readBelow momentRange) s (a .place) (a .stop) (earlier .before .before .pre) _ _ _ (sym (past .before .before .before .before .time .given .1) ∙ earlier .time-field .ensures) in
+    let g2 = fields.figure-got (readBelow wordRange) s _ _ (g1 .within) _ _ _ (sym (past .number .given .1) ∙ past .before .before .input-field .ensures) in
     let g3 = fields.figure-got readSigned s _ _ (g2 .within) _ _ _ (sym (c .before .before .value .given .1) ∙ c .before .before .before .before .value-field .ensures) in
     omega (arith, lines.value-bits _ _ (g3 .read))
 
 returns-5 : tie.Need-returns-5
 returns-5 c =
-    let a = c .before .before .before .before .before .before .before .before .before .before .before .before .before .before .args in
+    let past = c .before .before .before .before .before .before in
+    let earlier = past .before .before .before .before .before .before in
+    let a = earlier .before .before .args in
     let s = now (a .s) in
-    let g1 = fields.figure-got (readBelow momentRange) s (a .place) (a .stop) (c .before .before .before .before .before .before .before .before .before .before .before .before .before .before .pre) _ _ _ (sym (c .before .before .before .before .before .before .before .before .before .before .time .given .1) ∙ c .before .before .before .before .before .before .before .before .before .before .before .before .time-field .ensures) in
-    let g2 = fields.figure-got (readBelow wordRange) s _ _ (g1 .within) _ _ _ (sym (c .before .before .before .before .before .before .number .given .1) ∙ c .before .before .before .before .before .before .before .before .input-field .ensures) in
+    let g1 = fields.figure-got (readBelow momentRange) s (a .place) (a .stop) (earlier .before .before .pre) _ _ _ (sym (past .before .before .before .before .time .given .1) ∙ earlier .time-field .ensures) in
+    let g2 = fields.figure-got (readBelow wordRange) s _ _ (g1 .within) _ _ _ (sym (past .number .given .1) ∙ past .before .before .input-field .ensures) in
     let g3 = fields.figure-got readSigned s _ _ (g2 .within) _ _ _ (sym (c .before .before .value .given .1) ∙ c .before .before .before .before .value-field .ensures) in
     lines.rest-is s (a .place) (a .stop) readInputLine _ _ _ (fields.figure-on (readBelow momentRange) s _ _ g1 _ ∙ fields.figure-on (readBelow wordRange) s _ _ g2 _ ∙ fields.figure-on readSigned s _ _ g3 _ ∙ lines.end-shut _ _ _ (c .if1 .left))
     (sym (g1 .stops) ∙ sym (g2 .stops) ∙ sym (g3 .stops) ∙ chain.stop-shut s _ _ (c .if1 .left))

@@ -27,16 +27,18 @@ returns c =
 
 returns-2 : tie.Need-returns-2
 returns-2 c =
-    let a = c .before .before .before .before .before .before .args in
+    let past = c .before .before .before .before .before .before in
+    let a = past .args in
     let s = now (a .s) in
-    let g1 = fields.figure-got (readBelow momentRange) s (a .place) (a .stop) (c .before .before .before .before .before .before .pre) _ _ _ (sym (c .before .before .time .given .1) ∙ c .before .before .before .before .time-field .ensures) in
+    let g1 = fields.figure-got (readBelow momentRange) s (a .place) (a .stop) (past .pre) _ _ _ (sym (c .before .before .time .given .1) ∙ c .before .before .before .before .time-field .ensures) in
     lines.rest-bad s (a .place) (a .stop) readLastLine (fields.figure-on (readBelow momentRange) s _ _ g1 _ ∙ lines.end-open s (c .before .before .time .given .0 .1 .1 .0 .offset) _ _ (c .if1 .taken))
 
 returns-3 : tie.Need-returns-3
 returns-3 c =
-    let a = c .before .before .before .before .before .before .args in
+    let past = c .before .before .before .before .before .before in
+    let a = past .args in
     let s = now (a .s) in
-    let g1 = fields.figure-got (readBelow momentRange) s (a .place) (a .stop) (c .before .before .before .before .before .before .pre) _ _ _ (sym (c .before .before .time .given .1) ∙ c .before .before .before .before .time-field .ensures) in
+    let g1 = fields.figure-got (readBelow momentRange) s (a .place) (a .stop) (past .pre) _ _ _ (sym (c .before .before .time .given .1) ∙ c .before .before .before .before .time-field .ensures) in
     lines.rest-is s (a .place) (a .stop) readLastLine _ _ _ (fields.figure-on (readBelow momentRange) s _ _ g1 _ ∙ lines.end-shut _ _ _ (c .if1 .left))
     (sym (g1 .stops) ∙ chain.stop-shut s _ _ (c .if1 .left))
     (sym (g1 .nexts) ∙ chain.next-shut s _ _ (c .if1 .left))

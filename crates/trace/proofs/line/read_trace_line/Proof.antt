@@ -24,58 +24,66 @@ returns c =
 
 sub-if1 : tie.Need-sub-if1
 sub-if1 c =
-    let a = c .before .before .before .before .before .args in
+    let past = c .before .before .before .before .before in
+    let a = past .args in
     let s = now (a .s) in
-    let p = fields.piece-got s (a .place) 9 (c .before .before .before .before .before .pre) _ _ _ _ (sym (c .before .from .given .1) ∙ c .before .before .before .one-piece .ensures) in
+    let p = fields.piece-got s (a .place) 9 (past .pre) _ _ _ _ (sym (c .before .from .given .1) ∙ c .before .before .before .one-piece .ensures) in
     p .rising
 
 returns-2 : tie.Need-returns-2
 returns-2 c =
-    let a = c .before .before .before .before .before .before .args in
+    let past = c .before .before .before .before .before .before in
+    let a = past .args in
     let s = now (a .s) in
-    let p = fields.piece-got s (a .place) 9 (c .before .before .before .before .before .before .pre) _ _ _ _ (sym (c .before .before .from .given .1) ∙ c .before .before .before .before .one-piece .ensures) in
+    let p = fields.piece-got s (a .place) 9 (past .pre) _ _ _ _ (sym (c .before .before .from .given .1) ∙ c .before .before .before .before .one-piece .ensures) in
     lines.line-long s (a .place) _ _ _ _ p (c .if1 .taken)
 
 shared-slice-read-letter : tie.Need-shared-slice-read-letter
 shared-slice-read-letter c =
-    let a = c .before .before .before .before .before .before .before .args in
+    let past = c .before .before .before .before .before in
+    let a = past .before .before .args in
     let s = now (a .s) in
-    let p = fields.piece-got s (a .place) 9 (c .before .before .before .before .before .before .before .pre) _ _ _ _ (sym (c .before .before .before .from .given .1) ∙ c .before .before .before .before .before .one-piece .ensures) in
+    let p = fields.piece-got s (a .place) 9 (past .before .before .pre) _ _ _ _ (sym (c .before .before .before .from .given .1) ∙ past .one-piece .ensures) in
     omega (arith, p .rising, p .inside, c .before .if1 .left)
 
 read-input-requires : tie.Need-read-input-requires
 read-input-requires c κs =
-    let a = c .before .before .before .before .before .before .before .before .args in
+    let earlier = c .before .before .before .before .before .before in
+    let a = earlier .before .before .args in
     let s = now (a .s) in
-    let p = fields.piece-got s (a .place) 9 (c .before .before .before .before .before .before .before .before .pre) _ _ _ _ (sym (c .before .before .before .before .from .given .1) ∙ c .before .before .before .before .before .before .one-piece .ensures) in
+    let p = fields.piece-got s (a .place) 9 (earlier .before .before .pre) _ _ _ _ (sym (c .before .before .before .before .from .given .1) ∙ earlier .one-piece .ensures) in
     p .past .within
 
 returns-3 : tie.Need-returns-3
 returns-3 c =
-    let a = c .before .before .before .before .before .before .before .before .before .args in
+    let past = c .before .before .before .before .before in
+    let a = past .before .before .before .before .args in
     let s = now (a .s) in
-    let p = fields.piece-got s (a .place) 9 (c .before .before .before .before .before .before .before .before .before .pre) _ _ _ _ (sym (c .before .before .before .before .before .from .given .1) ∙ c .before .before .before .before .before .before .before .one-piece .ensures) in
+    let p = fields.piece-got s (a .place) 9 (past .before .before .before .before .pre) _ _ _ _ (sym (past .from .given .1) ∙ past .before .before .one-piece .ensures) in
     c .read-input .ensures ∙ lines.line-input s (a .place) _ _ _ _ p (c .before .before .before .if1 .left) (c .before .if2 .taken)
 
 read-last-requires : tie.Need-read-last-requires
 read-last-requires c κs =
-    let a = c .before .before .before .before .before .before .before .before .before .args in
+    let earlier = c .before .before .before .before .before in
+    let a = earlier .before .before .before .before .args in
     let s = now (a .s) in
-    let p = fields.piece-got s (a .place) 9 (c .before .before .before .before .before .before .before .before .before .pre) _ _ _ _ (sym (c .before .before .before .before .before .from .given .1) ∙ c .before .before .before .before .before .before .before .one-piece .ensures) in
+    let p = fields.piece-got s (a .place) 9 (earlier .before .before .before .before .pre) _ _ _ _ (sym (earlier .from .given .1) ∙ earlier .before .before .one-piece .ensures) in
     p .past .within
 
 returns-4 : tie.Need-returns-4
 returns-4 c =
-    let a = c .before .before .before .before .before .before .before .before .before .before .args in
+    let past = c .before .before .before .before .before .before in
+    let a = past .before .before .before .before .args in
     let s = now (a .s) in
-    let p = fields.piece-got s (a .place) 9 (c .before .before .before .before .before .before .before .before .before .before .pre) _ _ _ _ (sym (c .before .before .before .before .before .before .from .given .1) ∙ c .before .before .before .before .before .before .before .before .one-piece .ensures) in
+    let p = fields.piece-got s (a .place) 9 (past .before .before .before .before .pre) _ _ _ _ (sym (past .from .given .1) ∙ past .before .before .one-piece .ensures) in
     c .read-last .ensures ∙ lines.line-last s (a .place) _ _ _ _ p (c .before .before .before .before .if1 .left) (c .before .if3 .taken)
 
 returns-5 : tie.Need-returns-5
 returns-5 c =
-    let a = c .before .before .before .before .before .before .before .before .before .args in
+    let past = c .before .before .before .before .before in
+    let a = past .before .before .before .before .args in
     let s = now (a .s) in
-    let p = fields.piece-got s (a .place) 9 (c .before .before .before .before .before .before .before .before .before .pre) _ _ _ _ (sym (c .before .before .before .before .before .from .given .1) ∙ c .before .before .before .before .before .before .before .one-piece .ensures) in
+    let p = fields.piece-got s (a .place) 9 (past .before .before .before .before .pre) _ _ _ _ (sym (past .from .given .1) ∙ past .before .before .one-piece .ensures) in
     lines.line-other s (a .place) _ _ _ _ p (c .before .before .before .if1 .left) (c .before .if2 .left) (c .if3 .left)
 
 pub read-trace-line-spec : {M : Type 1} → statement M

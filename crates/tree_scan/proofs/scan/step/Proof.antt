@@ -28,11 +28,13 @@ returns c =
 
 block-of-requires : tie.Need-block-of-requires
 block-of-requires c κs =
-    (c .before .before .before .before .before .pre .1, omega (arith, c .before .before .before .before .before .pre .3 .few, c .before .before .before .before .before .pre .2), c .before .before .before .before .before .pre .3 .slot (c .before .before .before .before .before .args .k) (c .before .before .before .before .before .pre .2))
+    let past = c .before .before .before .before .before in
+    (past .pre .1, omega (arith, past .pre .3 .few, past .pre .2), past .pre .3 .slot (past .args .k) (past .pre .2))
 
 owned-by-requires : tie.Need-owned-by-requires
 owned-by-requires c κs =
-    (c .before .before .before .before .before .before .pre .0, c .before .before .before .made-by .ensures .1 .somebody (not-false _ (c .before .if1 .left)) .there, c .before .before .before .before .before .before .pre .3 .table .most)
+    let past = c .before .before .before .before .before .before in
+    (past .pre .0, c .before .before .before .made-by .ensures .1 .somebody (not-false _ (c .before .if1 .left)) .there, past .pre .3 .table .most)
 
 add-number : tie.Need-add-number
 add-number c = search needs
@@ -51,27 +53,32 @@ refused-requires-2 c κs = search needs
 
 returns-2 : tie.Need-returns-2
 returns-2 c =
-    let a = c .before .before .before .before .before .before .before .before .before .before .before .args in
-    let e : c .before .before .number .result ≡ length (recordOf (a .m .now) (a .k) .own) = size-from (a .m .now) (a .k) _ _ (c .before .before .before .before .before .block-of .ensures .0) (c .before .before .number .ensures .0) in
-    let C = c .before .before .before .before .before .before .before .before .made-by .ensures .1 .somebody (not-false _ (c .before .before .before .before .before .before .if1 .left)) in
-    let h : length (recordOf (a .m .now) (a .k) .own) ≡ ownedBy (tableListing (a .t .now)) (c .before .before .before .before .before .before .before .before .made-by .result .routine) → ⊥ = λ z. c .before .if2 .taken (e ∙ z ∙ sym (c .before .before .before .before .owned-by .ensures)) in (
-      c .refused2 .ensures ∙ wrong-size-path _ _ _ _ _ (c .before .before .before .before .before .before .before .before .made-by .ensures .0) (not-false _ (c .before .before .before .before .before .before .if1 .left)) h,
+    let past = c .before .before .before .before .before in
+    let earlier = past .before .before .before .before .before .before in
+    let a = earlier .args in
+    let e : c .before .before .number .result ≡ length (recordOf (a .m .now) (a .k) .own) = size-from (a .m .now) (a .k) _ _ (past .block-of .ensures .0) (c .before .before .number .ensures .0) in
+    let C = past .before .before .before .made-by .ensures .1 .somebody (not-false _ (past .before .if1 .left)) in
+    let h : length (recordOf (a .m .now) (a .k) .own) ≡ ownedBy (tableListing (a .t .now)) (past .before .before .before .made-by .result .routine) → ⊥ = λ z. c .before .if2 .taken (e ∙ z ∙ sym (c .before .before .before .before .owned-by .ensures)) in (
+      c .refused2 .ensures ∙ wrong-size-path _ _ _ _ _ (past .before .before .before .made-by .ensures .0) (not-false _ (past .before .if1 .left)) h,
       refused-step _ _ _ (a .p) _ (c .refused2 .ensures)
-          (wrong-size (a .t .now) (a .m .now) (a .k) (a .p) _ _ _ (c .before .before .before .before .before .before .before .before .before .before .before .pre .2) (c .before .before .before .before .before .before .before .before .before .before .before .pre .3) (c .before .before .before .before .before .before .before .before .before .before .before .pre .4) C h),
+          (wrong-size (a .t .now) (a .m .now) (a .k) (a .p) _ _ _ (earlier .pre .2) (earlier .pre .3) (earlier .pre .4) C h),
     )
 
 settle-requires : tie.Need-settle-requires
 settle-requires c κs =
-    let a = c .before .before .before .before .before .before .before .before .before .before .args in
+    let past = c .before .before .before .before .before in
+    let earlier = past .before .before .before .before .before in
+    let a = earlier .args in
     let e : c .before .number .result ≡ length (recordOf (a .m .now) (a .k) .own) = size-from (a .m .now) (a .k) _ _ (c .before .before .before .before .block-of .ensures .0) (c .before .number .ensures .0) in
-    let C = c .before .before .before .before .before .before .before .made-by .ensures .1 .somebody (not-false _ (c .before .before .before .before .before .if1 .left)) in
-    (c .before .before .before .before .before .before .before .before .before .before .pre .0, c .before .before .before .before .before .before .before .before .before .before .pre .1, c .before .before .before .before .before .before .before .before .before .before .pre .2, c .before .before .before .before .before .before .before .before .before .before .pre .3, c .before .before .before .before .before .before .before .before .before .before .pre .4, C, sym e ∙ c .if2 .left ∙ c .before .before .before .owned-by .ensures)
+    let C = past .before .before .made-by .ensures .1 .somebody (not-false _ (past .if1 .left)) in
+    (earlier .pre .0, earlier .pre .1, earlier .pre .2, earlier .pre .3, earlier .pre .4, C, sym e ∙ c .if2 .left ∙ c .before .before .before .owned-by .ensures)
 
 returns-3 : tie.Need-returns-3
 returns-3 c =
-    let a = c .before .before .before .before .before .before .before .before .before .before .before .args in
-    let e : c .before .before .number .result ≡ length (recordOf (a .m .now) (a .k) .own) = size-from (a .m .now) (a .k) _ _ (c .before .before .before .before .before .block-of .ensures .0) (c .before .before .number .ensures .0) in (
-      c .settle .ensures .0 ∙ right-size-path _ _ _ _ _ (c .before .before .before .before .before .before .before .before .made-by .ensures .0) (not-false _ (c .before .before .before .before .before .before .if1 .left)) (sym e ∙ c .before .if2 .left ∙ c .before .before .before .before .owned-by .ensures),
+    let past = c .before .before .before .before .before in
+    let a = past .before .before .before .before .before .before .args in
+    let e : c .before .before .number .result ≡ length (recordOf (a .m .now) (a .k) .own) = size-from (a .m .now) (a .k) _ _ (past .block-of .ensures .0) (c .before .before .number .ensures .0) in (
+      c .settle .ensures .0 ∙ right-size-path _ _ _ _ _ (past .before .before .before .made-by .ensures .0) (not-false _ (past .before .if1 .left)) (sym e ∙ c .before .if2 .left ∙ c .before .before .before .before .owned-by .ensures),
       c .settle .ensures .1,
     )
 

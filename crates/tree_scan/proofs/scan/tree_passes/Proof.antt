@@ -29,7 +29,8 @@ loop-holds c =
 
 step-requires : tie.Need-step-requires Inv-loop μ-loop
 step-requires c κs =
-    (c .before .before .before .before .before .before .pre .0, c .before .before .before .before .before .before .pre .1, omega (arith, c .loop-test .taken, c .before .before .number .ensures .0), c .before .before .before .before .before .before .pre .2, c .before .loop .inv .1)
+    let past = c .before .before .before .before .before .before in
+    (past .pre .0, past .pre .1, omega (arith, c .loop-test .taken, c .before .before .number .ensures .0), past .pre .2, c .before .loop .inv .1)
 
 returns : tie.Need-returns Inv-loop μ-loop
 returns c =

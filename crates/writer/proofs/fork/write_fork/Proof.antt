@@ -24,20 +24,23 @@ mul-write-call c =
 
 add-write-call : tie.Need-add-write-call Inv-loop μ-loop
 add-write-call c =
+    let past = c .before .before .before .before .before in
     let v = c .before .before .loop .inv in
-    omega (arith, v .small, calls.fork-room _ _ _ _ _ _ (c .before .before .before .before .before .pre .4) _ _ _ _ _ _ v (c .before .loop-test .taken), c .before .before .before .before .before .pre .3)
+    omega (arith, v .small, calls.fork-room _ _ _ _ _ _ (past .pre .4) _ _ _ _ _ _ v (c .before .loop-test .taken), past .pre .3)
 
 write-call-requires : tie.Need-write-call-requires Inv-loop μ-loop
 write-call-requires c κs =
+    let past = c .before .before .before .before .before in
     let v = c .before .before .loop .inv in
-    let few = calls.fork-room _ _ _ _ _ _ (c .before .before .before .before .before .pre .4) _ _ _ _ _ _ v (c .before .loop-test .taken) in
-    (v .within, c .before .before .before .before .before .pre .1, omega (arith, v .small, few, c .before .before .before .before .before .pre .3))
+    let few = calls.fork-room _ _ _ _ _ _ (past .pre .4) _ _ _ _ _ _ v (c .before .loop-test .taken) in
+    (v .within, past .pre .1, omega (arith, v .small, few, past .pre .3))
 
 add-cells : tie.Need-add-cells Inv-loop μ-loop
 add-cells c =
-    let v = c .before .before .before .before .before .before .loop .inv in
-    let few = calls.fork-room _ _ _ _ _ _ (c .before .before .before .before .before .before .before .before .before .pre .4) _ _ _ _ _ _ v (c .before .before .before .before .before .loop-test .taken) in
-    omega (arith, v .small, few, c .before .before .before .write-call .ensures .few, c .before .before .before .before .before .before .before .before .before .pre .1)
+    let past = c .before .before .before .before .before in
+    let v = past .before .loop .inv in
+    let few = calls.fork-room _ _ _ _ _ _ (past .before .before .before .before .pre .4) _ _ _ _ _ _ v (past .loop-test .taken) in
+    omega (arith, v .small, few, c .before .before .before .write-call .ensures .few, past .before .before .before .before .pre .1)
 
 add-count : tie.Need-add-count Inv-loop μ-loop
 add-count c =
@@ -46,14 +49,16 @@ add-count c =
 
 loop-less : tie.Need-loop-less Inv-loop μ-loop
 loop-less c =
-    let v = c .before .before .before .before .before .before .before .loop .inv in
-    omega (arith, calls.fork-room _ _ _ _ _ _ (c .before .before .before .before .before .before .before .before .before .before .pre .4) _ _ _ _ _ _ v (c .before .before .before .before .before .before .loop-test .taken))
+    let past = c .before .before .before .before .before .before in
+    let v = past .before .loop .inv in
+    omega (arith, calls.fork-room _ _ _ _ _ _ (past .before .before .before .before .pre .4) _ _ _ _ _ _ v (past .loop-test .taken))
 
 loop-again : tie.Need-loop-again Inv-loop μ-loop
 loop-again c =
-    let v = c .before .before .before .before .before .before .before .loop .inv in
-    let tab = c .before .before .before .before .before .before .loop-test .taken in
-    let p = c .before .before .before .before .before .before .before .before .before .before .pre in
+    let past = c .before .before .before .before .before .before in
+    let v = past .before .loop .inv in
+    let tab = past .loop-test .taken in
+    let p = past .before .before .before .before .pre in
     calls.forking-on _ _ _ _ _ _ _ _ _ _ _ _ v tab (calls.fork-room _ _ _ _ _ _ (p .4) _ _ _ _ _ _ v tab) (p .1) _ _ (c .before .before .before .before .write-call .ensures)
 
 cast-put-entry : tie.Need-cast-put-entry Inv-loop μ-loop
@@ -70,7 +75,8 @@ put-entry-requires c κs =
 
 mul-t25 : tie.Need-mul-t25 Inv-loop μ-loop
 mul-t25 c =
-    omega (arith, c .before .before .before .before .before .loop .inv .small, c .before .before .before .before .before .loop .inv .few)
+    let past = c .before .before .before .before .before in
+    omega (arith, past .loop .inv .small, past .loop .inv .few)
 
 same-length : tie.Need-same-length Inv-loop μ-loop
 same-length c =
@@ -78,7 +84,8 @@ same-length c =
 
 returns : tie.Need-returns Inv-loop μ-loop
 returns c =
-    calls.fork-written _ _ _ _ _ _ _ _ _ _ _ _ (c .before .before .before .before .before .loop .inv) _ (c .before .before .before .before .loop-test .left) _ (c .before .before .put-entry .ensures) (c .before .before .before .before .before .before .before .before .pre .4)
+    let past = c .before .before .before .before .before in
+    calls.fork-written _ _ _ _ _ _ _ _ _ _ _ _ (past .loop .inv) _ (c .before .before .before .before .loop-test .left) _ (c .before .before .put-entry .ensures) (past .before .before .before .pre .4)
 
 pub write-fork-spec : {M : Type 1} → statement M
 write-fork-spec =

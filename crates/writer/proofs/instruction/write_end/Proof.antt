@@ -16,8 +16,9 @@ same-length c = search needs
 
 returns : tie.Need-returns
 returns c =
-    let a = c .before .before .before .before .before .before .args in
-    let p = c .before .before .before .before .before .before .pre in
+    let past = c .before .before .before .before .before .before in
+    let a = past .args in
+    let p = past .pre in
     let entry = c .before .before .put-entry .ensures in
     written.end-written (now (a .s)) (now (a .t)) (a .place) (a .stop) (a .e) (a .a) _ entry (p .4)
 

@@ -19,9 +19,10 @@ same-length c = search needs
 
 returns : tie.Need-returns
 returns c =
-    let a = c .before .before .before .before .before .before .before .before .args in
-    let p = c .before .before .before .before .before .before .before .before .pre in
-    let word = c .before .before .before .before .before .word-field .ensures in
+    let past = c .before .before .before .before .before in
+    let a = past .before .before .before .args in
+    let p = past .before .before .before .pre in
+    let word = past .word-field .ensures in
     let entry = c .before .before .put-entry .ensures in
     written.jump-written (now (a .s)) (now (a .t)) (a .place) (a .stop) (a .e) (a .a) (p .0) _ (word .0) _ entry (p .4)
 

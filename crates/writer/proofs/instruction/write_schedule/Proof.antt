@@ -26,11 +26,13 @@ cast-put-entry c = search needs
 
 cast-put-entry-2 : tie.Need-cast-put-entry-2
 cast-put-entry-2 c =
-    omega (arith, c .before .before .before .before .before .before .before .before .before .before .before .write-cells .ensures .few, c .before .before .before .before .before .before .before .before .before .before .before .before .before .before .before .before .before .pre .1)
+    let past = c .before .before .before .before .before .before .before .before .before .before .before in
+    omega (arith, past .write-cells .ensures .few, past .before .before .before .before .before .before .pre .1)
 
 cast-put-entry-3 : tie.Need-cast-put-entry-3
 cast-put-entry-3 c =
-    omega (arith, c .before .before .before .before .before .before .write-cells2 .ensures .few, c .before .before .before .before .before .before .before .before .before .before .before .before .before .before .before .before .before .before .pre .1)
+    let past = c .before .before .before .before .before .before in
+    omega (arith, past .write-cells2 .ensures .few, past .before .before .before .before .before .before .before .before .before .before .before .before .pre .1)
 
 put-entry-requires : tie.Need-put-entry-requires
 put-entry-requires c κs =
@@ -38,27 +40,34 @@ put-entry-requires c κs =
 
 mul-t17 : tie.Need-mul-t17
 mul-t17 c =
-    omega (arith, c .before .before .before .before .before .before .before .before .before .before .before .before .before .before .before .before .write-cells .ensures .few, c .before .before .before .before .before .before .before .before .before .before .before .before .before .before .before .before .before .before .before .before .before .before .pre .1)
+    let past = c .before .before .before .before .before .before .before .before .before .before .before .before .before .before .before .before in
+    omega (arith, past .write-cells .ensures .few, past .before .before .before .before .before .before .pre .1)
 
 mul-t18 : tie.Need-mul-t18
 mul-t18 c =
-    omega (arith, c .before .before .before .before .before .before .before .before .before .before .before .write-cells2 .ensures .few, c .before .before .before .before .before .before .before .before .before .before .before .before .before .before .before .before .before .before .before .before .before .before .before .pre .1)
+    let past = c .before .before .before .before .before .before .before .before .before .before .before in
+    omega (arith, past .write-cells2 .ensures .few, past .before .before .before .before .before .before .before .before .before .before .before .before .pre .1)
 
 add-t25 : tie.Need-add-t25
 add-t25 c =
-    let p = c .before .before .before .before .before .before .before .before .before .before .before .before .before .before .before .before .before .before .before .before .before .before .before .pre in
-    omega (arith, c .before .before .before .before .before .before .before .before .before .before .before .before .before .before .before .before .before .write-cells .ensures .few, c .before .before .before .before .before .before .before .before .before .before .before .write-cells2 .ensures .few, p .1)
+    let past = c .before .before .before .before .before .before .before .before .before .before .before in
+    let earlier = past .before .before .before .before .before .before in
+    let p = earlier .before .before .before .before .before .before .pre in
+    omega (arith, earlier .write-cells .ensures .few, past .write-cells2 .ensures .few, p .1)
 
 same-length : tie.Need-same-length
 same-length c = search needs
 
 returns : tie.Need-returns
 returns c =
-    let a = c .before .before .before .before .before .before .before .before .before .before .before .before .before .before .before .before .before .before .before .before .before .before .before .args in
-    let p = c .before .before .before .before .before .before .before .before .before .before .before .before .before .before .before .before .before .before .before .before .before .before .before .pre in
-    let word = c .before .before .before .before .before .before .before .before .before .before .before .before .before .before .before .before .before .before .before .before .word-field .ensures in
-    let cells = c .before .before .before .before .before .before .before .before .before .before .before .before .before .before .before .before .before .write-cells .ensures in
-    let others = c .before .before .before .before .before .before .before .before .before .before .before .write-cells2 .ensures in
+    let past = c .before .before .before .before .before .before .before .before .before .before .before in
+    let earlier = past .before .before .before .before .before .before in
+    let former = earlier .before .before .before .before .before .before in
+    let a = former .args in
+    let p = former .pre in
+    let word = earlier .before .before .before .word-field .ensures in
+    let cells = earlier .write-cells .ensures in
+    let others = past .write-cells2 .ensures in
     let entry = c .before .before .before .before .put-entry .ensures in
     written.schedule-written (now (a .s)) (now (a .t)) (a .place) (a .stop) (a .e) (a .a) (p .0) _ (word .0) _ _ cells _ _ others _ entry (p .4)
 

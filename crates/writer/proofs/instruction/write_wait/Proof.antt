@@ -25,9 +25,10 @@ same-length c = search needs
 
 returns : tie.Need-returns
 returns c =
-    let a = c .before .before .before .before .before .before .before .before .before .before .before .before .before .args in
-    let p = c .before .before .before .before .before .before .before .before .before .before .before .before .before .pre in
-    let cells = c .before .before .before .before .before .before .before .before .before .write-cells .ensures in
+    let past = c .before .before .before .before .before .before .before .before .before in
+    let a = past .before .before .before .before .args in
+    let p = past .before .before .before .before .pre in
+    let cells = past .write-cells .ensures in
     let entry = c .before .before .before .put-entry .ensures in
     written.wait-written (now (a .s)) (now (a .t)) (a .place) (a .stop) (a .e) (a .a) (p .0) _ _ cells _ entry (p .4)
 

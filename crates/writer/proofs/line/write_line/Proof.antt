@@ -11,14 +11,16 @@ take-piece-requires c κs = search needs
 
 shared-slice-read-write-rest : tie.Need-shared-slice-read-write-rest
 shared-slice-read-write-rest c =
-    let a = c .before .before .before .before .before .before .args in
-    let p = c .before .before .before .before .before .before .pre in
+    let past = c .before .before .before .before .before .before in
+    let a = past .args in
+    let p = past .pre in
     lines.letter-in (now (a .s)) (a .place) (p .0) _ (c .before .before .before .take-piece .ensures) (p .4)
 
 write-rest-requires : tie.Need-write-rest-requires
 write-rest-requires c κs =
-    let a = c .before .before .before .before .before .before .args in
-    let p = c .before .before .before .before .before .before .pre in
+    let past = c .before .before .before .before .before .before in
+    let a = past .args in
+    let p = past .pre in
     let taken = c .before .before .before .take-piece .ensures in
     (openings.piece-next (now (a .s)) (a .place) (p .0) _ taken, p .1, p .2, p .3, lines.rest-good (now (a .s)) (a .place) (p .0) _ taken (p .4))
 
@@ -27,9 +29,10 @@ same-length c = search needs
 
 returns : tie.Need-returns
 returns c =
-    let a = c .before .before .before .before .before .before .before .before .before .args in
-    let p = c .before .before .before .before .before .before .before .before .before .pre in
-    lines.line-written (now (a .s)) (a .place) (p .0) _ (c .before .before .before .before .before .before .take-piece .ensures) (p .4) (a .e) (a .a) (now (a .t)) _ _ (c .before .before .write-rest .ensures)
+    let past = c .before .before .before .before .before .before in
+    let a = past .before .before .before .args in
+    let p = past .before .before .before .pre in
+    lines.line-written (now (a .s)) (a .place) (p .0) _ (past .take-piece .ensures) (p .4) (a .e) (a .a) (now (a .t)) _ _ (c .before .before .write-rest .ensures)
 
 pub write-line-spec : {M : Type 1} → statement M
 write-line-spec =

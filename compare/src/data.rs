@@ -1,5 +1,5 @@
 //! Writes the data files of the gate's test programs from a folder of stored answers, with a few
-//! call lists made here. The format stands in crates/cases/src/frame.rt and crates/call_tests/src.
+//! call lists made here. The format stands in crates/test_cases/src/frame.rt and crates/test_calls/src.
 
 use crate::calls::{answer, Call};
 use crate::listing;

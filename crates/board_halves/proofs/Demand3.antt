@@ -15,11 +15,11 @@ use Rattle.walk.specs.Runs.{Run, answersFrom, answersFromFound, foundAfter, rep
 use Rattle.walk.specs.Promises.{resultOf}
 use Rattle.walk.specs.Promises as Promises
 use Rattle.walk.specs.Boards.{BoardRun, asInstantCalls}
-use Rattle.halves.specs.Halves.{RunFor, onlyOf, Agree}
-use Rattle.halves.proofs.Demand3 as Walk
-use Rattle.promises.specs.Exact.{Exact}
-use Rattle.promises.specs.Sessions.{resultsOf, resultsOn, StopsAreNumbered, BoardSession}
-use Rattle.promises.proofs.Board.{board-session, start-went-through, answers-of-known}
+use Rattle.walk_halves.specs.Halves.{RunFor, onlyOf, Agree}
+use Rattle.walk_halves.proofs.Demand3 as Walk
+use Rattle.board_promises.specs.Exact.{Exact}
+use Rattle.board_promises.specs.Sessions.{resultsOf, resultsOn, StopsAreNumbered, BoardSession}
+use Rattle.board_promises.proofs.Board.{board-session, start-went-through, answers-of-known}
 use Rattle.board_halves.specs.Boards.{boardAccepted, boardTime, boardWrites, BoardRunFor, BoardsAgree}
 use Rattle.board_halves.proofs.Told.{calls-told}
 

@@ -20,14 +20,14 @@ use Rattle.walk.specs.Events.{Event}
 use Rattle.walk.specs.Runs.{InstantCall, Run, Answered, answersFrom, answersFromFound, answers, acceptedInputs, reportedWrites, timeOf}
 use Rattle.walk.specs.Promises.{Result, resultOf, TableAfter, untouched, holds}
 use Rattle.walk.specs.Boards.{BoardRun, BoardCall, CallArguments, AllFit, none-fits, one-fits, argumentsOf, asInstantCalls}
-use Rattle.halves.specs.Halves.{onlyOf}
-use Rattle.halves.specs.Examples.{first, second, oneListing, otherListing, oneRun, otherRun, opened, closed, oneNumbers, otherNumbers, oneSecond, otherSecond}
-use Rattle.halves.proofs.Evaluation.{doneOf, startOf, numbersOf, Told, told}
-use Rattle.halves.proofs.Examples.{one-loads, other-loads, one-run, other-run, one-told, other-told, its-routines, second-differs}
+use Rattle.walk_halves.specs.Halves.{onlyOf}
+use Rattle.walk_halves.specs.Examples.{first, second, oneListing, otherListing, oneRun, otherRun, opened, closed, oneNumbers, otherNumbers, oneSecond, otherSecond}
+use Rattle.walk_halves.proofs.Evaluation.{doneOf, startOf, numbersOf, Told, told}
+use Rattle.walk_halves.proofs.Examples.{one-loads, other-loads, one-run, other-run, one-told, other-told, its-routines, second-differs}
 use Rattle.walk_laws.proofs.Booleans.{and-left, and-right}
-use Rattle.promises.specs.Exact.{Exact}
-use Rattle.promises.specs.Sessions.{resultsOf, resultsOn, BoardSession, SessionOf}
-use Rattle.promises.proofs.Board.{board-session}
+use Rattle.board_promises.specs.Exact.{Exact}
+use Rattle.board_promises.specs.Sessions.{resultsOf, resultsOn, BoardSession, SessionOf}
+use Rattle.board_promises.proofs.Board.{board-session}
 use Rattle.board_halves.specs.Boards.{boardAccepted, boardTime, boardWrites, BoardRunFor, BoardsAgree}
 use Rattle.board_halves.specs.Examples.{sixteen, oneHanded, otherHanded, TwoBoards}
 use Rattle.board_halves.proofs.Demand3.{asRun, OnTheWalk, on-the-walk}

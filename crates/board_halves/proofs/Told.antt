@@ -17,7 +17,7 @@ use Rattle.walk.specs.Promises.{resultOf}
 use Rattle.walk.specs.Promises as Promises
 use Rattle.walk.specs.Boards.{BoardCall, asInstantCall, asInstantCalls}
 use Rattle.walk_laws.proofs.Booleans.{and-left}
-use Rattle.promises.specs.Sessions.{resultsOf, resultsOn, StopsAreNumbered, one-answer}
+use Rattle.board_promises.specs.Sessions.{resultsOf, resultsOn, StopsAreNumbered, one-answer}
 use Rattle.board_halves.specs.Boards.{ifZero, boardAccepted, boardTime}
 use Rattle.walk_laws.proofs.Answers.{stop-is-not-0}
 

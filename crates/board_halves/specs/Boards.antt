@@ -7,7 +7,7 @@ use Rattle.listing.specs.Load.{Loads}
 use Rattle.walk.specs.Calls.{Layout, inputsOf}
 use Rattle.walk.specs.Events.{Event, eventsAt}
 use Rattle.walk.specs.Boards.{BoardCall, BoardRun, listedBy, boardReported}
-use Rattle.halves.specs.Halves.{LetTo, onlyOf, AgreeFor}
+use Rattle.walk_halves.specs.Halves.{LetTo, onlyOf, AgreeFor}
 
 -- Of a call with this number the first if it is 0, else the second.
 unfoldable pub ifZero : {A : Type 0} → ℕ → A → A → A

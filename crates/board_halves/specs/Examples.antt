@@ -6,9 +6,9 @@ use lib.ListN.{replicate}
 use Rattle.walk.specs.Calls.{Layout}
 use Rattle.walk.specs.Promises.{Result}
 use Rattle.walk.specs.Boards.{BoardRun, CallArguments, argumentsOf}
-use Rattle.halves.specs.Halves.{onlyOf}
-use Rattle.halves.specs.Examples.{first, second, oneListing, otherListing, opened, closed, oneNumbers, otherNumbers, oneSecond, otherSecond}
-use Rattle.promises.specs.Sessions.{resultsOn}
+use Rattle.walk_halves.specs.Halves.{onlyOf}
+use Rattle.walk_halves.specs.Examples.{first, second, oneListing, otherListing, opened, closed, oneNumbers, otherNumbers, oneSecond, otherSecond}
+use Rattle.board_promises.specs.Sessions.{resultsOn}
 use Rattle.board_halves.specs.Boards.{boardWrites, BoardRunFor, BoardsAgree}
 
 -- Output lists of 16 places.

@@ -20,9 +20,9 @@ use Rattle.machine.specs.Words.{momentAt, stateOf}
 use Rattle.machine.specs.ReadMachine.{readMachine}
 use Rattle.machine.specs.Due.{dueAt}
 use Rattle.machine_words.specs.Tests.{Dues}
-use Rattle.question7.specs.Answer.{answerOf, checkOf, Answered}
-use Rattle.question7.specs.declared.MachineCheck.{MachineCheck}
-use Rattle.question7.specs.declared.MachineCheck.the-variants.{Running}
+use Rattle.machine_check.specs.Answer.{answerOf, checkOf, Answered}
+use Rattle.machine_check.specs.declared.MachineCheck.{MachineCheck}
+use Rattle.machine_check.specs.declared.MachineCheck.the-variants.{Running}
 use Rattle.call_arguments.specs.Asked.{machineRefusal, longEnough, numbersRise, asked, MachineAsked}
 use Rattle.call_arguments.proofs.Refusals.{read-by-refusal, due-by-answer, refusal-running}
 

@@ -13,8 +13,8 @@ use Rattle.walk.specs.Calls.{Machine, halted, running}
 use Rattle.machine.specs.Words.{runningWords, stateOf}
 use Rattle.machine.specs.Due.{dueAt}
 use Rattle.machine.specs.ReadMachine.{stoppedWords, machineBy, readMachine}
-use Rattle.question7.specs.Answer.{runs, answerOf, checkOf}
-use Rattle.question7.specs.declared.MachineCheck.the-variants.{NotAState, Stopped, Running}
+use Rattle.machine_check.specs.Answer.{runs, answerOf, checkOf}
+use Rattle.machine_check.specs.declared.MachineCheck.the-variants.{NotAState, Stopped, Running}
 use Rattle.call_arguments.specs.Asked.{machineRefusal}
 
 module _ (listing : Listing) (w : List ℕ) (pass : machineRefusal (readMachine listing w) ≡ 0) where

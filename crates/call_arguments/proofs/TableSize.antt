@@ -11,7 +11,7 @@ use Rattle.walk.specs.Instant.{environmentSize}
 use Rattle.walk.specs.Calls.{Words32}
 use Rattle.table.specs.Decode.{tableListing}
 use Rattle.table.specs.Question6.{isTable}
-use Rattle.question7.proofs.FromQuestion6.{table-within-limits}
+use Rattle.machine_check.proofs.FromQuestion6.{table-within-limits}
 
 -- The words 0 and 1 of a table that may be longer.
 module _ (t : List ℕ) (pass : isTable (take 12288 t) ≡ true) where

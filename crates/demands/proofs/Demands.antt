@@ -45,20 +45,20 @@ use Rattle.table.proofs.Table.{meets}
 use Rattle.table.proofs.Unused as Cleared
 use Rattle.machine.specs.Question7.{IsMachine}
 use Rattle.machine.proofs.Question7.{question-7-exactly-if, no-machine-exactly-if}
-use Rattle.halves.specs.Halves.{onlyOf}
+use Rattle.walk_halves.specs.Halves.{onlyOf}
 use Rattle.board_halves.specs.Boards.{BoardRunFor, BoardsAgree, boardWrites}
 use Rattle.board_halves.specs.Examples.{sixteen, oneHanded, otherHanded}
 use Rattle.board_halves.proofs.Demand3 as Halves
 use Rattle.board_halves.proofs.Examples.{one-fit, other-fit, two-boards}
-use Rattle.halves.specs.Examples.{oneListing, otherListing}
-use Rattle.halves.proofs.Examples.{one-loads, other-loads}
+use Rattle.walk_halves.specs.Examples.{oneListing, otherListing}
+use Rattle.walk_halves.proofs.Examples.{one-loads, other-loads}
 use Rattle.listing.specs.Text.{textOf}
-use Rattle.promises.specs.Exact.{LoadedFrom}
-use Rattle.promises.specs.Sessions.{CallsAreTheWalks, BoardSession}
-use Rattle.promises.proofs.Causes.{instant-has-one-cause}
-use Rattle.promises.proofs.Session.{call-answers-as-the-walk, calls-are-the-walks}
-use Rattle.promises.proofs.Board.{board-session}
-use Rattle.promises.proofs.Exists.{every-session-exists}
+use Rattle.board_promises.specs.Exact.{LoadedFrom}
+use Rattle.board_promises.specs.Sessions.{CallsAreTheWalks, BoardSession}
+use Rattle.board_promises.proofs.Causes.{instant-has-one-cause}
+use Rattle.board_promises.proofs.Session.{call-answers-as-the-walk, calls-are-the-walks}
+use Rattle.board_promises.proofs.Board.{board-session}
+use Rattle.board_promises.proofs.Exists.{every-session-exists}
 use Rattle.layout.specs.Layout.{layout}
 use Rattle.fabrwent.specs.Runs.{ExportedRun, asBoardRun}
 use Rattle.fabrwent.proofs.loading.fabrwent_load.Statement as Load
@@ -69,13 +69,13 @@ use Rattle.fabrwent.proofs.calls.fabrwent_instant.Statement as Instant
 use Rattle.fabrwent.proofs.calls.fabrwent_instant.Met as instant-call
 use Rattle.fabrwent.proofs.calls.fabrwent_alike.Statement as Alike
 use Rattle.fabrwent.proofs.calls.fabrwent_alike.Met as alike-call
-use Rattle.replay.specs.Phases.{Memories}
-use Rattle.replay.specs.Ending.{stepsAtMost, areLong, StepsMade, Called, KeepsContract, afterCalls, AllPrinted}
-use Rattle.replay.specs.declared.phase.Phase.{Phase}
-use Rattle.replay.specs.declared.phase.Phase.the-variants.{Over}
-use Rattle.replay.proofs.Ending as Ending
-use Rattle.replay.proofs.advancing.advance.Statement as Advance
-use Rattle.replay.proofs.advancing.advance.Met as advance
+use Rattle.session_replay.specs.Phases.{Memories}
+use Rattle.session_replay.specs.Ending.{stepsAtMost, areLong, StepsMade, Called, KeepsContract, afterCalls, AllPrinted}
+use Rattle.session_replay.specs.declared.phase.Phase.{Phase}
+use Rattle.session_replay.specs.declared.phase.Phase.the-variants.{Over}
+use Rattle.session_replay.proofs.Ending as Ending
+use Rattle.session_replay.proofs.advancing.advance.Statement as Advance
+use Rattle.session_replay.proofs.advancing.advance.Met as advance
 use Rattle.demands.specs.Exists.{ExportedSessionOf, TwoExported}
 use Rattle.demands.proofs.LayoutIsExact.{layout-is-exact, loaded-within-limits}
 use Rattle.demands.proofs.Exported.{exported-session, board-session-of}

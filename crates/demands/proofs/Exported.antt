@@ -8,7 +8,7 @@ use Rattle.walk.specs.Instant.{NextDue, never, moment}
 use Rattle.walk.specs.Promises.{Result, TableAfter, Keeps}
 use Rattle.walk.specs.Calls.{Outcome}
 use Rattle.walk.specs.Boards.{BoardCall, BoardCalls, no-more, and-then, BoardRun, CallArguments, argumentsOf}
-use Rattle.promises.specs.Sessions.{SessionOf}
+use Rattle.board_promises.specs.Sessions.{SessionOf}
 use Rattle.layout.specs.Layout.{layout}
 use Rattle.fabrwent.specs.Figures.{dueIn, resultIn, DueTold}
 use Rattle.fabrwent.specs.Loading.{LoadFigures}

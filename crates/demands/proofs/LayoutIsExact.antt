@@ -21,7 +21,7 @@ use Rattle.machine.specs.Records.{recordsOf}
 use Rattle.machine.specs.Layout.{wordsOf}
 use Rattle.machine.specs.Limits.{WithinLimits}
 use Rattle.machine.proofs.MachineWords.{read-is-a-state, running-first-word-is-0, every-state-has-words, halted-words-are-read, read-halted-is-the-stopped-form}
-use Rattle.promises.specs.Exact.{LoadedFrom, TableWords, MachineWords, ExactTable, ExactMachine, Exact}
+use Rattle.board_promises.specs.Exact.{LoadedFrom, TableWords, MachineWords, ExactTable, ExactMachine, Exact}
 use Rattle.layout.specs.Layout.{layout}
 
 -- ── question 6 ────────────────────────────────────────────────────────────────────────────────────

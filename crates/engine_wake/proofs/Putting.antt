@@ -7,18 +7,18 @@ use native.Mathlib.Omega.{arith}
 use lib.Dec.{leb, ltb}
 use lib.ListN.{length, set, length-set, length-append}
 use borrow.Author.Tests.{ltb-true, leb-true, lt-ltb, lt-leb, le-leb}
-use Rattle.scheduler.specs.Ready.{insert, insertAll}
+use Rattle.engine_rows.specs.Ready.{insert, insertAll}
 use Rattle.machine.proofs.Basics.{and-left, and-right}
-use Rattle.scheduler.specs.Rows.{Rows}
-use Rattle.blocks.specs.Blocks.{rowsOf}
-use Rattle.ready.proofs.Distinct.{ordered-insert, ordered-few}
-use Rattle.ready.proofs.Falling.{length-falling, falling-put}
-use Rattle.ready.proofs.Insertion.{insert-first}
-use Rattle.ready.specs.Ordered.{Ordered, firstLow}
-use Rattle.ready.specs.Slots.{falling}
-use Rattle.triggers.proofs.Chaining.{chained-here, chained-none, chained-from}
+use Rattle.engine_rows.specs.Rows.{Rows}
+use Rattle.engine_blocks.specs.Blocks.{rowsOf}
+use Rattle.engine_ready.proofs.Distinct.{ordered-insert, ordered-few}
+use Rattle.engine_ready.proofs.Falling.{length-falling, falling-put}
+use Rattle.engine_ready.proofs.Insertion.{insert-first}
+use Rattle.engine_ready.specs.Ordered.{Ordered, firstLow}
+use Rattle.engine_ready.specs.Slots.{falling}
+use Rattle.engine_triggers.proofs.Chaining.{chained-here, chained-none, chained-from}
 use Rattle.engine_wake.proofs.Waking.{wake-next, wake-none, is-woken, inserted}
-use Rattle.triggers.specs.Chains.{nextTrigger, chained}
+use Rattle.engine_triggers.specs.Chains.{nextTrigger, chained}
 use Rattle.engine_wake.specs.Wakes.{triggeredFrom, goesFirst}
 
 -- ── whether a trigger's slot goes first ───────────────────────────────────────────────────────────

@@ -7,17 +7,17 @@ use native.Mathlib.Omega.{arith}
 use lib.Dec.{leb}
 use lib.ListN.{length}
 use borrow.Author.Tests.{lt-leb, le-leb}
-use Rattle.scheduler.specs.Ready.{insert, insertAll, insertIf}
-use Rattle.scheduler.specs.Rows.{Row, Rows}
-use Rattle.scheduler.specs.Triggers.{consIf, triggered}
-use Rattle.blocks.specs.Blocks.{rowsOf}
-use Rattle.scheduler.proofs.Sorted.{In, here, there, Either, this, that}
-use Rattle.scheduler.proofs.Owners.{and-true}
-use Rattle.scheduler.proofs.Waking.{consIf-cases, consIf-here, consIf-there}
-use Rattle.ready.proofs.Distinct.{ordered-insert, ordered-few}
-use Rattle.ready.specs.Ordered.{Ordered}
-use Rattle.triggers.proofs.Chaining.{chained-here, chained-above, chained-none, chained-from}
-use Rattle.triggers.specs.Chains.{firstTrigger, nextTrigger, chained, triggersAt}
+use Rattle.engine_rows.specs.Ready.{insert, insertAll, insertIf}
+use Rattle.engine_rows.specs.Rows.{Row, Rows}
+use Rattle.engine_rows.specs.Triggers.{consIf, triggered}
+use Rattle.engine_blocks.specs.Blocks.{rowsOf}
+use Rattle.engine_rows.proofs.Sorted.{In, here, there, Either, this, that}
+use Rattle.engine_rows.proofs.Owners.{and-true}
+use Rattle.engine_rows.proofs.Waking.{consIf-cases, consIf-here, consIf-there}
+use Rattle.engine_ready.proofs.Distinct.{ordered-insert, ordered-few}
+use Rattle.engine_ready.specs.Ordered.{Ordered}
+use Rattle.engine_triggers.proofs.Chaining.{chained-here, chained-above, chained-none, chained-from}
+use Rattle.engine_triggers.specs.Chains.{firstTrigger, nextTrigger, chained, triggersAt}
 use Rattle.engine_wake.specs.Wakes.{wakes, triggeredFrom}
 
 module _ (rows : Rows) where

@@ -3,8 +3,8 @@ use mathlib.Core.Bool.{Bool, _&&_}
 use mathlib.Core.List.{List, [], _∷_}
 use Prim.Native.Nat.{ℕ, _-_, _/_}
 use lib.Dec.{leb, ltb}
-use Rattle.scheduler.specs.Rows.{Rows}
-use Rattle.scheduler.specs.Triggers.{consIf}
+use Rattle.engine_rows.specs.Rows.{Rows}
+use Rattle.engine_rows.specs.Triggers.{consIf}
 
 -- The routine in slot s is asleep, and its lowest priority is `from` or above. A write by a routine of lowest priority p has `from` suc p: whoever is
 -- woken comes later. A write before the run has 0.

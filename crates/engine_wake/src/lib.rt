@@ -2,16 +2,16 @@
 ghost use mathlib.Core.Path.{_≡_};
 ghost use Prim.Native.Nat.{_+_, _≤_, _<_};
 ghost use Rattle.machine.specs.Words.{HasMachine};
-ghost use Rattle.scheduler.specs.Ready.{insertAll, insertIf};
-ghost use Rattle.scheduler.specs.Triggers.{triggered};
-ghost use Rattle.blocks.specs.Blocks.{rowsOf};
-ghost use Rattle.ready.specs.Slots.{slotsOf};
-ghost use Rattle.ready.specs.Ordered.{Ordered};
-ghost use Rattle.triggers.specs.Chains.{triggersAt};
+ghost use Rattle.engine_rows.specs.Ready.{insertAll, insertIf};
+ghost use Rattle.engine_rows.specs.Triggers.{triggered};
+ghost use Rattle.engine_blocks.specs.Blocks.{rowsOf};
+ghost use Rattle.engine_ready.specs.Slots.{slotsOf};
+ghost use Rattle.engine_ready.specs.Ordered.{Ordered};
+ghost use Rattle.engine_triggers.specs.Chains.{triggersAt};
 ghost use Rattle.engine_wake.specs.Wakes.{wakes, triggeredFrom, goesFirst};
+use engine_ready::ReadyList;
 use machine::FIRST_TRIGGERS;
 use machine::NEXT_TRIGGERS;
-use ready::ReadyList;
 use words::number;
 
 // Slot s put into the ready list, if it sleeps and its lowest priority is `from` or above.
@@ -19,14 +19,14 @@ fn wake_one(m: &[u32], q: ReadyList, s: usize, from: u64) -> ReadyList
     requires { ⌜ HasMachine (now m) × (s < 64) × (Ordered (rowsOf (now m)) (slotsOf q)) ⌝ }
     ensures { λ r. ⌜ slotsOf r ≡ insertIf (wakes (rowsOf (now (m .entry))) from s) (rowsOf (now (m .entry))) s (slotsOf q) ⌝ }
 {
-    if !blocks::asleep(m, s) {
+    if !engine_blocks::asleep(m, s) {
         return q;
     }
-    let low = blocks::low(m, s) as u64;
+    let low = engine_blocks::low(m, s) as u64;
     if low < from {
         return q;
     }
-    ready::push(m, q, s)
+    engine_ready::push(m, q, s)
 }
 
 // The ready list after a write to variable `index` of block s, which reaches the sleepers whose lowest priority is `from` or above.
@@ -35,7 +35,7 @@ fn wake_from(m: &[u32], q: ReadyList, s: usize, index: usize, from: u64) -> Read
     ensures { λ r. ⌜ (slotsOf r ≡ insertAll (rowsOf (now (m .entry))) (triggeredFrom (rowsOf (now (m .entry))) from (triggersAt (now (m .entry)) s index)) (slotsOf q))
         × (Ordered (rowsOf (now (m .entry))) (slotsOf r)) ⌝ }
 {
-    let mut next = number(blocks::word_at(m, s, FIRST_TRIGGERS + index));
+    let mut next = number(engine_blocks::word_at(m, s, FIRST_TRIGGERS + index));
     if next > 256 {
         return q;
     }
@@ -44,7 +44,7 @@ fn wake_from(m: &[u32], q: ReadyList, s: usize, index: usize, from: u64) -> Read
         let n = next - 1;
         let slot = n / 4;
         woken = wake_one(m, woken, slot, from);
-        next = number(blocks::word_at(m, slot, NEXT_TRIGGERS + n % 4));
+        next = number(engine_blocks::word_at(m, slot, NEXT_TRIGGERS + n % 4));
         if next > n {
             return woken;
         }
@@ -73,10 +73,10 @@ fn goes_first(m: &[u32], next: usize, most: usize, low: u64) -> bool
         return false;
     }
     let slot = (next - 1) / 4;
-    if !blocks::asleep(m, slot) {
+    if !engine_blocks::asleep(m, slot) {
         return false;
     }
-    let own = blocks::low(m, slot) as u64;
+    let own = engine_blocks::low(m, slot) as u64;
     own < low
 }
 
@@ -87,21 +87,21 @@ pub fn wake_all(m: &[u32], q: ReadyList, s: usize, index: usize) -> ReadyList
     ensures { λ r. ⌜ (slotsOf r ≡ insertAll (rowsOf (now (m .entry))) (triggeredFrom (rowsOf (now (m .entry))) 0 (triggersAt (now (m .entry)) s index)) (slotsOf q))
         × (Ordered (rowsOf (now (m .entry))) (slotsOf r)) ⌝ }
 {
-    let mut next = number(blocks::word_at(m, s, FIRST_TRIGGERS + index));
+    let mut next = number(engine_blocks::word_at(m, s, FIRST_TRIGGERS + index));
     let mut most: usize = 256;
-    let mut low = ready::first_low(m, q);
+    let mut low = engine_ready::first_low(m, q);
     let mut new = [0u8; 64];
     let mut count: usize = 0;
     while goes_first(m, next, most, low) {
         most = next - 1;
         let slot = most / 4;
-        low = blocks::low(m, slot) as u64;
+        low = engine_blocks::low(m, slot) as u64;
         new[count] = slot as u8;
         count += 1;
-        next = number(blocks::word_at(m, slot, NEXT_TRIGGERS + most % 4));
+        next = number(engine_blocks::word_at(m, slot, NEXT_TRIGGERS + most % 4));
     }
     if next > 0 {
         return wake_from(m, q, s, index, 0);
     }
-    ready::put_first(q, &new, count)
+    engine_ready::put_first(q, &new, count)
 }

@@ -8,9 +8,9 @@ use lib.ListN.{length, getD, List·getD-eq-default}
 use Rattle.listing.specs.Bytes.{Bytes}
 use Rattle.listing.specs.Limits.{byteLimit}
 use Rattle.listing.specs.Load.{loading, isLongEnough}
-use Rattle.loader.specs.Outcome.{outcomeOf}
-use Rattle.loader.specs.declared.answer.Loaded.{Loaded}
-use Rattle.loader.specs.declared.answer.Loaded.the-variants as LV
+use Rattle.text_questions.specs.Outcome.{outcomeOf}
+use Rattle.text_questions.specs.declared.answer.Loaded.{Loaded}
+use Rattle.text_questions.specs.declared.answer.Loaded.the-variants as LV
 use Rattle.explain.specs.Sentences.{sentences, sentenceOf}
 use Rattle.explain.specs.Verdicts.{VerdictOn, loads, fails}
 use Rattle.explain.specs.Written.{Written}

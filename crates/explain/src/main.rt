@@ -12,8 +12,8 @@ use crate::sentences::sentence;
 use crate::verdict::Verdict;
 use crate::verdict::judge;
 use crate::verdict::read_listing;
-use cases::report::say;
-use cases::report::say_number;
+use test_cases::report::say;
+use test_cases::report::say_number;
 
 // A byte more than a listing may have: a longer file is cut there, and its length alone decides.
 fn text() -> [u8; 49153]

@@ -3,8 +3,8 @@ ghost use mathlib.Core.Path.{_≡_};
 ghost use lib.ListN.{length};
 ghost use Rattle.explain.specs.Verdicts.{VerdictOn};
 ghost use Rattle.io.specs.Counts.{Counts};
-use load::load;
-use loader::Loaded;
+use call_load::load;
+use text_questions::Loaded;
 
 // Whether a file can be read, and how many of its bytes were.
 pub struct Got {

@@ -12,12 +12,12 @@ use Rattle.walk.specs.Promises.{LoadPromise, TableAfter, Keeps}
 use Rattle.walk.specs.Promises as Promises
 use Rattle.walk.specs.Comparison.{Compared, notCompared, compared, comparedNumber, comparedPlace, comparedAlike, alikeCall}
 use Rattle.layout.specs.Layout.{layout}
-use Rattle.conclusion.specs.Answers.{resultOf, dueOf}
-use Rattle.comparison.specs.Compared.{comparedOf}
-use Rattle.conclusion.specs.declared.answers.Due.{Due}
-use Rattle.conclusion.specs.declared.answers.Due.the-variants.{Never, At}
-use Rattle.conclusion.specs.declared.answers.Answer.{Answer}
-use Rattle.conclusion.specs.declared.answers.Answer.the-variants.{Refused, Stopped, Done}
+use Rattle.call_conclude.specs.Answers.{resultOf, dueOf}
+use Rattle.call_alike.specs.Compared.{comparedOf}
+use Rattle.call_conclude.specs.declared.answers.Due.{Due}
+use Rattle.call_conclude.specs.declared.answers.Due.the-variants.{Never, At}
+use Rattle.call_conclude.specs.declared.answers.Answer.{Answer}
+use Rattle.call_conclude.specs.declared.answers.Answer.the-variants.{Refused, Stopped, Done}
 use Rattle.table.proofs.Question6.{table-read-exactly-if}
 use Rattle.fabrwent.specs.Loading.{tableLeft, LoadFigures}
 use Rattle.fabrwent.specs.Figures.{dueIn, resultIn, DueTold, goneThrough, ofAnswer, bit, AlikeFigures}

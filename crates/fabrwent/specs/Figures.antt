@@ -7,10 +7,10 @@ use Rattle.walk.specs.Instant.{NextDue, never, moment}
 use Rattle.walk.specs.Promises.{Result, StartPromise, InstantPromise}
 use Rattle.walk.specs.Comparison.{comparedNumber, comparedPlace, comparedAlike, alikeCall}
 use Rattle.layout.specs.Layout.{layout}
-use Rattle.conclusion.specs.declared.answers.Due.{Due}
-use Rattle.conclusion.specs.declared.answers.Due.the-variants.{Never, At}
-use Rattle.conclusion.specs.declared.answers.Answer.{Answer}
-use Rattle.conclusion.specs.declared.answers.Answer.the-variants.{Refused, Stopped, Done}
+use Rattle.call_conclude.specs.declared.answers.Due.{Due}
+use Rattle.call_conclude.specs.declared.answers.Due.the-variants.{Never, At}
+use Rattle.call_conclude.specs.declared.answers.Answer.{Answer}
+use Rattle.call_conclude.specs.declared.answers.Answer.the-variants.{Refused, Stopped, Done}
 use Rattle.fabrwent.specs.declared.calls.FabrwentCall.{FabrwentCall}
 use Rattle.fabrwent.specs.declared.calls.FabrwentAlike.{FabrwentAlike}
 

@@ -1,10 +1,10 @@
 // Start, instant and comparison, with their answers as figures.
 ghost use Rattle.fabrwent.specs.Figures.{StartFigures, InstantFigures, AlikeFigures, turnedAway, goneThrough, ofAnswer};
 ghost use mathlib.Core.Path.{_≡_};
-use comparison::Comparison;
-use engine::Answer;
-use engine::Due;
-use engine::Figures;
+use call_alike::Comparison;
+use call_engine::Answer;
+use call_engine::Due;
+use call_engine::Figures;
 use words::Moment;
 
 // Number, place, steps used, output writes listed; 1 and the next moment due, or 0 and 0 for none.
@@ -88,7 +88,7 @@ pub extern "C" fn fabrwent_start(
     ensures { λ r. ⌜ StartFigures (now (table .entry)) (now (machine .entry)) (now («out_numbers» .entry)) (now («out_values» .entry)) allowance
         (now (machine .exit)) (now («out_numbers» .exit)) (now («out_values» .exit)) r ⌝ }
 {
-    figures_of(engine::start(table, machine, out_numbers, out_values, allowance))
+    figures_of(call_engine::start(table, machine, out_numbers, out_values, allowance))
 }
 
 // Here, at the boundary, a number is made a moment.
@@ -107,7 +107,7 @@ pub extern "C" fn fabrwent_instant(
         (now («out_numbers» .entry)) (now («out_values» .entry)) allowance
         (now (machine .exit)) (now («out_numbers» .exit)) (now («out_values» .exit)) r ⌝ }
 {
-    figures_of(engine::instant(
+    figures_of(call_engine::instant(
         table,
         machine,
         Moment(t),
@@ -123,7 +123,7 @@ pub extern "C" fn fabrwent_instant(
 pub extern "C" fn fabrwent_alike(table: &[u32], a: &[u32], b: &[u32]) -> FabrwentAlike
     ensures { λ r. ⌜ AlikeFigures (now (table .entry)) (now (a .entry)) (now (b .entry)) r ⌝ }
 {
-    match comparison::alike(table, a, b) {
+    match call_alike::alike(table, a, b) {
         Comparison::Refused(number) => FabrwentAlike {
             number: number,
             place: 0,

@@ -1,7 +1,7 @@
 // Loading, with its answer as two figures.
 ghost use Rattle.fabrwent.specs.Loading.{LoadFigures};
-use load::load;
-use loader::Loaded;
+use call_load::load;
+use text_questions::Loaded;
 
 // Document 01's number and place: 0 and 0, or the question that refuses and the line.
 #[repr(C)]

@@ -4,10 +4,10 @@ use mathlib.Core.List.{List}
 use Prim.Native.Nat.{ℕ, _≤_}
 use native.Mathlib.Omega.{arith}
 use lib.ListN.{length}
-use Rattle.replay.specs.Advancing.{Advances, too-short, went}
-use Rattle.replay.specs.declared.phase.Phase.{Phase}
-use Rattle.replay.specs.declared.phase.Advanced.{Advanced}
-use Rattle.replay.specs.declared.phase.Advanced.the-variants.{Went, TooShort}
+use Rattle.session_replay.specs.Advancing.{Advances, too-short, went}
+use Rattle.session_replay.specs.declared.phase.Phase.{Phase}
+use Rattle.session_replay.specs.declared.phase.Advanced.{Advanced}
+use Rattle.session_replay.specs.declared.phase.Advanced.the-variants.{Went, TooShort}
 
 pub went-room : {listing trace table machine out table′ machine′ out′ : List ℕ} {phase next : Phase} {n : ℕ} {r : Advanced} →
     Advances listing trace table machine out phase table′ machine′ out′ r → r ≡ Went next n → n ≤ length out′

@@ -7,14 +7,14 @@ use native.Mathlib.Omega.{arith}
 use lib.ListN.{length}
 use Rattle.listing.specs.Bytes.{Bytes}
 use Rattle.walk.specs.Session.{session}
-use Rattle.replay.specs.Phases.{Memories, memories}
-use Rattle.replay.specs.Advancing.{lengthsSuffice, longEnough, Advances, too-short}
-use Rattle.replay.specs.Ending.{isOver, stepsLeft, AsLong, Calls, StepsMade, none, one-more}
-use Rattle.replay.specs.declared.phase.Phase.{Phase}
-use Rattle.replay.specs.declared.phase.Phase.the-variants.{Opening, Over}
-use Rattle.replay.specs.declared.phase.Advanced.{Advanced}
-use Rattle.replay.specs.declared.phase.Advanced.the-variants.{Went, TooShort}
-use Rattle.replay.proofs.Ending.{is-over, step-falls, steps-print}
+use Rattle.session_replay.specs.Phases.{Memories, memories}
+use Rattle.session_replay.specs.Advancing.{lengthsSuffice, longEnough, Advances, too-short}
+use Rattle.session_replay.specs.Ending.{isOver, stepsLeft, AsLong, Calls, StepsMade, none, one-more}
+use Rattle.session_replay.specs.declared.phase.Phase.{Phase}
+use Rattle.session_replay.specs.declared.phase.Phase.the-variants.{Opening, Over}
+use Rattle.session_replay.specs.declared.phase.Advanced.{Advanced}
+use Rattle.session_replay.specs.declared.phase.Advanced.the-variants.{Went, TooShort}
+use Rattle.session_replay.proofs.Ending.{is-over, step-falls, steps-print}
 use Rattle.session_files.specs.Turning.{Turned, Ran, ended, not-written}
 use Rattle.session_files.specs.declared.Stepped.{Stepped}
 use Rattle.session_files.specs.declared.Ending.the-variants.{Ended, NotWritten}

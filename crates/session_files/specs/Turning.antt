@@ -3,11 +3,11 @@ use mathlib.Core.List.{List}
 use Prim.Native.Nat.{ℕ, suc}
 use Rattle.listing.specs.Bytes.{Bytes}
 use Rattle.walk.specs.Session.{session}
-use Rattle.replay.specs.Phases.{Memories}
-use Rattle.replay.specs.Ending.{Calls, StepsMade}
-use Rattle.replay.specs.declared.phase.Phase.{Phase}
-use Rattle.replay.specs.declared.phase.Phase.the-variants.{Over}
-use Rattle.replay.specs.declared.phase.Advanced.the-variants.{Went}
+use Rattle.session_replay.specs.Phases.{Memories}
+use Rattle.session_replay.specs.Ending.{Calls, StepsMade}
+use Rattle.session_replay.specs.declared.phase.Phase.{Phase}
+use Rattle.session_replay.specs.declared.phase.Phase.the-variants.{Over}
+use Rattle.session_replay.specs.declared.phase.Advanced.the-variants.{Went}
 use Rattle.session_files.specs.declared.Stepped.{Stepped}
 use Rattle.session_files.specs.declared.Ending.{Ending}
 use Rattle.session_files.specs.declared.Ending.the-variants.{Ended, NotWritten, NotRead}

@@ -1,16 +1,16 @@
 // A session played from files. Document 01: "A session program reads a listing file and a trace file and prints the writes."
-// Every byte that it prints is printed by `replay::advance`, whose steps from the opening to the end print the session.
+// Every byte that it prints is printed by `session_replay::advance`, whose steps from the opening to the end print the session.
 ghost use mathlib.Core.Path.{_≡_};
 ghost use lib.ListN.{length};
 ghost use mathlib.Core.Bool.{true};
 ghost use Rattle.io.specs.Counts.{Counts};
-ghost use Rattle.replay.specs.Advancing.{longEnough};
-ghost use Rattle.replay.specs.Ending.{isOver};
-ghost use Rattle.replay.specs.Phases.{memories};
+ghost use Rattle.session_replay.specs.Advancing.{longEnough};
+ghost use Rattle.session_replay.specs.Ending.{isOver};
+ghost use Rattle.session_replay.specs.Phases.{memories};
 ghost use Rattle.session_files.specs.Turning.{Turned, Ran, Played, FilesPlayed};
 use libc::STDERR_FILENO;
-use replay::Advanced;
-use replay::Phase;
+use session_replay::Advanced;
+use session_replay::Phase;
 
 // A byte more than the 49,152 that a listing or a trace may have: a longer file is cut there, and its length alone decides.
 fn text() -> [u8; 49153]
@@ -118,7 +118,7 @@ fn turn(
         (memories (now (table .entry)) (now (machine .entry)) (now (out .entry))) phase
         (memories (now (table .exit)) (now (machine .exit)) (now (out .exit))) r ⌝ }
 {
-    let answer = replay::advance(listing, trace, table, machine, out, phase);
+    let answer = session_replay::advance(listing, trace, table, machine, out, phase);
     match answer {
         Advanced::Went(next, printed) => {
             let is_written = io::write_all(fd, &out[..printed]);

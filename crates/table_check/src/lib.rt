@@ -28,7 +28,7 @@ use table::ROUTINE_WORDS;
 use table::ROUTINES;
 use table::SIZE;
 use table::TABLE_WORDS;
-use table_code::code_past;
+use table_check_code::code_past;
 
 // ---- a routine's entry ----
 

@@ -6,11 +6,11 @@ use native.Mathlib.Omega.{arith}
 use Rattle.listing.specs.Listing as L
 use Rattle.text_place.specs.Texts.{lineEnd}
 use Rattle.text_place.specs.declared.place.Place.{Place}
-use Rattle.records.specs.Records.{asRecord, lineAnswer}
-use Rattle.records.specs.declared.scope.Scope.{Scope}
-use Rattle.records.specs.declared.record.Record.{Record}
-use Rattle.records.specs.declared.line.Line.the-variants as LV
-use Rattle.records.proofs.Lines.{NextLine}
+use Rattle.text_records.specs.Records.{asRecord, lineAnswer}
+use Rattle.text_records.specs.declared.scope.Scope.{Scope}
+use Rattle.text_records.specs.declared.record.Record.{Record}
+use Rattle.text_records.specs.declared.line.Line.the-variants as LV
+use Rattle.text_records.proofs.Lines.{NextLine}
 
 module _ (s : List ℕ) (at k : ℕ) (n : NextLine s at k) (rs : List L.Routine) (scope : Scope) where
   abbrev here : Place

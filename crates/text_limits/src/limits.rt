@@ -4,10 +4,10 @@ ghost use Rattle.listing.specs.Questions.{place2, place3};
 use crate::counts::Counting;
 use crate::counts::Counts;
 use crate::counts::count_line;
-use records::Line;
-use records::Scope;
-use records::read_line;
 use text_place::Place;
+use text_records::Line;
+use text_records::Scope;
+use text_records::read_line;
 
 // The first line that passes a limit, or 0.
 pub fn limit_place(s: &[u8]) -> usize

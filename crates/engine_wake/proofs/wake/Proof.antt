@@ -5,12 +5,12 @@ use mathlib.Core.Path.{_≡_, ap, _∙_}
 use Prim.Native.Nat.{ℕ, suc, _+_}
 use native.Mathlib.Omega.{arith}
 use borrow.Author.Needs.{needs}
-use Rattle.scheduler.specs.Ready.{insertAll}
-use Rattle.blocks.specs.Blocks.{rowsOf}
-use Rattle.ready.specs.Slots.{slotsOf}
+use Rattle.engine_rows.specs.Ready.{insertAll}
+use Rattle.engine_blocks.specs.Blocks.{rowsOf}
+use Rattle.engine_ready.specs.Slots.{slotsOf}
 use Rattle.engine_wake.proofs.Waking.{triggered-by}
 use Rattle.engine_wake.proofs.wake.Statement.{statement}
-use Rattle.triggers.specs.Chains.{triggersAt}
+use Rattle.engine_triggers.specs.Chains.{triggersAt}
 use Rattle.engine_wake.specs.Wakes.{triggeredFrom}
 use Rattle.engine_wake.proofs.wake.Tie as tie
 

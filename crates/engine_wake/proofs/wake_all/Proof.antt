@@ -6,15 +6,15 @@ use native.Mathlib.Numerals.{add-one}
 use native.Mathlib.Omega.{arith}
 use lib.ListN.{length}
 use borrow.Author.Needs.{needs}
-use Rattle.scheduler.specs.Ready.{insertAll}
-use Rattle.blocks.specs.Blocks.{rowsOf}
-use Rattle.ready.proofs.Distinct.{ordered-few}
-use Rattle.ready.proofs.Falling.{length-slots}
-use Rattle.ready.specs.Ordered.{Ordered}
-use Rattle.ready.specs.Slots.{falling, slotsOf}
+use Rattle.engine_rows.specs.Ready.{insertAll}
+use Rattle.engine_blocks.specs.Blocks.{rowsOf}
+use Rattle.engine_ready.proofs.Distinct.{ordered-few}
+use Rattle.engine_ready.proofs.Falling.{length-slots}
+use Rattle.engine_ready.specs.Ordered.{Ordered}
+use Rattle.engine_ready.specs.Slots.{falling, slotsOf}
 use Rattle.engine_wake.proofs.Putting.{first-goes, Putting, putting-room, putting-next, putting-few, putting-end}
 use Rattle.engine_wake.proofs.wake_all.Statement.{statement}
-use Rattle.triggers.specs.Chains.{firstTrigger, triggersAt}
+use Rattle.engine_triggers.specs.Chains.{firstTrigger, triggersAt}
 use Rattle.engine_wake.specs.Wakes.{triggeredFrom}
 use Rattle.engine_wake.proofs.wake_all.Tie as tie
 

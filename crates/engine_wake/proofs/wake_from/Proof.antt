@@ -4,13 +4,13 @@ use mathlib.Core.Path.{_≡_, sym, _∙_}
 use Prim.Native.Nat.{suc, _-_, _/_, _≤_, _<_}
 use native.Mathlib.Omega.{arith}
 use borrow.Author.Needs.{needs}
-use Rattle.scheduler.specs.Ready.{insertAll}
-use Rattle.blocks.specs.Blocks.{rowsOf}
-use Rattle.ready.specs.Ordered.{Ordered}
-use Rattle.ready.specs.Slots.{slotsOf}
+use Rattle.engine_rows.specs.Ready.{insertAll}
+use Rattle.engine_blocks.specs.Blocks.{rowsOf}
+use Rattle.engine_ready.specs.Ordered.{Ordered}
+use Rattle.engine_ready.specs.Slots.{slotsOf}
 use Rattle.engine_wake.proofs.Waking.{ordered-insert-if, rest-start, rest-past, rest-next, rest-last, rest-end}
 use Rattle.engine_wake.proofs.wake_from.Statement.{statement}
-use Rattle.triggers.specs.Chains.{firstTrigger, nextTrigger, chained, triggersAt}
+use Rattle.engine_triggers.specs.Chains.{firstTrigger, nextTrigger, chained, triggersAt}
 use Rattle.engine_wake.specs.Wakes.{wakes, triggeredFrom}
 use Rattle.engine_wake.proofs.wake_from.Tie as tie
 

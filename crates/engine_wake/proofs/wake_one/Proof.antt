@@ -5,12 +5,12 @@ use Prim.Native.Nat.{_≤_, _<_}
 use native.Mathlib.Omega.{arith}
 use borrow.Author.Needs.{needs}
 use borrow.Author.Tests.{not-true, not-false}
-use Rattle.scheduler.specs.Rows.{Row}
-use Rattle.blocks.specs.Blocks.{rowsOf}
-use Rattle.ready.proofs.Distinct.{ordered-few}
-use Rattle.ready.proofs.Falling.{length-slots}
-use Rattle.ready.specs.Ordered.{Ordered}
-use Rattle.ready.specs.Slots.{slotsOf}
+use Rattle.engine_rows.specs.Rows.{Row}
+use Rattle.engine_blocks.specs.Blocks.{rowsOf}
+use Rattle.engine_ready.proofs.Distinct.{ordered-few}
+use Rattle.engine_ready.proofs.Falling.{length-slots}
+use Rattle.engine_ready.specs.Ordered.{Ordered}
+use Rattle.engine_ready.specs.Slots.{slotsOf}
 use Rattle.engine_wake.proofs.Waking.{stays-awake, comes-earlier, is-woken, not-inserted, inserted, insert-room}
 use Rattle.engine_wake.proofs.wake_one.Statement.{statement}
 use Rattle.engine_wake.proofs.wake_one.Tie as tie

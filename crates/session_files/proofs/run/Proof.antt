@@ -1,9 +1,9 @@
 -- `session_files::run` meets its contract. The measure is the number of steps that can still be made; from turn to turn the lent memories keep their lengths.
 use mathlib.Core.Path.{sym, _∙_}
 use borrow.Author.Tests.{not-true, not-false}
-use Rattle.replay.specs.Phases.{memories}
-use Rattle.replay.specs.Ending.{stepsLeft, AsLong}
-use Rattle.replay.proofs.Ending.{made-as-long, still-long}
+use Rattle.session_replay.specs.Phases.{memories}
+use Rattle.session_replay.specs.Ending.{stepsLeft, AsLong}
+use Rattle.session_replay.proofs.Ending.{made-as-long, still-long}
 use Rattle.session_files.proofs.Turning.{Going, begun, run-ended, goes-on, run-stops, fewer}
 use Rattle.session_files.proofs.run.Statement.{statement}
 use Rattle.session_files.proofs.run.Tie as tie

@@ -1,7 +1,7 @@
 -- `fabrwent::fabrwent_alike` meets its contract.
 use mathlib.Core.Path.{refl}
 use Rattle.walk.specs.Comparison.{comparedNumber, comparedPlace, comparedAlike}
-use Rattle.comparison.specs.Compared.{comparedOf}
+use Rattle.call_alike.specs.Compared.{comparedOf}
 use Rattle.fabrwent.specs.Figures.{bit}
 use Rattle.fabrwent.proofs.Told as told
 use borrow.Author.Needs.{needs}

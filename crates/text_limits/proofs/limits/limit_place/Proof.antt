@@ -4,7 +4,7 @@ use mathlib.Core.Path.{sym, _∙_}
 use Prim.Native.Nat.{_-_}
 use native.Mathlib.Omega.{arith}
 use lib.ListN.{length}
-use Rattle.records.proofs.Lines as lines
+use Rattle.text_records.proofs.Lines as lines
 use Rattle.text_limits.proofs.Steps as steps
 use Rattle.text_limits.proofs.LimitPass as pass
 use borrow.Author.Needs.{needs}

@@ -1,0 +1,96 @@
+-- The loop over an expression's pieces: what holds before each piece.
+use mathlib.Core.Path.{_≡_, refl, sym, ap, _∙_}
+use mathlib.Core.Bool.{Bool, true, false, _&&_}
+use mathlib.Core.List.{List, _∷_}
+use Prim.Native.Nat.{ℕ, zero, suc, _+_, _*_, _-_, _≤_, _<_}
+use native.Mathlib.Omega.{arith}
+use lib.ListN.{length, getD}
+use borrow.Author.Tests.{ltb-true, eqb-true}
+use Rattle.listing.specs.Lists.{all}
+use Rattle.listing.specs.Listing.{Piece, literal, valueOf, writtenMark, plus, minus, times, less}
+use Rattle.listing.specs.Expressions.{leavesOneFrom}
+use Rattle.listing.specs.Questions.{pieceIsThere}
+use Rattle.table.specs.Decode.{pieceAt, cellsAt, piecesAt}
+use Rattle.walk.specs.Memory.{top, evaluatePieces, evaluateBy}
+use Rattle.engine_blocks.specs.Store.{storeOf}
+use Rattle.engine_evaluate.specs.Bound.{Bound, bindingsOf, variableNamed, FromNames}
+use Rattle.engine_evaluate.specs.Values.{held, mayCome, countAfter}
+use Rattle.engine_evaluate.specs.Evaluable.{Evaluable, MayCome, Past}
+
+-- ── the pieces from one on ───────────────────────────────────────────────────────
+form-split : (count : ℕ) (p : Piece) (rest : List Piece) → leavesOneFrom count (p ∷ rest) ≡ mayCome count p && leavesOneFrom (countAfter count p) rest
+unfolding leavesOneFrom mayCome countAfter
+form-split count (literal v) rest = refl
+form-split count (valueOf n) rest = refl
+form-split count (writtenMark n) rest = refl
+form-split count plus rest = refl
+form-split count minus rest = refl
+form-split count times rest = refl
+form-split count less rest = refl
+
+both : (x y : Bool) → x && y ≡ true → (x ≡ true) × (y ≡ true)
+both true y h = (refl, h)
+both false y h = let z : _≡_ {A = ℕ} 0 1 = cc in absurd (omega arith)
+
+count-most : (count : ℕ) (p : Piece) → mayCome count p ≡ true → count ≤ 8 → countAfter count p ≤ 8
+unfolding mayCome countAfter
+count-most count (literal v) h most = let l = ltb-true count 8 h in omega arith
+count-most count (valueOf n) h most = let l = ltb-true count 8 h in omega arith
+count-most count (writtenMark n) h most = let l = ltb-true count 8 h in omega arith
+count-most count plus h most = omega arith
+count-most count minus h most = omega arith
+count-most count times h most = omega arith
+count-most count less h most = omega arith
+
+first-piece : (t : List ℕ) (at left : ℕ) → 0 < left → piecesAt t at left ≡ pieceAt t at ∷ piecesAt t (at + 2) (left - 1)
+unfolding cellsAt
+first-piece t at zero h = absurd (omega arith)
+first-piece t at (suc left) h = let z : suc left - 1 ≡ left = omega arith in rw z
+
+-- ── before each piece ────────────────────────────────────────────────────────────
+-- `left` pieces are left, the next one at `at`; `values` holds what those before it made
+pub record Before (t m : List ℕ) (me cells pieces : ℕ) (values : List ℕ) (count at left : ℕ) : Type 0 where
+  pub place : at + 2 * left ≡ cells + 2 * pieces
+  pub places : length values ≡ 8
+  pub most : count ≤ 8
+  pub form : leavesOneFrom count (piecesAt t at left) ≡ true
+  pub names : all (pieceIsThere (length (bindingsOf m me))) (piecesAt t at left) ≡ true
+  pub value : (n : ℕ) → Bound (storeOf n m) (bindingsOf m me)
+      → top (evaluatePieces (variableNamed n m me) (piecesAt t at left) (held values count)) ≡ evaluateBy (variableNamed n m me) (piecesAt t cells pieces)
+
+module _ {t m : List ℕ} {me cells pieces : ℕ} where
+  pub first-turn : (values : List ℕ) → length values ≡ 8 → Evaluable t m me cells pieces → Before t m me cells pieces values 0 cells pieces
+  unfolding held evaluateBy
+  first-turn values size evaluable = record { place = refl; places = size; most = omega arith; form = evaluable .form; names = evaluable .names; value = λ n bound. refl }
+
+  module _ {values : List ℕ} {count at left : ℕ} (so-far : Before t m me cells pieces values count at left) where
+    module _ (some : 0 < left) where
+      split : (mayCome count (pieceAt t at) ≡ true) × (leavesOneFrom (countAfter count (pieceAt t at)) (piecesAt t (at + 2) (left - 1)) ≡ true)
+      split = both _ _ (sym (form-split count (pieceAt t at) (piecesAt t (at + 2) (left - 1))) ∙ (rw (first-piece t at left some) at (so-far .form)))
+
+      there : (pieceIsThere (length (bindingsOf m me)) (pieceAt t at) ≡ true) × (all (pieceIsThere (length (bindingsOf m me))) (piecesAt t (at + 2) (left - 1)) ≡ true)
+      unfolding all
+      there = both _ _ (rw (first-piece t at left some) at (so-far .names))
+
+      pub may-come : Evaluable t m me cells pieces → MayCome t m me at values count
+      may-come evaluable =
+          record { size = evaluable .size; slot = evaluable .slot; inside = omega (arith, evaluable .inside, so-far .place); places = so-far .places; most = so-far .most; room = split .0; name = there .0 }
+
+      pub next-turn : {after : List ℕ} {r : ℕ} → Past t m me at values count after r → Before t m me cells pieces after r (at + 2) (left - 1)
+      unfolding evaluatePieces
+      next-turn past =
+          record {
+            place = omega (arith, so-far .place);
+            places = past .size;
+            most = rw (past .counted) (count-most count (pieceAt t at) (split .0) (so-far .most));
+            form = rw (past .counted) (split .1);
+            names = there .1;
+            value = λ n bound. ap (λ (h : List ℕ). top (evaluatePieces (variableNamed n m me) (piecesAt t (at + 2) (left - 1)) h)) (past .values .equal n bound)
+                ∙ (rw (first-piece t at left some) at (so-far .value n bound));
+          }
+
+    pub last-turn : left ≡ 0 → FromNames m me (λ names. evaluateBy names (piecesAt t cells pieces)) (getD values 0 0)
+    unfolding leavesOneFrom evaluatePieces cellsAt held top
+    last-turn z =
+        let one : count ≡ 1 = eqb-true count 1 (rw z at (so-far .form)) in
+        record { equal = λ n bound. sym (ap (λ (k : ℕ). top (held values k)) one) ∙ (rw z at (so-far .value n bound)) }

@@ -1,0 +1,38 @@
+-- What evaluation asks for, and what it gives. The letters: t the table's words, m the machine's, me the running routine's slot,
+-- `cells` the address of an expression's first cell.
+use mathlib.Core.Bool.{true}
+use mathlib.Core.List.{List}
+use mathlib.Core.Path.{_≡_}
+use Prim.Native.Nat.{ℕ, _+_, _*_, _≤_, _<_}
+use lib.ListN.{length}
+use Rattle.listing.specs.Lists.{all}
+use Rattle.listing.specs.Expressions.{leavesOne}
+use Rattle.listing.specs.Questions.{pieceIsThere}
+use Rattle.table.specs.Decode.{pieceAt, piecesAt}
+use Rattle.engine_evaluate.specs.Bound.{bindingsOf, FromNames}
+use Rattle.engine_evaluate.specs.Values.{held, mayCome, countAfter}
+use Rattle.walk.specs.Memory.{evaluatePiece}
+
+-- These cells hold an expression in its form, and its names are names of the routine.
+pub record Evaluable (t m : List ℕ) (me cells pieces : ℕ) : Type 0 where
+  pub size : 12288 ≤ length m
+  pub slot : me < 64
+  pub inside : cells + 2 * pieces ≤ length t
+  pub form : leavesOne (piecesAt t cells pieces) ≡ true
+  pub names : all (pieceIsThere (length (bindingsOf m me))) (piecesAt t cells pieces) ≡ true
+
+-- The cell at a holds a piece that may come after so many values, and its name is one of the routine's.
+pub record MayCome (t m : List ℕ) (me a : ℕ) (values : List ℕ) (count : ℕ) : Type 0 where
+  pub size : 12288 ≤ length m
+  pub slot : me < 64
+  pub inside : a + 2 ≤ length t
+  pub places : length values ≡ 8
+  pub most : count ≤ 8
+  pub room : mayCome count (pieceAt t a) ≡ true
+  pub name : pieceIsThere (length (bindingsOf m me)) (pieceAt t a) ≡ true
+
+-- What is held after the piece is what it makes of the `count` values held before; r is their number.
+pub record Past (t m : List ℕ) (me a : ℕ) (before : List ℕ) (count : ℕ) (after : List ℕ) (r : ℕ) : Type 0 where
+  pub size : length after ≡ 8
+  pub counted : r ≡ countAfter count (pieceAt t a)
+  pub values : FromNames m me (λ names. evaluatePiece names (pieceAt t a) (held before count)) (held after r)

@@ -1,0 +1,61 @@
+// The pass over the live routines in walking order: a parent before its children. `above` has, for each
+// level, the slot seen last one level up.
+ghost use mathlib.Core.Path.{_≡_};
+ghost use mathlib.Core.Bool.{true};
+ghost use Prim.Native.Nat.{_<_};
+ghost use lib.ListN.{length, getD};
+ghost use Rattle.machine.specs.Words.{HasMachine};
+ghost use Rattle.table.specs.Decode.{tableListing};
+ghost use Rattle.table.specs.Question6.{isTable};
+ghost use Rattle.engine_rows.specs.Records.{filledRows};
+ghost use Rattle.engine_blocks.specs.Blocks.{rowsOf};
+ghost use Rattle.engine_fill.specs.Filling.{MayFillAll, FillsRows, portsOf, orderOf};
+ghost use Rattle.engine_fill.specs.Pass.{MayFillSlot, SlotFilled};
+use crate::main_routine::fill_main;
+use crate::row::fill_child;
+use machine::LIVE;
+use machine::ORDER;
+
+// A word of the machine's header.
+fn header(m: &[u32], at: usize) -> usize
+    requires { ⌜ at < length (now m) ⌝ }
+    ensures { λ r. ⌜ r ≡ getD (now (m .entry)) at 0 ⌝ }
+{
+    m[at] as usize
+}
+
+fn number(x: u8) -> usize
+    ensures { λ r. ⌜ r ≡ x ⌝ }
+{
+    x as usize
+}
+
+// One routine, by its level.
+fn fill_slot(t: &[u32], m: &mut [u32], level: usize, p: usize, s: usize)
+    requires { ⌜ (isTable (now t) ≡ true) × HasMachine (now m) × MayFillSlot (now t) (rowsOf (now m)) level p s ⌝ }
+    ensures { λ _. ⌜ SlotFilled (now (t .entry)) (now (m .entry)) level p s (now (m .exit)) ⌝ }
+{
+    if level == 0 {
+        fill_main(t, m, s);
+        return;
+    }
+    fill_child(t, m, p, s);
+}
+
+// All live routines.
+pub fn fill_rows(t: &[u32], m: &mut [u32])
+    requires { ⌜ MayFillAll (now t) (now m) ⌝ }
+    ensures { λ _. ⌜ FillsRows (now (m .entry)) (filledRows (tableListing (now (t .entry))) (rowsOf (now (m .entry))) (portsOf (now (t .entry)) (now (m .entry))) (λ level. 64) (orderOf (now (m .entry)))) (now (m .exit)) ⌝ }
+{
+    let n = header(m, LIVE);
+    let mut above: [u8; 12] = [64; 12];
+    let mut k: usize = 0;
+    while k < n {
+        let s = header(m, ORDER + k);
+        let level = engine_blocks::level(m, s) as usize;
+        let p = number(above[level]);
+        fill_slot(t, m, level, p, s);
+        above[level + 1] = s as u8;
+        k += 1;
+    }
+}

@@ -1,0 +1,32 @@
+-- `ready::pop` meets its contract.
+use mathlib.Core.List.{_∷_}
+use mathlib.Core.Path.{_≡_, sym, ap, _∙_}
+use Prim.Native.Nat.{ℕ, suc, _-_}
+use native.Mathlib.Nat.{zero-add}
+use native.Mathlib.Omega.{arith}
+use lib.ListN.{getD}
+use borrow.Author.Needs.{needs}
+use Rattle.engine_ready.proofs.pop.Statement.{statement}
+use Rattle.engine_ready.specs.Slots.{falling, slotsOf}
+use Rattle.engine_ready.proofs.pop.Tie as tie
+
+-- `ready::pop` meets its contract.
+
+sub-n : tie.Need-sub-n
+sub-n c = search needs
+
+array-read-number : tie.Need-array-read-number
+array-read-number c = search needs
+
+number-requires : tie.Need-number-requires
+number-requires c κs = search needs
+
+returns : tie.Need-returns
+unfolding slotsOf falling
+returns c =
+    let q = c .before .before .before .args .q in
+    let e : q .count ≡ suc (q .count - 1) = omega arith in
+    (search needs, ap (falling (q .places) 0) e ∙ ap (λ (k : ℕ). k ∷ falling (q .places) 0 (q .count - 1)) (ap (λ (k : ℕ). getD (q .places) k 0) (zero-add (q .count - 1)) ∙ sym (c .number .ensures)))
+
+pub pop-spec : {M : Type 1} → statement M
+pop-spec = tie.close (tie.spec sub-n array-read-number number-requires returns)

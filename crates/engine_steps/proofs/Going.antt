@@ -1,0 +1,83 @@
+-- The first that is ready goes on; the running routine goes on elsewhere. Letters: a the words before, m the words after, u the running state.
+use mathlib.Core.Path.{_≡_, refl, sym, ap, _∙_}
+use mathlib.Core.Bool.{Bool, true, false}
+use mathlib.Core.List.{List, [], _∷_}
+use Prim.Native.Nat.{ℕ, zero, suc, _≤_, _<_}
+use native.Mathlib.Nat.{le-refl}
+use native.Mathlib.Omega.{arith}
+use lib.Dec.{eqb}
+use Rattle.listing.specs.Listing.{Listing, Piece, branch, jump, wait}
+use Rattle.engine_rows.specs.Rows.{Owner, Row, Rows, withRow, atPlace, named}
+use Rattle.engine_rows.specs.Engine.{RowsRunner, firstPlace, countIf, nextReady, executeRows}
+use Rattle.engine_blocks.specs.Blocks.{block, rowsOf, environmentOf}
+use Rattle.engine_blocks.specs.Store.{withSlot}
+use Rattle.engine_blocks.specs.Changes.{Changes, placedBlock}
+use Rattle.engine_ready.specs.Slots.{falling, slotsOf}
+use Rattle.engine_evaluate.specs.Bound.{FromNames}
+use Rattle.engine_steps.specs.declared.running.Running.{Running}
+use Rattle.engine_steps.specs.declared.running.Answer.the-variants.{Goes, Ends, Halts}
+use Rattle.engine_steps.specs.declared.running.Stepped.{Stepped}
+use Rattle.engine_ready.specs.declared.ReadyList.{ReadyList}
+use Rattle.engine_steps.specs.Outcome.{left-by, RunsLive, Reading, Pops, Executes}
+use Rattle.engine_steps.specs.Asked.{Slots, slots-one}
+use Rattle.engine_steps.proofs.Stores.{rows-changed, environment-kept, change-stays, stays-start, placed-tidy}
+use Rattle.walk.specs.Walk.{branchPlace}
+use Rattle.walk.specs.Memory.{evaluateBy}
+
+none-left : (q : ReadyList) → q .count ≡ 0 → slotsOf q ≡ []
+unfolding slotsOf falling
+none-left q e = rw e
+
+pub first-small : {s : ℕ} {l ss : List ℕ} → Slots l → l ≡ s ∷ ss → s < 64
+first-small {s} {l} {ss} o e = go (rw e at o)
+  where
+    go : Slots (s ∷ ss) → s < 64
+    go (slots-one h r) = h
+
+-- Nobody is ready: the instant ends.
+pub pops-none : (a : List ℕ) (u : Running) → (u .ready) .count ≡ 0 → Pops a a u (record { answer = Ends; running = u })
+unfolding left-by nextReady
+pops-none a u e =
+    let none = none-left (u .ready) e in
+    record { outcome = λ n go left. rw none; stays = stays-start a; tidy = λ n live tidy. tidy }
+
+module _ {a m : List ℕ} {s : ℕ} (place : ℕ) (p : Changes s a m (placedBlock (block a s) place) (withSlot s (λ r. atPlace r place))) (small : s < 64) where
+  -- Slot s is the first.
+  pub pops-first : (u v : Running) → slotsOf (u .ready) ≡ s ∷ slotsOf (v .ready) → v .live ≡ u .live → v .me ≡ s
+      → place ≡ firstPlace ((rowsOf a s) .asleep) ((rowsOf a s) .place) → v .woken ≡ countIf ((rowsOf a s) .asleep) (u .woken)
+      → Pops a m u (record { answer = Goes; running = v })
+  unfolding left-by nextReady RunsLive
+  pops-first u v slots live me first woken =
+      record {
+        outcome = λ n go left. rw (slots, rows-changed (λ r. atPlace r place) p, environment-kept (λ r. atPlace r place) p n, first, woken, live, me);
+        stays = change-stays p;
+        tidy = λ n used tidy. placed-tidy place p small (rw me at used) tidy;
+      }
+
+  -- The running routine goes on at `place`.
+  pub jumps : (listing : Listing) (moment : ℕ) (u : Running) → u .me ≡ s → Executes listing moment (jump place) a m u (record { answer = Goes; running = u })
+  unfolding left-by executeRows RunsLive
+  jumps listing moment u me =
+      record {
+        outcome = λ n triggers reading go left. rw (rows-changed (λ r. atPlace r place) p, environment-kept (λ r. atPlace r place) p n, me);
+        stays = change-stays p;
+        tidy = λ n triggers reading used tidy. placed-tidy place p small (rw me at used) tidy;
+      }
+
+-- "`U|e|k` goes to instruction k if e is 0": as `G` to that place.
+pub branches : (listing : Listing) (moment : ℕ) {a m : List ℕ} {u : Running} {r : Stepped} (e : List Piece) (k v target : ℕ)
+    → FromNames a (u .me) (λ names. evaluateBy names e) v → branchPlace (eqb v 0) k (suc ((rowsOf a (u .me)) .place)) ≡ target
+    → Executes listing moment (jump target) a m u r → Executes listing moment (branch e k) a m u r
+unfolding executeRows
+branches listing moment {a} {m} {u} {r} e k v target value chosen j =
+    record {
+      outcome = λ n triggers reading go left. rw (sym (value .equal n (reading .bound)), chosen) (j .outcome n triggers reading go left);
+      stays = j .stays;
+      tidy = j .tidy;
+    }
+
+-- A wait: the next that is ready.
+pub waits : (listing : Listing) (moment : ℕ) {a m : List ℕ} {u : Running} {r : Stepped} (names : List ℕ) → Pops a m u r → Executes listing moment (wait names) a m u r
+unfolding executeRows
+waits listing moment names p =
+    record { outcome = λ n triggers reading go left. p .outcome n go left; stays = p .stays; tidy = λ n triggers reading. p .tidy n }

@@ -1,0 +1,28 @@
+-- What the reader gives for the figures of a trace: walk's readings of them.
+use mathlib.Core.Bool.{cond}
+use mathlib.Core.Option.{Option, none, some}
+use Prim.Native.Nat.{ℕ}
+use lib.Dec.{ltb}
+use Rattle.listing.specs.Bytes.{Bytes}
+use Rattle.listing.specs.Expressions.{wordRange}
+use Rattle.words.specs.Moments.{momentRange}
+use Rattle.walk.specs.Trace.{readBelow, readSigned}
+use Rattle.session_trace.specs.declared.figure.Bounded.{Bounded}
+use Rattle.session_trace.specs.declared.figure.Bounded.the-variants.{Value, Bad}
+
+abbrev pub asBounded : Option ℕ → Bounded
+asBounded none = Bad
+asBounded (some n) = Value n
+
+-- a number, if it has 64 bits
+abbrev pub appended : ℕ → Bounded
+appended n = cond (ltb n momentRange) (Value n) Bad
+
+abbrev pub momentAnswer : Bytes → Bounded
+momentAnswer piece = asBounded (readBelow momentRange piece)
+
+abbrev pub inputAnswer : Bytes → Bounded
+inputAnswer piece = asBounded (readBelow wordRange piece)
+
+abbrev pub valueAnswer : Bytes → Bounded
+valueAnswer piece = asBounded (readSigned piece)

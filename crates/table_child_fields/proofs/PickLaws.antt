@@ -1,0 +1,68 @@
+-- The child field that is looked for: nobody, or somebody.
+use mathlib.Core.Path.{_≡_, refl, _∙_}
+use mathlib.Core.Bool.{Bool, true, false, cond}
+use mathlib.Core.List.{List}
+use Prim.Native.Nat.{ℕ, _+_, _*_, _-_, _<_, _≤_}
+use lib.Dec.{ltb, leb}
+use borrow.Author.Tests.{ltb-true, ltb-false, leb-true, leb-false, lt-ltb, le-ltb, le-leb, lt-leb}
+use native.Mathlib.Omega.{arith}
+use Rattle.table.specs.Decode.{headAfter, word}
+use Rattle.table_child_fields.specs.Picking.{noMaker, makerAfter, makerOf}
+use Rattle.table_child_fields.specs.declared.pick.Maker.{Maker}
+use Rattle.table_child_fields.proofs.TableLaws.{next-head}
+
+pub no-clash : {A : Type 0} {b : Bool} → b ≡ false → b ≡ true → A
+no-clash e f = absurd (let z : _≡_ {A = ℕ} 0 1 = cc in let y : ⊥ = omega arith in y)
+
+-- ── the maker by its cases ────────────────────────────────────────────────────────────────────────
+module _ (w : List ℕ) (first left next child : ℕ) where
+  pub nobody-low : child < next → noMaker ≡ makerOf w first left next child
+  unfolding makerOf
+  nobody-low h = rw (lt-ltb child next h)
+
+  pub nobody-high : next ≤ child → left ≤ child - next → noMaker ≡ makerOf w first left next child
+  unfolding makerOf
+  nobody-high l h = rw (le-ltb child next l, le-leb left (child - next) h)
+
+  somebody : next ≤ child → child - next < left → makerAfter w first left (child - next) ≡ makerOf w first left next child
+  unfolding makerOf
+  somebody l h = rw (le-ltb child next l, lt-leb left (child - next) h)
+
+  pub somebody-picked : (head routine after : ℕ) → next ≤ child → child - next < left → head ≡ headAfter w first (child - next) →
+      routine ≡ word w (head + 1) → after ≡ head + (2 + 2 * word w head) →
+      _≡_ {A = Maker} (record { found = true; routine = routine; head = after; left = left - (child - next) - 1 }) (makerOf w first left next child)
+  somebody-picked head routine after low high h r a =
+      let callee : routine ≡ word w (headAfter w first (child - next) + 1) = rw h at r in
+      let later : after ≡ headAfter w first (child - next + 1) = a ∙ next-head w first (child - next) head h in
+      rw (callee, later) (somebody low high)
+
+-- ── what the maker tells ──────────────────────────────────────────────────────────────────────────
+-- A child's number is not among those that may still come.
+pub data Missing (next left child : ℕ) : Type 0 where
+  too-low : child < next → Missing next left child
+  too-high : next ≤ child → left ≤ child - next → Missing next left child
+
+-- The child field is among them: its routine, and the head after it.
+pub record Chosen (w : List ℕ) (first left next child routine head rest : ℕ) : Type 0 where
+  pub low : next ≤ child
+  pub high : child - next < left
+  pub callee : routine ≡ word w (headAfter w first (child - next) + 1)
+  pub after : head ≡ headAfter w first (child - next + 1)
+  pub fewer : rest ≡ left - (child - next) - 1
+
+pub record Picked (w : List ℕ) (first left next child : ℕ) (r : Maker) : Type 0 where
+  pub nobody : r .found ≡ false → Missing next left child
+  pub somebody : r .found ≡ true → Chosen w first left next child (r .routine) (r .head) (r .left)
+
+pub picked : (w : List ℕ) (first left next child : ℕ) → Picked w first left next child (makerOf w first left next child)
+unfolding makerOf
+picked w first left next child = by (ltb child next) refl (leb left (child - next)) refl
+  where
+    by : (x : Bool) → ltb child next ≡ x → (y : Bool) → leb left (child - next) ≡ y →
+        Picked w first left next child (cond x noMaker (cond y noMaker (makerAfter w first left (child - next))))
+    by true e y f = record { nobody = λ z. too-low (ltb-true _ _ e); somebody = λ z. no-clash refl z }
+    by false e true f = record { nobody = λ z. too-high (ltb-false _ _ e) (leb-true _ _ f); somebody = λ z. no-clash refl z }
+    by false e false f = record {
+      nobody = λ z. no-clash z refl;
+      somebody = λ z. record { low = ltb-false _ _ e; high = leb-false _ _ f; callee = refl; after = refl; fewer = refl };
+    }

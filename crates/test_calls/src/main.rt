@@ -1,0 +1,128 @@
+// Lists of calls with the answer stored for each: a listing is loaded, and start, instant and comparison are called on its table.
+// Prints each item that fails, with what was expected and what was found, and then how many lists agree.
+// "Spoil" in the file says what is wrong with the memories lent to one call.
+ghost use mathlib.Core.Path.{_≡_};
+ghost use Rattle.test_calls.specs.Cases.{LoadsInto, RanItems, RanCase, RanFile};
+use call_load::load;
+use test_cases::frame::part_at;
+use test_cases::frame::past;
+use test_cases::frame::word_at;
+use test_cases::report::read_file;
+use test_cases::report::say;
+use test_cases::report::say_number;
+use test_cases::report::sum_up;
+use test_lending::machine::unused_memory;
+use test_stored_items::items::after_item;
+use test_stored_items::items::run_item;
+use text_questions::Loaded;
+
+// Loads a listing: 0, or 1 if it does not load, which is then said.
+fn refusals(listing: &[u8], table: &mut [u32]) -> u64
+    ensures { λ r. ⌜ LoadsInto (now (listing .entry)) (now (table .entry)) (now (table .exit)) r ⌝ }
+{
+    match load(listing, table) {
+        Loaded::Done => 0,
+        Loaded::Refused(_, _) => {
+            say(b"a listing does not load\n");
+            1
+        }
+    }
+}
+
+// Says which item of which case fails.
+fn say_failure(name: u32, item: u64) {
+    say(b"case ");
+    say_number(name as u64);
+    say(b", item ");
+    say_number(item);
+    say(b" fails\n");
+}
+
+// How far a list of items has been run: the place after it, and how many failed.
+pub struct Run {
+    pub next: usize,
+    pub failed: u64,
+}
+
+// The items of a case, one after the other, on one table and one machine, each as the item before left it.
+fn run_items(
+    s: &[u8],
+    from: usize,
+    name: u32,
+    count: u32,
+    table: &mut [u32],
+    machine: &mut [u32],
+    kept: &mut [u32],
+) -> Run
+    ensures { λ r. ⌜ RanItems (now (s .entry)) from (now (table .entry)) (now (machine .entry)) (now (kept .entry)) count r ⌝ }
+{
+    let items = count as u64;
+    let mut at = from;
+    let mut done: u64 = 0;
+    let mut failed: u64 = 0;
+    while done < items {
+        if !run_item(s, at, table, machine, kept) {
+            say_failure(name, done);
+            failed += 1;
+        }
+        at = after_item(s, at);
+        done += 1;
+    }
+    Run { next: at, failed }
+}
+
+// A case: its name, its listing, the number of its items and the items. A listing that does not load counts as a failure too.
+fn run_case(s: &[u8], at: usize) -> Run
+    ensures { λ r. ⌜ RanCase (now (s .entry)) at r ⌝ }
+{
+    let name = word_at(s, at);
+    let part = part_at(s, past(s, at, 4));
+    let from = part.from;
+    let to = part.to;
+    let mut table = unused_memory();
+    let mut machine = unused_memory();
+    let mut kept = unused_memory();
+    let refused = refusals(&s[from..to], &mut table);
+    let count = word_at(s, to);
+    let first = past(s, to, 4);
+    let run = run_items(s, first, name, count, &mut table, &mut machine, &mut kept);
+    Run {
+        next: run.next,
+        failed: refused + run.failed,
+    }
+}
+
+// How many cases there were, and how many of them failed.
+pub struct Tally {
+    pub cases: u64,
+    pub failed: u64,
+}
+
+// All cases of a file: their number, then each of them.
+fn run_file(s: &[u8]) -> Tally
+    ensures { λ r. ⌜ RanFile (now (s .entry)) r ⌝ }
+{
+    let count = word_at(s, 0) as u64;
+    let mut at = past(s, 0, 4);
+    let mut done: u64 = 0;
+    let mut failed: u64 = 0;
+    while done < count {
+        let run = run_case(s, at);
+        if run.failed != 0 {
+            failed += 1;
+        }
+        at = run.next;
+        done += 1;
+    }
+    Tally {
+        cases: done,
+        failed,
+    }
+}
+
+fn main() {
+    let mut file = io::large_buffer();
+    let length = read_file(b"calls.dat", &mut file);
+    let tally = run_file(&file[..length]);
+    sum_up(b"calls: ", tally.cases, tally.failed);
+}

@@ -1,0 +1,76 @@
+-- `session_tests::main` meets its contract. The memories that it lends are long enough.
+use Rattle.test_sessions.proofs.Steps.{lent-long}
+use borrow.Author.Needs.{needs}
+use Rattle.test_sessions.proofs.main.Statement.{statement}
+use Rattle.test_sessions.proofs.main.Tie as tie
+
+large-buffer-requires : tie.Need-large-buffer-requires
+large-buffer-requires c κs = search needs
+
+slice-aggregate-read-file : tie.Need-slice-aggregate-read-file
+slice-aggregate-read-file c = search needs
+
+slice-aggregate-read-file-2 : tie.Need-slice-aggregate-read-file-2
+slice-aggregate-read-file-2 c = search needs
+
+read-file-requires : tie.Need-read-file-requires
+read-file-requires c κs = search needs
+
+memory-requires : tie.Need-memory-requires
+memory-requires c κs = search needs
+
+memory-requires-2 : tie.Need-memory-requires-2
+memory-requires-2 c κs = search needs
+
+piece-requires : tie.Need-piece-requires
+piece-requires c κs = search needs
+
+array-share-prefix-file : tie.Need-array-share-prefix-file
+array-share-prefix-file c = search needs
+
+slice-aggregate-run-file : tie.Need-slice-aggregate-run-file
+slice-aggregate-run-file c = search needs
+
+slice-aggregate-run-file-2 : tie.Need-slice-aggregate-run-file-2
+slice-aggregate-run-file-2 c = search needs
+
+slice-aggregate-run-file-3 : tie.Need-slice-aggregate-run-file-3
+slice-aggregate-run-file-3 c = search needs
+
+slice-aggregate-run-file-4 : tie.Need-slice-aggregate-run-file-4
+slice-aggregate-run-file-4 c = search needs
+
+run-file-requires : tie.Need-run-file-requires
+run-file-requires c κs =
+    let past = c .before .before .before .before .before in
+    lent-long (past .before .memory .ensures) (past .memory2 .ensures) (c .before .before .before .before .piece .ensures)
+
+slice-aggregate-sum-up : tie.Need-slice-aggregate-sum-up
+slice-aggregate-sum-up c = search needs
+
+sum-up-requires : tie.Need-sum-up-requires
+sum-up-requires c κs = search needs
+
+returns : tie.Need-returns
+returns c = search needs
+
+pub main-spec : {M : Type 1} → statement M
+main-spec =
+    tie.close
+    (tie.spec
+    large-buffer-requires
+    slice-aggregate-read-file
+    slice-aggregate-read-file-2
+    read-file-requires
+    memory-requires
+    memory-requires-2
+    piece-requires
+    array-share-prefix-file
+    slice-aggregate-run-file
+    slice-aggregate-run-file-2
+    slice-aggregate-run-file-3
+    slice-aggregate-run-file-4
+    run-file-requires
+    slice-aggregate-sum-up
+    sum-up-requires
+    returns)

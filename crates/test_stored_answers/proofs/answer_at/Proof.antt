@@ -1,0 +1,40 @@
+use Rattle.test_stored_answers.proofs.answer_at.Statement.{statement}
+use Rattle.test_stored_answers.proofs.answer_at.Tie as tie
+
+word-at-requires : tie.Need-word-at-requires
+word-at-requires c κs = tt
+
+past-requires : tie.Need-past-requires
+past-requires c κs = tt
+
+word-at-requires-2 : tie.Need-word-at-requires-2
+word-at-requires-2 c κs = tt
+
+past-requires-2 : tie.Need-past-requires-2
+past-requires-2 c κs = tt
+
+word-at-requires-3 : tie.Need-word-at-requires-3
+word-at-requires-3 c κs = tt
+
+past-requires-3 : tie.Need-past-requires-3
+past-requires-3 c κs = tt
+
+moment-at-requires : tie.Need-moment-at-requires
+moment-at-requires c κs = tt
+
+returns : tie.Need-returns
+returns c =
+    record { numberIs = c .before .before .before .before .before .before .word-at .ensures; stepsAre = cc; listedIs = cc; dueIs = cc }
+
+pub answer-at-spec : {M : Type 1} → statement M
+answer-at-spec =
+    tie.close
+    (tie.spec
+    word-at-requires
+    past-requires
+    word-at-requires-2
+    past-requires-2
+    word-at-requires-3
+    past-requires-3
+    moment-at-requires
+    returns)

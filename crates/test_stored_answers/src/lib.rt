@@ -1,0 +1,93 @@
+// The answer stored for a call: number, steps, outputs listed, 1 if a moment is due or else 0, that moment, a number and a value for each output.
+ghost use mathlib.Core.Path.{_≡_};
+ghost use Rattle.test_cases.specs.Words.{Tells};
+ghost use Rattle.test_stored_calls.specs.Pairs.{fitting, PairsPut};
+ghost use Rattle.test_stored_answers.specs.Answers.{AnswerAt, unlisted, AnswerRight};
+use test_cases::frame::moment_at;
+use test_cases::frame::past;
+use test_cases::frame::word_at;
+use test_cases::memories::same;
+use test_cases::report::say;
+use test_cases::report::say_number;
+use test_lending::machine::PATTERN;
+use test_stored_calls::inputs::read_pairs;
+use test_stored_calls::reports::Report;
+
+// The words of an answer before its outputs.
+pub const ANSWER: usize = 24;
+
+// The answer stored at a place: number, steps, outputs listed, whether a moment is due, and that moment or 0.
+fn answer_at(s: &[u8], at: usize) -> Report
+    ensures { λ r. ⌜ AnswerAt (now (s .entry)) at r ⌝ }
+{
+    let number = word_at(s, at);
+    let steps = word_at(s, past(s, at, 4));
+    let listed = word_at(s, past(s, at, 8));
+    let due = moment_at(s, past(s, at, 16));
+    Report {
+        number,
+        steps,
+        listed,
+        due,
+    }
+}
+
+fn same_reports(a: Report, b: Report) -> bool
+    ensures { λ r. ⌜ Tells r (a ≡ b) ⌝ }
+{
+    if a.number != b.number {
+        return false;
+    }
+    if a.steps != b.steps {
+        return false;
+    }
+    if a.listed != b.listed {
+        return false;
+    }
+    a.due == b.due
+}
+
+fn say_figure(name: &[u8], n: u64) {
+    say(name);
+    say_number(n);
+}
+
+fn say_report(title: &[u8], r: Report) {
+    say(title);
+    say_figure(b" number ", r.number as u64);
+    say_figure(b" steps ", r.steps as u64);
+    say_figure(b" listed ", r.listed as u64);
+    say_figure(b" due ", r.due);
+    say(b"\n");
+}
+
+// Do two lists that held nothing but the pattern now begin with so many pairs of the file, and hold the pattern after them?
+fn outputs_right(s: &[u8], at: usize, listed: u32, numbers: &[u32], values: &[u32]) -> bool
+    ensures { λ r. ⌜ Tells r (PairsPut (now (s .entry)) at (fitting listed unlisted unlisted) unlisted unlisted (now (numbers .entry)) (now (values .entry))) ⌝ }
+{
+    let mut stored_numbers = [PATTERN; 20];
+    let mut stored_values = [PATTERN; 20];
+    let count = listed as usize;
+    read_pairs(s, at, count, &mut stored_numbers, &mut stored_values);
+    if !same(numbers, &stored_numbers) {
+        return false;
+    }
+    same(values, &stored_values)
+}
+
+// Is the answer of a call the one stored, with the outputs listed, and are all other places as they were? If not it says so.
+pub fn answer_right(s: &[u8], at: usize, found: Report, numbers: &[u32], values: &[u32]) -> bool
+    ensures { λ r. ⌜ Tells r (AnswerRight (now (s .entry)) at found (now (numbers .entry)) (now (values .entry))) ⌝ }
+{
+    let expected = answer_at(s, at);
+    if !same_reports(expected, found) {
+        say_report(b"expected", expected);
+        say_report(b"found   ", found);
+        return false;
+    }
+    let right = outputs_right(s, past(s, at, ANSWER), found.listed, numbers, values);
+    if !right {
+        say(b"the output lists are not as they must be\n");
+    }
+    right
+}

@@ -1,0 +1,134 @@
+// What is gathered from the pieces of a field, one after another: as an expression, and as a row of names.
+ghost use mathlib.Core.Path.{_≡_};
+ghost use Prim.Native.Nat.{_<_};
+ghost use Rattle.text_fields.specs.Gather.{pushed, joined, heldAfter, isThereBy, isValue, valueIn, gatherOne};
+use crate::answers::both;
+use text_piece::Piece;
+
+pub struct Gathering {
+    // how many pieces
+    pub count: u64,
+    // the values that an expression of them holds, 9 once it is out of form
+    pub held: u8,
+    // whether each is a figure
+    pub figures: bool,
+    // the first one's figure
+    pub first: u64,
+    // whether the names after the first are there
+    pub others: bool,
+    // whether all names are there
+    pub there: bool,
+}
+
+fn pushed_on(n: u8) -> u8
+    ensures { λ r. ⌜ r ≡ pushed n ⌝ }
+{
+    if n < 8 {
+        return n + 1;
+    }
+    9
+}
+
+fn joined_on(n: u8) -> u8
+    ensures { λ r. ⌜ r ≡ joined n ⌝ }
+{
+    if n < 2 {
+        return 9;
+    }
+    if n <= 8 {
+        return n - 1;
+    }
+    9
+}
+
+// The values held after a piece: "It leaves one value and never holds more than 8".
+fn held_after(p: Piece, n: u8) -> u8
+    ensures { λ r. ⌜ r ≡ heldAfter p n ⌝ }
+{
+    match p {
+        Piece::Literal(_) => pushed_on(n),
+        Piece::Value(_) => pushed_on(n),
+        Piece::Mark(_) => pushed_on(n),
+        Piece::Plus => joined_on(n),
+        Piece::Minus => joined_on(n),
+        Piece::Times => joined_on(n),
+        Piece::Less => joined_on(n),
+        Piece::Bad => 9,
+    }
+}
+
+// Whether a piece's name is one of so many.
+pub fn is_there(p: Piece, names: u8) -> bool
+    ensures { λ r. ⌜ r ≡ isThereBy names p ⌝ }
+{
+    match p {
+        Piece::Literal(_) => true,
+        Piece::Value(n) => n < names as u64,
+        Piece::Mark(n) => n < names as u64,
+        Piece::Plus => true,
+        Piece::Minus => true,
+        Piece::Times => true,
+        Piece::Less => true,
+        Piece::Bad => true,
+    }
+}
+
+fn is_value(p: Piece) -> bool
+    ensures { λ r. ⌜ r ≡ isValue p ⌝ }
+{
+    match p {
+        Piece::Literal(_) => false,
+        Piece::Value(_) => true,
+        Piece::Mark(_) => false,
+        Piece::Plus => false,
+        Piece::Minus => false,
+        Piece::Times => false,
+        Piece::Less => false,
+        Piece::Bad => false,
+    }
+}
+
+fn value_in(p: Piece) -> u64
+    ensures { λ r. ⌜ r ≡ valueIn p ⌝ }
+{
+    match p {
+        Piece::Literal(_) => 0,
+        Piece::Value(n) => n,
+        Piece::Mark(_) => 0,
+        Piece::Plus => 0,
+        Piece::Minus => 0,
+        Piece::Times => 0,
+        Piece::Less => 0,
+        Piece::Bad => 0,
+    }
+}
+
+// One piece more.
+pub fn gathered(g: Gathering, p: Piece, names: u8) -> Gathering
+    requires { ⌜ g .count < 18446744073709551615 ⌝ }
+    ensures { λ r. ⌜ r ≡ gatherOne names g p ⌝ }
+{
+    let held = held_after(p, g.held);
+    let figures = both(g.figures, is_value(p));
+    let known = is_there(p, names);
+    let there = both(g.there, known);
+    if g.count == 0 {
+        return Gathering {
+            count: 1,
+            held: held,
+            figures: figures,
+            first: value_in(p),
+            others: g.others,
+            there: there,
+        };
+    }
+    let others = both(g.others, known);
+    Gathering {
+        count: g.count + 1,
+        held: held,
+        figures: figures,
+        first: g.first,
+        others: others,
+        there: there,
+    }
+}

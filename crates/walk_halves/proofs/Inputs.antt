@@ -1,0 +1,62 @@
+-- Due writes, inputs and the end of the marks over lists of variables: lengths, parts, and what stays due.
+-- Letters: t a moment, m variables, own further ones, ws inputs, k the number of inputs that the listing has.
+use mathlib.Core.Path.{_≡_, refl, sym, ap, ap₂, _∙_}
+use mathlib.Core.Bool.{true}
+use mathlib.Core.List.{List, [], _∷_, _++_}
+use Prim.Native.Nat.{ℕ, zero, suc, _≤_, _<_}
+use native.Mathlib.Omega.{arith}
+use borrow.Author.Tests.{ltb-true}
+use lib.Dec.{ltb, leb}
+use lib.ListN.{length, take, length-set, List·getD-append}
+use lib.Seq.{set-append-left}
+use Rattle.walk.specs.State.{Variable, noVariable, inputTo, writtenTo}
+use Rattle.walk.specs.Memory.{variableAt, writeAt, inputAt}
+use Rattle.walk.specs.Instant.{dueWrites, Write, applyInputs, unmarked, dueOfVariables}
+use Rattle.walk.specs.Calls.{inputsRise}
+use Rattle.walk_laws.proofs.Booleans.{and-left, and-right}
+use Rattle.walk_halves.proofs.Due.{NotBefore, set-not-before, getD-not-before}
+
+-- ── due writes ────────────────────────────────────────────────────────────────────────────────────
+pub dueWrites-append : (t : ℕ) (m own : List Variable) → dueWrites t (m ++ own) ≡ dueWrites t m ++ dueWrites t own
+unfolding dueWrites
+dueWrites-append t [] own = refl
+dueWrites-append t (x ∷ m) own = ap₂ _∷_ refl (dueWrites-append t m own)
+
+-- ── marks ─────────────────────────────────────────────────────────────────────────────────────────
+pub unmarked-append : (m own : List Variable) → unmarked (m ++ own) ≡ unmarked m ++ unmarked own
+unfolding unmarked
+unmarked-append [] own = refl
+unmarked-append (x ∷ m) own = ap₂ _∷_ refl (unmarked-append m own)
+
+pub unmarked-take : (k : ℕ) (m : List Variable) → take k (unmarked m) ≡ unmarked (take k m)
+unfolding unmarked
+unmarked-take zero m = refl
+unmarked-take (suc k) [] = refl
+unmarked-take (suc k) (x ∷ m) = ap₂ _∷_ refl (unmarked-take k m)
+
+-- ── inputs ────────────────────────────────────────────────────────────────────────────────────────
+pub length-inputs : (ws : List Write) (m : List Variable) → length (applyInputs ws m) ≡ length m
+unfolding applyInputs inputAt
+length-inputs [] m = refl
+length-inputs (w ∷ ws) m = length-inputs ws (inputAt m (w .number) (w .value)) ∙ length-set m (w .number) _
+
+pub inputs-not-before : (t : ℕ) (ws : List Write) (m : List Variable) → NotBefore t (dueOfVariables m) → NotBefore t (dueOfVariables (applyInputs ws m))
+unfolding applyInputs inputAt inputTo writtenTo variableAt
+inputs-not-before t [] m h = h
+inputs-not-before t (w ∷ ws) m h = inputs-not-before t ws (inputAt m (w .number) (w .value))
+    (set-not-before t m (w .number) _ h (getD-not-before t m (w .number) h))
+
+input-append : (m own : List Variable) (a v : ℕ) → a < length m → inputAt m a v ++ own ≡ inputAt (m ++ own) a v
+unfolding inputAt inputTo writtenTo variableAt
+input-append m own a v h = rw (List·getD-append m own noVariable a h) (sym (set-append-left m own a _ h))
+
+pub inputs-append : (k least : ℕ) (ws : List Write) (m own : List Variable) → inputsRise k least ws ≡ true → k ≤ length m →
+    applyInputs ws m ++ own ≡ applyInputs ws (m ++ own)
+unfolding applyInputs inputsRise
+inputs-append k least [] m own e l = refl
+inputs-append k least (w ∷ ws) m own e l =
+    let rest = and-right (leb least (w .number)) _ e in
+    let below : w .number < k = ltb-true (w .number) k (and-left (ltb (w .number) k) _ rest) in
+    let same = input-append m own (w .number) (w .value) (omega arith) in
+    inputs-append k (suc (w .number)) ws (inputAt m (w .number) (w .value)) own (and-right (ltb (w .number) k) _ rest)
+    (unfold inputAt in simp length-set l) ∙ ap (applyInputs ws) same

@@ -75,7 +75,7 @@ module _ (t words : List ℕ) (moment allowance : ℕ) (ran : Ran) (may : MayCon
         record {
           size = may .size;
           table = may .table;
-          tidy = may .tidy x e;
+          clean = may .clean x e;
           state = (got .given) .state;
           present = ap (λ (s : State). s .now) (agreed .state) ∙ agreed .moment;
           holds = agreed .after;

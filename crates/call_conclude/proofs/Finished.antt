@@ -69,7 +69,7 @@ module _ (t before after : List ℕ) (moment : ℕ) (may : MayFinish t before mo
 
   pub finished-reads : readMachine listing (take 12288 after) ≡ some (running (may .state))
   finished-reads =
-      ended-is-read listing (table-within-limits t (may .table)) (environmentSize listing) before after small (may .tidy) (may .state) (may .holds) (may .is-state)
+      ended-is-read listing (table-within-limits t (may .table)) (environmentSize listing) before after small (may .clean) (may .state) (may .holds) (may .is-state)
       (subst (λ (m : ℕ). Ended m (walkingOrder (rowsOf before)) before after) (sym (may .present)) E)
 
   module _ (i o : ℕ) (inputs : i ≡ getD t 0 0) (outputs : o ≡ getD t 1 0)

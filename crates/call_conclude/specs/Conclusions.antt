@@ -19,7 +19,7 @@ use Rattle.machine.specs.ReadMachine.{readMachine}
 use Rattle.engine_rows.specs.Beginning.{unmarkedRows, nextDueOfRows}
 use Rattle.engine_rows.specs.Holds.{Holds, SameOutcome}
 use Rattle.engine_blocks.specs.Blocks.{rowsOf, environmentOf}
-use Rattle.engine_clean.specs.Tidy.{Tidy}
+use Rattle.engine_clean.specs.Clean.{Clean}
 use Rattle.engine_run.specs.Whole.{ranBy}
 use Rattle.engine_run.specs.declared.whole.Left.{Left}
 use Rattle.engine_run.specs.declared.whole.Ran.{Ran}
@@ -44,7 +44,7 @@ pub record Concludes (listing : Listing) (before numbers values after numbers′
 pub record MayFinish (t words : List ℕ) (moment : ℕ) : Type 0 where
   pub size : 12288 ≤ length words
   pub table : isTable t ≡ true
-  pub tidy : Tidy (environmentSize (tableListing t)) words
+  pub clean : Clean (environmentSize (tableListing t)) words
   pub state : State
   pub present : state .now ≡ moment
   pub holds : Holds false (tableListing t) (unmarkedRows (rowsOf words)) (unmarked (environmentOf (environmentSize (tableListing t)) words)) state
@@ -70,4 +70,4 @@ pub record MayConclude (t words : List ℕ) (moment allowance : ℕ) (ran : Ran)
   pub answer : walk.Result Done
   pub same : SameOutcome (tableListing t) moment allowance answer (ranBy (environmentSize (tableListing t)) words ran)
   pub states : (d : Done) → answer ≡ walk.ok d → IsState (tableListing t) (d .state)
-  pub tidy : (x : Left) → ran ≡ Ended x → Tidy (environmentSize (tableListing t)) words
+  pub clean : (x : Left) → ran ≡ Ended x → Clean (environmentSize (tableListing t)) words

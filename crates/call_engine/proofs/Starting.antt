@@ -55,7 +55,7 @@ module _ (t w₀ w₁ : List ℕ) (u : Running) (table : isTable t ≡ true) (lo
         reached = carried (λ ρ v q l k. Reached listing 0 (λ (o : Owner). []) fits allowance ρ v q l k (u .me)) (B .rows) (B .environment) (B .ready-slots) (B .live)
             (B .woken) (start-reaches listing fits (u .me) (B .slot) allowance);
         placed = B .placed;
-        tidy = B .tidy;
+        clean = B .clean;
         few = omega (arith, B .woken, most);
       }
 
@@ -74,7 +74,7 @@ module _ (t w₀ w₁ : List ℕ) (u : Running) (table : isTable t ≡ true) (lo
           answer = start listing allowance;
           same = subst (SameOutcome listing 0 allowance (start listing allowance)) ran-is (start-on-rows listing fits (u .me) (B .slot) allowance);
           states = λ d e. start-leaves-state listing allowance (literals-are-words t table) d e .is-state;
-          tidy = R .tidy;
+          clean = R .clean;
         }
 
     pub start-concludes : (w₃ numbers values numbers′ values′ : List ℕ) (r : Answer) →

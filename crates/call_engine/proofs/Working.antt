@@ -128,7 +128,7 @@ module _ (t w₀ : List ℕ) (moment : ℕ) (dues ns vs : List ℕ) (allowance :
           triggers = triggersOf listing (rowsOf w₁);
           lists = b .lists;
           placed = b .placed;
-          tidy = b .tidy;
+          clean = b .clean;
           allowed = may .most;
           order = b .order;
           reaches = λ σ′ environment′ ready′ live′ woken′ me′ e.
@@ -153,7 +153,7 @@ module _ (t w₀ : List ℕ) (moment : ℕ) (dues ns vs : List ℕ) (allowance :
             same = same;
             states = λ d e. instant-leaves-state listing s moment inputs allowance (literals-are-words t (may .table)) is-state below (may .nothing-due)
                 (inputs-are-words ns vs words) d e .is-state;
-            tidy = R .tidy;
+            clean = R .clean;
           }
 
       pub instant-concludes : (w₃ numbers values numbers′ values′ : List ℕ) (r : Answer) →

@@ -17,7 +17,7 @@ use Rattle.engine_blocks.specs.Tabulate.{tabulateFrom}
 use Rattle.engine_blocks.specs.Blocks.{Block, block, variableIn, variablesIn, rowAt, rowsOf, environmentOf}
 use Rattle.engine_blocks.proofs.RowChanges.{row-of}
 use Rattle.engine_blocks.proofs.Tabulated.{getD-tabulate}
-use Rattle.engine_clean.specs.Tidy.{Tidy}
+use Rattle.engine_clean.specs.Clean.{Clean}
 use Rattle.engine_finish.proofs.EndedIsRead.{zero-of}
 use Rattle.engine_writes.specs.Reaching.{Unwritten, NothingWritten}
 use Rattle.engine_begin.proofs.Found.{no-row}
@@ -36,13 +36,13 @@ no-variables b e = rw e
 
 -- ── words that stand for a state ──────────────────────────────────────────────────────────────────
 module _ (listing : Listing) (n : ℕ) (m : List ℕ) (σ : Rows) (s : State) (H : Holds true listing σ (s .environment) s) (I : IsState listing s)
-    (rows : rowsOf m ≡ σ) (environment : environmentOf n m ≡ s .environment) (tidy : Tidy n m) where
+    (rows : rowsOf m ≡ σ) (environment : environmentOf n m ≡ s .environment) (clean : Clean n m) where
   free-own : (q : ℕ) → Dec (q < 64) → (rowsOf m q) .used ≡ false → (rowsOf m q) .own ≡ []
   unfolding rowAt freeRow
   free-own q (yes h) unused =
       let e = row-of m q h in
       let first : block m q 0 ≡ 0 = zero-of (block m q 0) (sym (ap (λ (r : Row). r .used) e) ∙ unused) in
-      ap (λ (r : Row). r .own) e ∙ no-variables (block m q) (tidy .slots q h .free first 4 (omega arith))
+      ap (λ (r : Row). r .own) e ∙ no-variables (block m q) (clean .slots q h .free first 4 (omega arith))
   free-own q (no h) unused = ap (λ (r : Row). r .own) (no-row m q (omega arith))
 
   own-no-marks : (q : ℕ) → NoMarks ((σ q) .own)
@@ -74,7 +74,7 @@ module _ (listing : Listing) (n : ℕ) (m : List ℕ) (σ : Rows) (s : State) (H
   outer-unwritten : Unwritten n (block m 64)
   unfolding environmentOf
   outer-unwritten =
-      let few = tidy .environment .tidy .few in
+      let few = clean .environment .clean .few in
       let e : min n 16 ≡ n = omega arith in
       subst (λ (c : ℕ). Unwritten c (block m 64)) e (block-unwritten (block m 64) n (subst NoMarks (sym environment) outer-no-marks))
 

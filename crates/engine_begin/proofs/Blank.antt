@@ -24,7 +24,7 @@ use Rattle.engine_blocks.specs.Tabulate.{tabulateFrom}
 use Rattle.engine_blocks.specs.Blocks.{Block, block, nonzero, variableIn, variablesIn, bindingsIn, rowAt, rowsOf, environmentOf}
 use Rattle.engine_blocks.proofs.InBlocks.{block-word, block-end}
 use Rattle.engine_blocks.proofs.RowChanges.{row-of}
-use Rattle.engine_clean.specs.Tidy.{TidyBlock, TidySlot, TidyEnvironment, Tidy}
+use Rattle.engine_clean.specs.Clean.{CleanBlock, CleanSlot, CleanEnvironment, Clean}
 use Rattle.engine_triggers.specs.Chains.{triggersAt}
 use Rattle.engine_triggers.proofs.Chaining.{chained-none, lists-stay}
 use Rattle.engine_fill.specs.MainRoutine.{MainIs}
@@ -61,9 +61,9 @@ unfolding tabulateFrom
 fresh-variables i zero f e = refl
 fresh-variables i (suc n) f e = rw (e i, fresh-variables (suc i) n f e)
 
-zero-tidy : (c : ℕ) → c ≤ 16 → TidyBlock c zeroBlock
+zero-clean : (c : ℕ) → c ≤ 16 → CleanBlock c zeroBlock
 unfolding zeroBlock
-zero-tidy c h = record {
+zero-clean c h = record {
   few = h;
   kept = λ k l g. refl;
   spareLow = λ i l. refl;
@@ -73,13 +73,13 @@ zero-tidy c h = record {
   quiet = λ e i l. refl;
 }
 
-zero-slot : TidySlot zeroBlock
+zero-slot : CleanSlot zeroBlock
 unfolding zeroBlock
-zero-slot = record { tidy = zero-tidy 0 (omega arith); free = λ e k h. refl }
+zero-slot = record { clean = zero-clean 0 (omega arith); free = λ e k h. refl }
 
-zero-environment : (n : ℕ) → n ≤ 16 → TidyEnvironment n zeroBlock
+zero-environment : (n : ℕ) → n ≤ 16 → CleanEnvironment n zeroBlock
 unfolding zeroBlock
-zero-environment n h = record { tidy = zero-tidy n h; before = λ k l. refl }
+zero-environment n h = record { clean = zero-clean n h; before = λ k l. refl }
 
 module _ (m₀ m₁ : List ℕ) (long : 12288 ≤ length m₀) (e : m₁ ≡ blankWords ++ drop 12288 m₀) where
   blank-size : length m₁ ≡ length m₀
@@ -114,8 +114,8 @@ module _ (m₀ m₁ : List ℕ) (long : 12288 ≤ length m₀) (e : m₁ ≡ bla
       let f : min (environmentSize listing) 16 ≡ environmentSize listing = omega arith in
       rw (blank-block 64 (omega arith), f) (fresh-variables 0 (environmentSize listing) (variableIn zeroBlock) zero-variable)
 
-  blank-tidy : (n : ℕ) → n ≤ 16 → Tidy n m₁
-  blank-tidy n few = record {
+  blank-clean : (n : ℕ) → n ≤ 16 → Clean n m₁
+  blank-clean n few = record {
     slots = λ q h. rw (blank-block q (omega arith)) zero-slot;
     environment = rw (blank-block 64 (omega arith)) (zero-environment n few);
   }
@@ -181,7 +181,7 @@ module _ (t : List ℕ) (table : isTable t ≡ true) where
         ready-slots = none;
         live = live;
         woken = woken;
-        tidy = M .tidy (environmentSize listing) (blank-tidy m₀ m₁ long e (environmentSize listing) few);
+        clean = M .clean (environmentSize listing) (blank-clean m₀ m₁ long e (environmentSize listing) few);
         placed = rw rows (main-placed (newEnvironment listing) (u .me));
         size = M .outside .size ∙ blank-size m₀ m₁ long e;
         past = M .outside .past ∙ blank-past m₀ m₁ long e;

@@ -31,7 +31,7 @@ use Rattle.engine_rows.proofs.AnyOrder.{ready-any-order}
 use Rattle.engine_blocks.specs.Blocks.{Block, block, ownerAt, rowsOf, environmentOf}
 use Rattle.engine_blocks.specs.Changes.{SameOutside, SameRows}
 use Rattle.engine_blocks.proofs.Staying.{outside-then, rows-of-same, environment-of-same}
-use Rattle.engine_clean.specs.Tidy.{TidyBlock, TidySlot, Tidy}
+use Rattle.engine_clean.specs.Clean.{CleanBlock, CleanSlot, Clean}
 use Rattle.engine_ready.specs.declared.ReadyList.{ReadyList}
 use Rattle.engine_ready.specs.Slots.{slotsOf}
 use Rattle.engine_ready.specs.Ordered.{Ordered, ordered-none}
@@ -42,7 +42,7 @@ use Rattle.engine_writes.specs.Beginnings.{DueMade, DuesTell, InputsWritten, Nu
 use Rattle.engine_writes.proofs.InputNumbers.{rising-numbers-below}
 use Rattle.engine_writes.specs.Reaching.{ReadySoFar, Reaches, NothingWritten}
 use Rattle.engine_begin.specs.Queue.{Queued}
-use Rattle.engine_begin.proofs.QueuedWords.{queued-tidy, may-fill-queued, filled-queued}
+use Rattle.engine_begin.proofs.QueuedWords.{queued-clean, may-fill-queued, filled-queued}
 use Rattle.engine_begin.specs.Begun.{MayBegin, BegunFrom, Begun}
 use Rattle.engine_begin.proofs.Found.{slot-found, found-live, found-few, found-environment, found-no-triggers, false-not}
 use Rattle.engine_begin.proofs.Filled.{state-found, filledFrom, filled-from-holds, filled-own, filled-rows, may-fill-all}
@@ -50,9 +50,9 @@ use Rattle.engine_begin.proofs.NotDue.{dues-tell}
 use Rattle.engine_begin.proofs.AtRest.{words-unwritten, nothing-written}
 use Rattle.engine_begin.proofs.Made.{own-as-it-is, own-after-due, made-placed, made-sleepers, made-names}
 
--- ── trigger words do not make words untidy ────────────────────────────────────────────────────────
-block-tidy : {c : ℕ} (a b : Block) → ((k : ℕ) → k < 144 → b k ≡ a k) → TidyBlock c a → TidyBlock c b
-block-tidy a b same T =
+-- ── trigger words do not make words unclean ────────────────────────────────────────────────────────
+block-clean : {c : ℕ} (a b : Block) → ((k : ℕ) → k < 144 → b k ≡ a k) → CleanBlock c a → CleanBlock c b
+block-clean a b same T =
     record {
       few = T .few;
       kept = λ k l h. same k (omega arith) ∙ T .kept k l h;
@@ -68,27 +68,27 @@ block-tidy a b same T =
       quiet = λ e i h. rw (same (10 + i * 6) (omega arith), same (11 + i * 6) (omega arith)) (T .quiet (sym (same 7 (omega arith)) ∙ e) i h);
     }
 
-slot-tidy : (a b : Block) → ((k : ℕ) → k < 144 → b k ≡ a k) → TidySlot a → TidySlot b
-slot-tidy a b same T = record {
-  tidy = rw (same 4 (omega arith)) (block-tidy a b same (T .tidy));
+slot-clean : (a b : Block) → ((k : ℕ) → k < 144 → b k ≡ a k) → CleanSlot a → CleanSlot b
+slot-clean a b same T = record {
+  clean = rw (same 4 (omega arith)) (block-clean a b same (T .clean));
   free = λ e k h. same k h ∙ T .free (sym (same 0 (omega arith)) ∙ e) k h;
 }
 
-pub listed-tidy : {n : ℕ} {a m : List ℕ} → SameRows a m → Tidy n a → Tidy n m
-listed-tidy {a = a} {m = m} R T = record {
-  slots = λ s h. slot-tidy (block a s) (block m s) (λ k l. R .same s k (omega arith) l) (T .slots s h);
+pub listed-clean : {n : ℕ} {a m : List ℕ} → SameRows a m → Clean n a → Clean n m
+listed-clean {a = a} {m = m} R T = record {
+  slots = λ s h. slot-clean (block a s) (block m s) (λ k l. R .same s k (omega arith) l) (T .slots s h);
   environment = record {
-    tidy = block-tidy (block a 64) (block m 64) (λ k l. R .same 64 k (omega arith) l) (T .environment .tidy);
+    clean = block-clean (block a 64) (block m 64) (λ k l. R .same 64 k (omega arith) l) (T .environment .clean);
     before = λ k h. R .same 64 k (omega arith) (omega arith) ∙ T .environment .before k h;
   };
 }
 
 -- ── words that stand for rows and an environment ──────────────────────────────────────────────────
--- They are tidy, and differ from m₀ in blocks alone.
+-- They are clean, and differ from m₀ in blocks alone.
 record Stands (n : ℕ) (m₀ m : List ℕ) (σ : Rows) (environment : List Variable) : Type 0 where
   rows : rowsOf m ≡ σ
   outer : environmentOf n m ≡ environment
-  tidy : Tidy n m
+  clean : Clean n m
   outside : SameOutside m₀ m
 
 module _ {n : ℕ} {m₀ m m′ : List ℕ} {σ : Rows} {environment : List Variable} (S : Stands n m₀ m σ environment) where
@@ -96,7 +96,7 @@ module _ {n : ℕ} {m₀ m m′ : List ℕ} {σ : Rows} {environment : List Vari
   listed-stand O = record {
     rows = rows-of-same (O .rows) ∙ S .rows;
     outer = environment-of-same (O .rows) n ∙ S .outer;
-    tidy = listed-tidy (O .rows) (S .tidy);
+    clean = listed-clean (O .rows) (S .clean);
     outside = outside-then (S .outside) (O .outside);
   }
 
@@ -104,7 +104,7 @@ module _ {n : ℕ} {m₀ m m′ : List ℕ} {σ : Rows} {environment : List Vari
   due-stand moment D = record {
     rows = D .rows ∙ ap (dueInRows moment) (S .rows);
     outer = D .environment ∙ ap (dueWrites moment) (S .outer);
-    tidy = D .tidy (S .tidy);
+    clean = D .clean (S .clean);
     outside = outside-then (S .outside) (D .outside);
   }
 
@@ -112,7 +112,7 @@ module _ {n : ℕ} {m₀ m m′ : List ℕ} {σ : Rows} {environment : List Vari
   inputs-stand inputs W = record {
     rows = W .rows ∙ S .rows;
     outer = W .environment ∙ ap (applyInputs inputs) (S .outer);
-    tidy = W .tidy (S .tidy);
+    clean = W .clean (S .clean);
     outside = outside-then (S .outside) (W .outside);
   }
 
@@ -157,7 +157,7 @@ module _ (t m₀ : List ℕ) (table : isTable t ≡ true) (small : Words32 m₀)
     filled-stand = record {
       rows = F .rows ∙ filled-rows t m₀ table small s e;
       outer = F .environment n ∙ (Q .environment n ∙ found-environment listing limits m₀ small s e);
-      tidy = F .tidy n (queued-tidy listing limits m₀ small s e dues m D Q);
+      clean = F .clean n (queued-clean listing limits m₀ small s e dues m D Q);
       outside = outside-then (Q .outside) (F .outside);
     }
 
@@ -180,7 +180,7 @@ module _ (t m₀ : List ℕ) (table : isTable t ≡ true) (small : Words32 m₀)
 
       -- before due writes
       unwritten : NothingWritten n m₂
-      unwritten = nothing-written listing n m₂ filled s held state (listed .rows) (listed .outer) (listed .tidy)
+      unwritten = nothing-written listing n m₂ filled s held state (listed .rows) (listed .outer) (listed .clean)
 
       told : (moment : ℕ) → 0 < moment → dueBefore (nextDue s) moment ≡ false → DuesTell n moment dues m₂
       told moment pos quiet =
@@ -191,7 +191,7 @@ module _ (t m₀ : List ℕ) (table : isTable t ≡ true) (small : Words32 m₀)
       nobody-ready : ListsOf listing m₁ m₂ → ReadySoFar listing n m₂ []
       nobody-ready lists =
           none-ready-yet listing n m₂
-          (none-wakes listing (rowsOf m₂) (environmentOf n m₂) (words-unwritten listing n m₂ filled s held state (listed .rows) (listed .outer) (listed .tidy)))
+          (none-wakes listing (rowsOf m₂) (environmentOf n m₂) (words-unwritten listing n m₂ filled s held state (listed .rows) (listed .outer) (listed .clean)))
           (λ q i h l. lists q i h l ∙ ap (λ (σ : Rows). triggersOf listing σ (ownerAt q i)) (sym (rows-of-same (O .rows))))
 
       -- at the end
@@ -210,8 +210,8 @@ module _ (t m₀ : List ℕ) (table : isTable t ≡ true) (small : Words32 m₀)
               ready-slots = R .made ∙ all-ready (R .woken) (R .sound) (R .full);
               order = order;
               live = found-live listing limits m₀ small s e;
-              tidy = written .tidy;
-              placed = made-placed t m₄ s filled table held state _ (written .rows ∙ own-after-due moment filled) (written .tidy);
+              clean = written .clean;
+              placed = made-placed t m₄ s filled table held state _ (written .rows ∙ own-after-due moment filled) (written .clean);
               size = written .outside .size;
               past = written .outside .past;
             }

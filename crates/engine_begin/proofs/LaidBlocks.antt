@@ -1,4 +1,4 @@
--- A block whose words are laid out as docs/LAYOUT.md says, between two calls: it is tidy, its working words are 0, and its variables are read back.
+-- A block whose words are laid out as docs/LAYOUT.md says, between two calls: it is clean, its working words are 0, and its variables are read back.
 -- Letters: b a block, i a variable, f one of its six words, q a word counted from the first variable.
 use mathlib.Core.Path.{_≡_, refl, sym, ap, _∙_}
 use mathlib.Core.Bool.{Bool, true, false, _&&_, not}

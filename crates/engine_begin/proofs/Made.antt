@@ -23,7 +23,7 @@ use Rattle.engine_rows.proofs.RowBounds.{holds-bounds}
 use Rattle.engine_rows.proofs.Holds.{Holds, sits}
 use Rattle.engine_blocks.specs.Blocks.{block, rowAt, rowsOf}
 use Rattle.engine_blocks.proofs.RowChanges.{row-of}
-use Rattle.engine_clean.specs.Tidy.{Tidy}
+use Rattle.engine_clean.specs.Clean.{Clean}
 use Rattle.engine_triggers.specs.Awaited.{awaitedNames, FewNames, Sleepers, NamesOf}
 use Rattle.engine_triggers.proofs.Listing.{length-names, awaited-wait, awaited-none}
 use Rattle.engine_evaluate.specs.Bound.{bindingsOf}
@@ -119,18 +119,18 @@ module _ (t m : List ℕ) (s : State) (filled : Rows) (table : isTable t ≡ tru
   made-names = record { names = λ q h a. names-agree t table (rowsOf m q) (asleep-on q a) }
 
   -- a parent is in use
-  parent-used : {n : ℕ} → Tidy n m → (q : ℕ) → 0 < (rowsOf m q) .children → (rowsOf m q) .used ≡ true
-  parent-used tidy q many = go ((rowsOf m q) .used) refl (decLt q 64)
+  parent-used : {n : ℕ} → Clean n m → (q : ℕ) → 0 < (rowsOf m q) .children → (rowsOf m q) .used ≡ true
+  parent-used clean q many = go ((rowsOf m q) .used) refl (decLt q 64)
     where
       go : (b : Bool) → (rowsOf m q) .used ≡ b → Dec (q < 64) → b ≡ true
       go true e d = refl
-      go false e (yes h) = absurd (free-parent m q h (tidy .slots q h .free) e many)
+      go false e (yes h) = absurd (free-parent m q h (clean .slots q h .free) e many)
       go false e (no h) = absurd (past-parent m q (omega arith) many)
 
-  pub made-placed : {n : ℕ} → Tidy n m → Placed t (rowsOf m)
-  made-placed tidy = record {
+  pub made-placed : {n : ℕ} → Clean n m → Placed t (rowsOf m)
+  made-placed clean = record {
     routine = λ q u. used-on q u .routine;
     place = λ q u. let h = used-on q u .next in omega arith;
     sleeper = asleep-on;
-    parent = λ q many. used-on q (parent-used tidy q many);
+    parent = λ q many. used-on q (parent-used clean q many);
   }

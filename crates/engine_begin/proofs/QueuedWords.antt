@@ -1,4 +1,4 @@
--- The words with the blocks noted where a waiting write may stand: they are tidy, and the rows are filled in from them as from the words found.
+-- The words with the blocks noted where a waiting write may stand: they are clean, and the rows are filled in from them as from the words found.
 -- Letters: t the table's words, m₀ the machine's as found, m so noted, m₁ filled in, s the state that m₀ is read as, q a slot.
 use mathlib.Core.Path.{_≡_, refl, sym, ap, subst, _∙_}
 use mathlib.Core.List.{List}
@@ -24,10 +24,10 @@ use Rattle.engine_blocks.specs.Blocks.{Block, block, variablesIn, rowsOf, envir
 use Rattle.engine_blocks.specs.Changes.{putIn}
 use Rattle.engine_blocks.proofs.Puts.{put-other, put-same}
 use Rattle.engine_blocks.proofs.Tabulated.{tabulate-same}
-use Rattle.engine_clean.specs.Tidy.{TidySlot, TidyEnvironment, Tidy}
+use Rattle.engine_clean.specs.Clean.{CleanSlot, CleanEnvironment, Clean}
 use Rattle.engine_fill.specs.Filling.{orderOf, portsOf, FillsRows, MayFillAll}
 use Rattle.engine_begin.specs.Queue.{flagOf, Queued}
-use Rattle.engine_begin.proofs.Queueing.{noted-tidy}
+use Rattle.engine_begin.proofs.Queueing.{noted-clean}
 use Rattle.engine_begin.proofs.NotDue.{slot-due, environment-due}
 use Rattle.engine_begin.proofs.Found.{slot-found, outer-rests, outer-before}
 
@@ -44,7 +44,7 @@ no-variables : (b : Block) → b 4 ≡ 0 → dueOfVariables (variablesIn b (b 4)
 unfolding variablesIn tabulateFrom dueOfVariables
 no-variables b e = rw e
 
--- ── tidy ──────────────────────────────────────────────────────────────────────────────────────────
+-- ── clean ──────────────────────────────────────────────────────────────────────────────────────────
 module _ (listing : Listing) (L : WithinLimits listing) (m₀ : List ℕ) (small : Words32 m₀) (s : State) (e : readMachine listing (take 12288 m₀) ≡ some (running s))
     (dues m : List ℕ) (D : Dues (environmentSize listing) (take 12288 m₀) dues) (Q : Queued 65 dues m₀ m) where
   known : (q : ℕ) → q < 64 → dueAt (getD dues q 0) ≡ dueOfVariables (variablesIn (block m₀ q) (block m₀ q 4))
@@ -65,34 +65,34 @@ module _ (listing : Listing) (L : WithinLimits listing) (m₀ : List ℕ) (small
       go (yes f) = ap (putIn (block m₀ q) 7 (flagOf (getD dues q 0))) f ∙ (put-same (block m₀ q) 7 (flagOf (getD dues q 0)) ∙ ap flagOf none)
       go (no f) = put-other (block m₀ q) 7 (flagOf (getD dues q 0)) k f ∙ zeros k (omega arith)
 
-  slot-tidy : (q : ℕ) → q < 64 → TidySlot (block m q)
-  slot-tidy q h =
+  slot-clean : (q : ℕ) → q < 64 → CleanSlot (block m q)
+  slot-clean q h =
       let b = block m₀ q in
       let v = flagOf (getD dues q 0) in
       let four = put-other b 7 v 4 (λ z. omega arith) in
       let first = put-other b 7 v 0 (λ z. omega arith) in
-      let noted : TidySlot (putIn b 7 v) = record {
-        tidy = rw four (noted-tidy (b 4) b (slot-found listing L m₀ small s e q h .rests) (getD dues q 0) (λ z. sym (known q h) ∙ at-none (getD dues q 0) z));
+      let noted : CleanSlot (putIn b 7 v) = record {
+        clean = rw four (noted-clean (b 4) b (slot-found listing L m₀ small s e q h .rests) (getD dues q 0) (λ z. sym (known q h) ∙ at-none (getD dues q 0) z));
         free = λ z. free-note q h (sym first ∙ z);
       } in
-      subst TidySlot (sym (Q .noted q (omega arith) (omega arith))) noted
+      subst CleanSlot (sym (Q .noted q (omega arith) (omega arith))) noted
 
-  outer-tidy : TidyEnvironment (environmentSize listing) (block m 64)
+  outer-clean : CleanEnvironment (environmentSize listing) (block m 64)
   unfolding environmentOf
-  outer-tidy =
+  outer-clean =
       let n = environmentSize listing in
       let b = block m₀ 64 in
       let R = outer-rests listing L m₀ small s e in
       let none : getD dues 64 0 ≡ 0 → dueOfVariables (variablesIn b n) ≡ never = λ z.
       sym (environment-due m₀ n (R .few)) ∙ (sym (D .environment) ∙ at-none (getD dues 64 0) z) in
-      let noted : TidyEnvironment n (putIn b 7 (flagOf (getD dues 64 0))) = record {
-        tidy = noted-tidy n b R (getD dues 64 0) none;
+      let noted : CleanEnvironment n (putIn b 7 (flagOf (getD dues 64 0))) = record {
+        clean = noted-clean n b R (getD dues 64 0) none;
         before = λ k h. put-other b 7 (flagOf (getD dues 64 0)) k (λ z. omega arith) ∙ outer-before listing L m₀ small s e k (omega arith);
       } in
-      subst (TidyEnvironment n) (sym (Q .noted 64 (omega arith) (omega arith))) noted
+      subst (CleanEnvironment n) (sym (Q .noted 64 (omega arith) (omega arith))) noted
 
-  pub queued-tidy : Tidy (environmentSize listing) m
-  queued-tidy = record { slots = slot-tidy; environment = outer-tidy }
+  pub queued-clean : Clean (environmentSize listing) m
+  queued-clean = record { slots = slot-clean; environment = outer-clean }
 
 -- ── filled in as from the words found ─────────────────────────────────────────────────────────────
 module _ (t m₀ dues m : List ℕ) (Q : Queued 65 dues m₀ m) (few : getD m₀ 3 0 ≤ 64) where

@@ -1,4 +1,4 @@
--- The blocks where a waiting write may stand noted at the beginning of an instant; and that the blocks are tidy then: one without a note has no waiting write.
+-- The blocks where a waiting write may stand noted at the beginning of an instant; and that the blocks are clean then: one without a note has no waiting write.
 -- Letters: a the words before, m and m′ those on the way, s a block's number, d its soonest moment due (0: none), b a block, c how many variables.
 use mathlib.Core.Path.{_≡_, refl, sym, _∙_}
 use mathlib.Core.Bool.{Bool, true, false}
@@ -18,7 +18,7 @@ use Rattle.engine_blocks.proofs.Puts.{put-same, put-other}
 use Rattle.engine_blocks.proofs.InBlocks.{other-block, same-outside}
 use Rattle.engine_blocks.proofs.Queued.{seven-rows, seven-environment, seven-triggers}
 use Rattle.engine_blocks.proofs.Staying.{outside-start, outside-then, triggers-start, triggers-then}
-use Rattle.engine_clean.specs.Tidy.{Blank, TidyBlock}
+use Rattle.engine_clean.specs.Clean.{Blank, CleanBlock}
 use Rattle.engine_begin.specs.Queue.{flagOf, Queued}
 
 -- ── the note ──────────────────────────────────────────────────────────────────────────────────────
@@ -86,7 +86,7 @@ none-waits b i (suc k) e j l h = let p = neither _ _ e in go (ℕ-discrete i j) 
     go (yes z) here later = rw z at here
     go (no z) here later = later (omega (arith, z))
 
--- ── tidy, once noted ──────────────────────────────────────────────────────────────────────────────
+-- ── clean, once noted ──────────────────────────────────────────────────────────────────────────────
 -- A block at rest: as tidiness wants it, but that word 7 says nothing yet.
 pub record Rests (c : ℕ) (b : Block) : Type 0 where
   pub few : c ≤ 16
@@ -113,8 +113,8 @@ module _ (c : ℕ) (b : Block) (R : Rests c b) where
   flag-none zero e = refl
   flag-none (suc d) e = absurd (let z : ⊥ = omega arith in z)
 
-  pub noted-tidy : (d : ℕ) → (d ≡ 0 → dueOfVariables (variablesIn b c) ≡ never) → TidyBlock c (putIn b 7 (flagOf d))
-  noted-tidy d none =
+  pub noted-clean : (d : ℕ) → (d ≡ 0 → dueOfVariables (variablesIn b c) ≡ never) → CleanBlock c (putIn b 7 (flagOf d))
+  noted-clean d none =
       let off : (k : ℕ) → (k ≡ 7 → ⊥) → putIn b 7 (flagOf d) k ≡ b k = λ k n. put-other b 7 (flagOf d) k n in
       record {
         few = R .few;

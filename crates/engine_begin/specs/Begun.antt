@@ -18,7 +18,7 @@ use Rattle.engine_rows.specs.Triggers.{triggersOf, readyOf}
 use Rattle.engine_rows.specs.Beginning.{dueInRows, mainRow, newEnvironment}
 use Rattle.engine_rows.specs.Holds.{Holds}
 use Rattle.engine_blocks.specs.Blocks.{ownerAt, rowsOf, environmentOf}
-use Rattle.engine_clean.specs.Tidy.{Tidy}
+use Rattle.engine_clean.specs.Clean.{Clean}
 use Rattle.engine_ready.specs.declared.ReadyList.{ReadyList}
 use Rattle.engine_ready.specs.Slots.{slotsOf}
 use Rattle.engine_ready.specs.Ordered.{Ordered}
@@ -52,7 +52,7 @@ pub record BegunFrom (t before after : List ℕ) (moment : ℕ) (inputs : List W
   pub ready-slots : slotsOf ready ≡ readyOf (tableListing t) (rowsOf after) (environmentOf (environmentSize (tableListing t)) after)
   pub order : Ordered (rowsOf after) (slotsOf ready)
   pub live : getD before 3 0 ≡ liveInForest (s .tree)
-  pub tidy : Tidy (environmentSize (tableListing t)) after
+  pub clean : Clean (environmentSize (tableListing t)) after
   pub placed : Placed t (rowsOf after)
   pub size : length after ≡ length before
   pub past : drop 12288 after ≡ drop 12288 before
@@ -71,7 +71,7 @@ pub record BegunStart (t before after : List ℕ) (u : Running) : Type 0 where
   pub ready-slots : slotsOf (u .ready) ≡ []
   pub live : u .live ≡ 1
   pub woken : u .woken ≡ 0
-  pub tidy : Tidy (environmentSize (tableListing t)) after
+  pub clean : Clean (environmentSize (tableListing t)) after
   pub placed : Placed t (rowsOf after)
   pub size : length after ≡ length before
   pub past : drop 12288 after ≡ drop 12288 before

@@ -1,4 +1,4 @@
--- What a fork asks for, from what the engine keeps: the depth of priorities, tidy slots.
+-- What a fork asks for, from what the engine keeps: the depth of priorities, clean slots.
 use mathlib.Core.Path.{_≡_, refl, sym, ap, _∙_}
 use mathlib.Core.Bool.{Bool, true, false}
 use mathlib.Core.List.{List, []}
@@ -8,7 +8,7 @@ use lib.ListN.{length}
 use Rattle.engine_rows.specs.Rows.{Row, Rows}
 use Rattle.engine_blocks.specs.Blocks.{block, nonzero, rowAt, rowsOf}
 use Rattle.engine_blocks.proofs.RowChanges.{row-of}
-use Rattle.engine_clean.specs.Tidy.{Tidy}
+use Rattle.engine_clean.specs.Clean.{Clean}
 use Rattle.engine_children.specs.NewRow.{MayDivide}
 use Rattle.engine_children.proofs.Passing.{no-variables}
 use Rattle.words.proofs.ForkBits.{fork-bits-are-at-most-three}
@@ -24,8 +24,8 @@ unfolding nonzero
 zero-of zero e = refl
 zero-of (suc n) e = absurd (let z : _≡_ {A = ℕ} 0 1 = cc in omega arith)
 
--- A free slot of tidy words has no variables.
-pub free-is-empty : {k : ℕ} {m : List ℕ} → Tidy k m → (s : ℕ) → s < 64 → (rowsOf m s) .used ≡ false → (rowsOf m s) .own ≡ []
+-- A free slot of clean words has no variables.
+pub free-is-empty : {k : ℕ} {m : List ℕ} → Clean k m → (s : ℕ) → s < 64 → (rowsOf m s) .used ≡ false → (rowsOf m s) .own ≡ []
 unfolding rowAt
 free-is-empty {k} {m} T s h u =
     let first : block m s 0 ≡ 0 = zero-of (block m s 0) (sym (ap (λ (r : Row). r .used) (row-of m s h)) ∙ u) in

@@ -1,4 +1,4 @@
--- A child's row as a change of rows and environment, tidy; the end of `new_child`.
+-- A child's row as a change of rows and environment, clean; the end of `new_child`.
 use mathlib.Core.Path.{_≡_, ap, ap₂, _∙_}
 use mathlib.Core.Bool.{true}
 use mathlib.Core.List.{List}
@@ -11,8 +11,8 @@ use Rattle.engine_blocks.specs.Store.{storeOf, withSlot}
 use Rattle.engine_blocks.specs.Changes.{putIn}
 use Rattle.engine_blocks.proofs.InBlocks.{same-outside, same-triggers}
 use Rattle.engine_blocks.proofs.RowChanges.{row-of, with-row-other, rows-in-block, environment-stays}
-use Rattle.engine_clean.specs.Tidy.{Blank, TidySlot}
-use Rattle.engine_clean.proofs.Whole.{slot-keeps-tidy}
+use Rattle.engine_clean.specs.Clean.{Blank, CleanSlot}
+use Rattle.engine_clean.proofs.Whole.{slot-keeps-clean}
 use Rattle.engine_children.specs.declared.rows.Parent.{Parent}
 use Rattle.engine_children.specs.NewRow.{keptBlock, workingBlock}
 use Rattle.engine_children.specs.NewChild.{MakesChild}
@@ -43,10 +43,10 @@ module _ {t m₀ m₁ m₂ m₃ m₄ : List ℕ} {me head i s n callee count bit
           high = zero-word S (11 + j * 6) (omega arith) (omega arith) (λ x y. omega arith) (λ k a e. omega arith);
         }
 
-    slot-tidy : TidySlot (block m₄ s)
-    slot-tidy =
+    slot-clean : CleanSlot (block m₄ s)
+    slot-clean =
         record {
-          tidy = rw number-word (record {
+          clean = rw number-word (record {
             few = few S;
             kept = λ k h g. zero-word S k h (omega arith) (λ x y. omega arith) (λ j a e. omega arith);
             spareLow = λ j h. zero-word S (12 + j * 6) (omega arith) (omega arith) (λ x y. omega arith) (λ k a e. omega arith);
@@ -78,5 +78,5 @@ module _ {t m₀ m₁ m₂ m₃ m₄ : List ℕ} {me head i s n callee count bit
           environment = environment-stays (to₄ S) (S .may .slot);
           outside = same-outside (to₄ S) (omega (arith, S .may .slot));
           triggers = same-triggers (to₄ S) trigger-word;
-          tidy = λ k T. slot-keeps-tidy (to₄ S) (S .may .slot) slot-tidy T;
+          clean = λ k T. slot-keeps-clean (to₄ S) (S .may .slot) slot-clean T;
         }

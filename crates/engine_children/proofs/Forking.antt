@@ -20,7 +20,7 @@ use Rattle.engine_blocks.specs.Changes.{SameOutside, SameTriggers}
 use Rattle.engine_variables.specs.Bindings.{variablesBeside}
 use Rattle.engine_blocks.proofs.RowChanges.{with-row-same, with-row-other}
 use Rattle.engine_blocks.proofs.Staying.{outside-start, outside-then, triggers-start, triggers-then}
-use Rattle.engine_clean.specs.Tidy.{Tidy}
+use Rattle.engine_clean.specs.Clean.{Clean}
 use Rattle.engine_evaluate.specs.Bound.{numberOf, Bound, bindingsOf}
 use Rattle.engine_children.specs.declared.fork.NewSlots.{NewSlots}
 use Rattle.engine_children.specs.NewChild.{MayMake, MakesChild}
@@ -70,7 +70,7 @@ pub record Forking (t before : List ℕ) (me cells n : ℕ) (m places : List ℕ
   pub environment : (k : ℕ) → environmentOf k m ≡ environmentOf k before
   pub outside : SameOutside before m
   pub triggers : SameTriggers before m
-  pub tidy : (k : ℕ) → Tidy k before → Tidy k m
+  pub clean : (k : ℕ) → Clean k before → Clean k m
   pub bound : (k : ℕ) → Bound (storeOf k before) (bindingsOf before me) → Bound (storeOf k m) (bindingsOf m me)
   pub rows : (k : ℕ) → Bound (storeOf k before) (bindingsOf before me)
       → rowsWithNew (tableListing t) (rowsOf m) (environmentOf k before) me n (callsAt t head (n - i)) i
@@ -93,7 +93,7 @@ module _ {t before : List ℕ} {me cells n : ℕ} (F : MayFork t before me cells
         environment = λ k. refl;
         outside = outside-start before;
         triggers = triggers-start before;
-        tidy = λ k T. T;
+        clean = λ k T. T;
         bound = λ k B. B;
         rows = λ k B. rw z;
         slots = λ k B. rw z;
@@ -105,7 +105,7 @@ module _ {t before : List ℕ} {me cells n : ℕ} (F : MayFork t before me cells
       free = freeSlot-free (rowsOf m) (omega (arith, G .room))
 
       blank : (k : ℕ) → k < 144 → block m (freeSlot (rowsOf m) 64) k ≡ 0
-      blank = free-blank (G .tidy (F .variables) (F .tidy)) (freeSlot (rowsOf m) 64) (free .1) (free .0)
+      blank = free-blank (G .clean (F .variables) (F .clean)) (freeSlot (rowsOf m) 64) (free .1) (free .0)
 
       caller-apart : me ≡ freeSlot (rowsOf m) 64 → ⊥
       caller-apart e =
@@ -194,7 +194,7 @@ module _ {t before : List ℕ} {me cells n : ℕ} (F : MayFork t before me cells
               environment = λ k. C .environment k ∙ G .environment k;
               outside = outside-then (G .outside) (C .outside);
               triggers = triggers-then (G .triggers) (C .triggers);
-              tidy = λ k T. C .tidy k (G .tidy k T);
+              clean = λ k T. C .clean k (G .clean k T);
               bound = bound-then;
               rows = rest-of-rows;
               slots = rest-of-slots;
@@ -212,5 +212,5 @@ module _ {t before : List ℕ} {me cells n : ℕ} (F : MayFork t before me cells
           environment = G .environment;
           outside = G .outside;
           triggers = G .triggers;
-          tidy = G .tidy;
+          clean = G .clean;
         }

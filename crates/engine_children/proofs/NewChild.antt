@@ -1,4 +1,4 @@
--- A child's whole row: the stores of `new_child`, one after the other, leave the row that its child field makes, and a tidy block.
+-- A child's whole row: the stores of `new_child`, one after the other, leave the row that its child field makes, and a clean block.
 use mathlib.Core.Path.{_≡_, sym, ap, _∙_}
 use mathlib.Core.List.{List}
 use Prim.Native.Nat.{ℕ, suc, _+_, _*_, _-_, _^_, _≤_, _<_, min}

@@ -12,7 +12,7 @@ use Rattle.engine_rows.specs.Holds.{usedBelow}
 use Rattle.engine_blocks.specs.Blocks.{rowsOf, environmentOf}
 use Rattle.engine_blocks.specs.Store.{storeOf}
 use Rattle.engine_blocks.specs.Changes.{SameOutside, SameTriggers}
-use Rattle.engine_clean.specs.Tidy.{Tidy}
+use Rattle.engine_clean.specs.Clean.{Clean}
 use Rattle.engine_evaluate.specs.Bound.{Bound, bindingsOf}
 use Rattle.engine_children.specs.declared.fork.NewSlots.{NewSlots}
 use Rattle.engine_children.specs.NewRow.{MayDivide}
@@ -32,7 +32,7 @@ pub record MayFork (t m : List ℕ) (me cells n : ℕ) : Type 0 where
   pub room : usedBelow (rowsOf m) 64 + n ≤ 64
   -- free slots are blank, whatever the number of environment variables
   pub variables : ℕ
-  pub tidy : Tidy variables m
+  pub clean : Clean variables m
 
 -- All children exist, in the slots r, if the caller's names lead to variables that are there; nothing else changed.
 pub record MakesChildren (t before : List ℕ) (me cells n : ℕ) (after : List ℕ) (r : NewSlots) : Type 0 where
@@ -44,4 +44,4 @@ pub record MakesChildren (t before : List ℕ) (me cells n : ℕ) (after : List 
   pub environment : (k : ℕ) → environmentOf k after ≡ environmentOf k before
   pub outside : SameOutside before after
   pub triggers : SameTriggers before after
-  pub tidy : (k : ℕ) → Tidy k before → Tidy k after
+  pub clean : (k : ℕ) → Clean k before → Clean k after

@@ -13,7 +13,7 @@ use Rattle.engine_rows.specs.Engine.{callerAt, childRow}
 use Rattle.engine_blocks.specs.Blocks.{block, rowsOf, environmentOf}
 use Rattle.engine_blocks.specs.Store.{storeOf, withSlot}
 use Rattle.engine_blocks.specs.Changes.{SameOutside, SameTriggers}
-use Rattle.engine_clean.specs.Tidy.{Tidy}
+use Rattle.engine_clean.specs.Clean.{Clean}
 use Rattle.engine_evaluate.specs.Bound.{Bound, bindingsOf}
 use Rattle.engine_children.specs.NewRow.{MayDivide}
 
@@ -38,4 +38,4 @@ pub record MakesChild (t before : List ℕ) (me head i s n : ℕ) (after : List 
   pub environment : (k : ℕ) → environmentOf k after ≡ environmentOf k before
   pub outside : SameOutside before after
   pub triggers : SameTriggers before after
-  pub tidy : (k : ℕ) → Tidy k before → Tidy k after
+  pub clean : (k : ℕ) → Clean k before → Clean k after

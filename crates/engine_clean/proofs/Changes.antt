@@ -1,4 +1,4 @@
--- Each change that the engine's code makes to a block keeps it tidy, and a change of one block keeps all blocks tidy.
+-- Each change that the engine's code makes to a block keeps it clean, and a change of one block keeps all blocks clean.
 -- Letters: b a block, c its number of variables, i a variable's index, f an offset, v a word, t a moment.
 use mathlib.Core.Path.{_≡_, refl, sym, _∙_}
 use mathlib.Core.Bool.{Bool, true, false, cond}
@@ -9,7 +9,7 @@ use lib.Dec.{eqb}
 use borrow.Author.Tests.{eq-eqb, ne-eqb}
 use Rattle.engine_blocks.specs.Blocks.{Block, block}
 use Rattle.engine_blocks.specs.Changes.{putIn, assignedBlock, scheduledBlock, queuedBlock, madeBlock, unmarkedBlock, dueBlock}
-use Rattle.engine_clean.specs.Tidy.{Blank, TidyBlock}
+use Rattle.engine_clean.specs.Clean.{Blank, CleanBlock}
 
 -- ── one word stored ───────────────────────────────────────────────────────────────────────────────
 pub put-other : (b : Block) (f v k : ℕ) → (k ≡ f → ⊥) → putIn b f v k ≡ b k
@@ -31,7 +31,7 @@ loose-low f h = record { notKept = λ a b. omega arith; notVariable = λ a b. om
 pub loose-high : (f : ℕ) → 104 ≤ f → Loose f
 loose-high f h = record { notKept = λ a b. omega arith; notVariable = λ a b. omega arith }
 
-pub store-loose : (c : ℕ) (b : Block) (f v : ℕ) → Loose f → TidyBlock c b → TidyBlock c (putIn b f v)
+pub store-loose : (c : ℕ) (b : Block) (f v : ℕ) → Loose f → CleanBlock c b → CleanBlock c (putIn b f v)
 store-loose c b f v l t =
     record {
       few = t .few;
@@ -64,7 +64,7 @@ SameBut i b b′ = (k : ℕ) → 5 ≤ k → k < 104 → (k ≡ 7 → ⊥) → (
 apart : (i j k : ℕ) → (j ≡ i → ⊥) → 8 + j * 6 ≤ k → k < 14 + j * 6 → 8 + i * 6 ≤ k → k < 12 + i * 6 → ⊥
 apart i j k h a b c d = h (omega arith)
 
-module _ (c : ℕ) (b b′ : Block) (i : ℕ) (within : i < c) (t : TidyBlock c b) (same : SameBut i b b′)
+module _ (c : ℕ) (b b′ : Block) (i : ℕ) (within : i < c) (t : CleanBlock c b) (same : SameBut i b b′)
     (idles : b′ (10 + i * 6) + b′ (11 + i * 6) * 4294967296 ≡ 0 → b′ (9 + i * 6) ≡ 0)
   where
     other-words : (j k : ℕ) → (j ≡ i → ⊥) → j < 16 → 8 + j * 6 ≤ k → k < 14 + j * 6 → b′ k ≡ b k
@@ -101,7 +101,7 @@ module _ (c : ℕ) (b b′ : Block) (i : ℕ) (within : i < c) (t : TidyBlock c 
             let none = t .quiet (sym seven ∙ z) j h in
             omega (arith, p, q, none)
 
-    pub one-variable-changed : (b′ 7 ≡ 0 → (j : ℕ) → j < 16 → b′ (10 + j * 6) + b′ (11 + j * 6) * 4294967296 ≡ 0) → TidyBlock c b′
+    pub one-variable-changed : (b′ 7 ≡ 0 → (j : ℕ) → j < 16 → b′ (10 + j * 6) + b′ (11 + j * 6) * 4294967296 ≡ 0) → CleanBlock c b′
     one-variable-changed quiet =
         record {
           few = t .few;
@@ -113,10 +113,10 @@ module _ (c : ℕ) (b b′ : Block) (i : ℕ) (within : i < c) (t : TidyBlock c 
           quiet = quiet;
         }
 
-module _ (c : ℕ) (b : Block) (i : ℕ) (within : i < c) (t : TidyBlock c b) where
-  pub assigned-tidy : (v : ℕ) → TidyBlock c (assignedBlock i v b)
+module _ (c : ℕ) (b : Block) (i : ℕ) (within : i < c) (t : CleanBlock c b) where
+  pub assigned-clean : (v : ℕ) → CleanBlock c (assignedBlock i v b)
   unfolding assignedBlock
-  assigned-tidy v =
+  assigned-clean v =
       let l : i < 16 = omega (arith, t .few) in
       let b₁ = putIn b (8 + i * 6) v in
       let p = put-other b (8 + i * 6) v (10 + i * 6) (λ q. omega arith) in
@@ -132,9 +132,9 @@ module _ (c : ℕ) (b : Block) (i : ℕ) (within : i < c) (t : TidyBlock c b) wh
   then : (b₁ : Block) (f v k : ℕ) → (k ≡ f → ⊥) → b₁ k ≡ b k → putIn b₁ f v k ≡ b k
   then b₁ f v k n e = put-other b₁ f v k n ∙ e
 
-  pub scheduled-tidy : (m v : ℕ) → 0 < m → TidyBlock c (queuedBlock (scheduledBlock i m v b))
+  pub scheduled-clean : (m v : ℕ) → 0 < m → CleanBlock c (queuedBlock (scheduledBlock i m v b))
   unfolding queuedBlock scheduledBlock
-  scheduled-tidy m v pos =
+  scheduled-clean m v pos =
       let l : i < 16 = omega (arith, t .few) in
       let b₁ = putIn b (9 + i * 6) v in
       let b₂ = putIn b₁ (10 + i * 6) (m % 4294967296) in
@@ -149,13 +149,13 @@ module _ (c : ℕ) (b : Block) (i : ℕ) (within : i < c) (t : TidyBlock c b) wh
       absurd (let z : ⊥ = omega (arith, high, low, e) in z))
       (λ z. let one = put-same b₃ 7 1 in absurd (let y : ⊥ = omega (arith, one, z) in y))
 
-  pub unmarked-tidy : TidyBlock c (unmarkedBlock i b)
+  pub unmarked-clean : CleanBlock c (unmarkedBlock i b)
   unfolding unmarkedBlock
-  unmarked-tidy = store-loose c b (128 + i) 0 (loose-high (128 + i) (omega arith)) t
+  unmarked-clean = store-loose c b (128 + i) 0 (loose-high (128 + i) (omega arith)) t
 
-  pub made-tidy : TidyBlock c (madeBlock i b)
+  pub made-clean : CleanBlock c (madeBlock i b)
   unfolding madeBlock
-  made-tidy =
+  made-clean =
       let b₁ = putIn b (8 + i * 6) (b (9 + i * 6)) in
       let b₂ = putIn b₁ (9 + i * 6) 0 in
       let b₃ = putIn b₂ (10 + i * 6) 0 in
@@ -172,10 +172,10 @@ module _ (c : ℕ) (b : Block) (i : ℕ) (within : i < c) (t : TidyBlock c b) wh
       (one-variable-changed c b b₄ i within t same idles
       (quiet-still c b b₄ i within t same idles (apart 7 (λ p q. omega arith)) (λ z. omega (arith, low, high))))
 
-  pub due-tidy : (m : ℕ) → TidyBlock c (dueBlock i m b)
+  pub due-clean : (m : ℕ) → CleanBlock c (dueBlock i m b)
   unfolding dueBlock
-  due-tidy m = go (eqb (b (10 + i * 6) + b (11 + i * 6) * 4294967296) m)
+  due-clean m = go (eqb (b (10 + i * 6) + b (11 + i * 6) * 4294967296) m)
     where
-      go : (x : Bool) → TidyBlock c (cond x (madeBlock i b) (unmarkedBlock i b))
-      go true = made-tidy
-      go false = unmarked-tidy
+      go : (x : Bool) → CleanBlock c (cond x (madeBlock i b) (unmarkedBlock i b))
+      go true = made-clean
+      go false = unmarked-clean

@@ -21,8 +21,8 @@ use Rattle.engine_blocks.specs.Changes.{Changes, putIn}
 use Rattle.engine_blocks.proofs.InBlocks.{same-outside, same-triggers}
 use Rattle.engine_blocks.proofs.RowChanges.{row-of, with-row-same, with-row-other, rows-in-block, environment-stays}
 use Rattle.engine_blocks.proofs.Staying.{outside-then, triggers-then}
-use Rattle.engine_clean.specs.Tidy.{Tidy}
-use Rattle.engine_clean.proofs.Whole.{slot-keeps-tidy, working-slot}
+use Rattle.engine_clean.specs.Clean.{Clean}
+use Rattle.engine_clean.proofs.Whole.{slot-keeps-clean, working-slot}
 use Rattle.engine_evaluate.specs.Bound.{bindingsOf}
 use Rattle.engine_children.specs.declared.rows.Parent.{Parent}
 use Rattle.engine_children.specs.NewRow.{MayDivide, ParentIs, Reaches}
@@ -31,7 +31,7 @@ use Rattle.engine_fill.specs.Filling.{MayFillChild, fieldOf}
 use Rattle.engine_fill.specs.declared.field.Field.{Field}
 use Rattle.engine_fill.specs.Field.{FieldIs}
 use Rattle.engine_fill.specs.Row.{MayFillRow, workingRow, RowFilled, childWorking, ChildFilled}
-use Rattle.engine_fill.proofs.TidyFilled.{in-use, filled-slot}
+use Rattle.engine_fill.proofs.CleanFilled.{in-use, filled-slot}
 use Rattle.words.specs.ForkBits.{forkBits}
 
 -- The kept row with its working words filled in is the row of the pass.
@@ -124,12 +124,12 @@ module _ {t : List ℕ} (m₀ : List ℕ) {p s : ℕ} {f : Field} (M : MayFillCh
         unfolding storeOf withSlot
         environment-same k = environment-stays (R .inBlock) (M .slot) k ∙ ap (λ (z : Store). z .environment) (C .store k)
 
-        stays-tidy : (k : ℕ) → Tidy k m₀ → Tidy k m₂
-        stays-tidy k T =
-            let T₁ : Tidy k m₁ =
-            slot-keeps-tidy (C .inBlock) (M .parent)
+        stays-clean : (k : ℕ) → Clean k m₀ → Clean k m₂
+        stays-clean k T =
+            let T₁ : Clean k m₁ =
+            slot-keeps-clean (C .inBlock) (M .parent)
             (working-slot (block m₀ p) 106 (n + 1) (omega arith) (in-use m₀ p (M .parent) (M .live-parent)) (T .slots p (M .parent))) T in
-            slot-keeps-tidy (R .inBlock) (M .slot)
+            slot-keeps-clean (R .inBlock) (M .slot)
             (filled-slot (block m₁ s) (block m₂ s) (λ j h. R .kept j (λ x y. omega arith))
             (in-use m₁ s (M .slot) (ap (λ (r : Row). r .used) row-stays ∙ M .live)) (T₁ .slots s (M .slot))) T₁
 
@@ -140,5 +140,5 @@ module _ {t : List ℕ} (m₀ : List ℕ) {p s : ℕ} {f : Field} (M : MayFillCh
               environment = environment-same;
               outside = outside-then (C .outside) (same-outside (R .inBlock) (omega (arith, M .slot)));
               triggers = triggers-then (C .triggers) (same-triggers (R .inBlock) (λ j h. R .kept j (λ x y. omega arith)));
-              tidy = stays-tidy;
+              clean = stays-clean;
             }

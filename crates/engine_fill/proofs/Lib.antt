@@ -2,7 +2,7 @@ pub mod Asked
 pub mod Fetching
 pub mod Fields
 pub mod WorkingRows
-pub mod TidyFilled
+pub mod CleanFilled
 pub mod ChildFilled
 pub mod MainNames
 pub mod MainRows

@@ -21,8 +21,8 @@ use Rattle.engine_blocks.specs.Changes.{InBlock, putIn, cleared}
 use Rattle.engine_blocks.proofs.Puts.{put-other, cleared-inside, cleared-above}
 use Rattle.engine_blocks.proofs.InBlocks.{same-outside, same-triggers}
 use Rattle.engine_blocks.proofs.RowChanges.{row-of, rows-in-block, environment-stays}
-use Rattle.engine_clean.specs.Tidy.{TidySlot}
-use Rattle.engine_clean.proofs.Whole.{slot-keeps-tidy}
+use Rattle.engine_clean.specs.Clean.{CleanSlot}
+use Rattle.engine_clean.proofs.Whole.{slot-keeps-clean}
 use Rattle.engine_children.specs.declared.rows.Parent.{Parent}
 use Rattle.engine_children.specs.Naming.{NamesBound}
 use Rattle.engine_children.specs.NewRow.{keptBlock, workingBlock, Reaches}
@@ -32,7 +32,7 @@ use Rattle.engine_children.proofs.Passing.{fresh-variable}
 use Rattle.engine_fill.specs.Filling.{MayFillMain}
 use Rattle.engine_fill.specs.Row.{workingRow, RowFilled}
 use Rattle.engine_fill.specs.MainRoutine.{mainBindings, MainParent, MainIs}
-use Rattle.engine_fill.proofs.TidyFilled.{in-use, filled-slot}
+use Rattle.engine_fill.proofs.CleanFilled.{in-use, filled-slot}
 use Rattle.engine_fill.proofs.WorkingRows.{row-filled}
 use Rattle.engine_fill.proofs.ChildFilled.{working-is-filled}
 use Rattle.engine_fill.proofs.MainNames.{main-owns}
@@ -68,7 +68,7 @@ module _ {t before m after : List ℕ} {s : ℕ} (asleep : ℕ) {q : Parent} (M 
           environment = environment-stays (R .inBlock) (M .slot);
           outside = same-outside (R .inBlock) (omega (arith, M .slot));
           triggers = same-triggers (R .inBlock) (λ k h. R .kept k (λ x y. omega arith));
-          tidy = λ k T. slot-keeps-tidy (R .inBlock) (M .slot)
+          clean = λ k T. slot-keeps-clean (R .inBlock) (M .slot)
               (filled-slot (block before s) (block after s) (λ j h. R .kept j (λ x y. omega arith)) (in-use before s (M .slot) (M .live)) (T .slots s (M .slot))) T;
         }
 
@@ -92,10 +92,10 @@ module _ (b : Block) (locals : ℕ) (few : locals ≤ 16) where
   unfolding keptBlock putIn
   first-in-use e = omega arith
 
-  begun-tidy : TidySlot begun
-  begun-tidy =
+  begun-clean : CleanSlot begun
+  begun-clean =
       record {
-        tidy = rw number-word (record {
+        clean = rw number-word (record {
           few = few;
           kept = λ k h g. zero-word k h (omega arith);
           spareLow = λ j h. zero-word (12 + j * 6) (omega arith) (omega arith);
@@ -192,7 +192,7 @@ module _ {t m₀ m₁ m₂ m₃ m₄ : List ℕ} {s count bits locals size : ℕ
           environment = environment-stays whole slot;
           outside = same-outside whole (omega arith);
           triggers = same-triggers whole trigger-word;
-          tidy = λ k T. slot-keeps-tidy whole slot
+          clean = λ k T. slot-keeps-clean whole slot
               (filled-slot (block m₂ s) (block m₄ s) (λ j h. R₂ .kept j (λ x y. omega arith)) first-word
-              (subst (λ (b : Block). TidySlot b) (sym begun-block) (begun-tidy (block m₀ s) locals few))) T;
+              (subst (λ (b : Block). CleanSlot b) (sym begun-block) (begun-clean (block m₀ s) locals few))) T;
         }

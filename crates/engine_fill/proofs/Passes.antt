@@ -21,7 +21,7 @@ use Rattle.engine_blocks.specs.Tabulate.{tabulateFrom}
 use Rattle.engine_blocks.specs.Blocks.{rowsOf, environmentOf}
 use Rattle.engine_blocks.specs.Changes.{SameOutside, SameTriggers}
 use Rattle.engine_blocks.proofs.Staying.{outside-start, outside-then, triggers-start, triggers-then}
-use Rattle.engine_clean.specs.Tidy.{Tidy}
+use Rattle.engine_clean.specs.Clean.{Clean}
 use Rattle.engine_fill.specs.Filling.{orderOf, portsOf, MayFill, fills-main, fills-child, Fillable, fillable-next, FillsRows, MayFillAll}
 use Rattle.engine_fill.specs.Row.{ChildFilled}
 use Rattle.engine_fill.specs.MainRoutine.{MainIs}
@@ -38,14 +38,14 @@ slot-main {t} {before} {after} {level} {p} {s} e M =
       environment = M .environment;
       outside = M .outside;
       triggers = M .triggers;
-      tidy = M .tidy;
+      clean = M .clean;
     }
 
 pub slot-child : {t before after : List ℕ} (level : ℕ) {p s : ℕ} → (level ≡ 0 → ⊥) → ChildFilled t before p s after → SlotFilled t before level p s after
 unfolding filledAt
 slot-child zero n C = absurd (n refl)
 slot-child (suc level) n C =
-    record { rows = λ environment h. C .rows environment; environment = C .environment; outside = C .outside; triggers = C .triggers; tidy = C .tidy }
+    record { rows = λ environment h. C .rows environment; environment = C .environment; outside = C .outside; triggers = C .triggers; clean = C .clean }
 
 -- ── the slots seen last ───────────────────────────────────────────────────────────────────────────
 abbrev pub latestIn : List ℕ → ℕ → ℕ
@@ -90,7 +90,7 @@ pub record Passing (t before m latest : List ℕ) (k : ℕ) : Type 0 where
   pub environment : (k : ℕ) → environmentOf k m ≡ environmentOf k before
   pub outside : SameOutside before m
   pub triggers : SameTriggers before m
-  pub tidy : (k : ℕ) → Tidy k before → Tidy k m
+  pub clean : (k : ℕ) → Clean k before → Clean k m
 
 module _ {t before : List ℕ} (M : MayFillAll t before) where
   pub pass-start : Passing t before before (replicate 12 64) 0
@@ -106,7 +106,7 @@ module _ {t before : List ℕ} (M : MayFillAll t before) where
         environment = λ k. refl;
         outside = outside-start before;
         triggers = triggers-start before;
-        tidy = λ k T. T;
+        clean = λ k T. T;
       }
 
   module _ {m latest : List ℕ} {k : ℕ} (P : Passing t before m latest k) where
@@ -165,11 +165,11 @@ module _ {t before : List ℕ} (M : MayFillAll t before) where
               environment = λ k. S .environment k ∙ P .environment k;
               outside = outside-then (P .outside) (S .outside);
               triggers = triggers-then (P .triggers) (S .triggers);
-              tidy = λ k T. S .tidy k (P .tidy k T);
+              clean = λ k T. S .clean k (P .clean k T);
             })
 
     pub pass-end : getD before 3 0 ≤ k → FillsRows before (filledRows (tableListing t) (rowsOf before) (portsOf t before) (λ level. 64) (orderOf before)) m
     unfolding tabulateFrom filledRows
     pass-end none =
         let z : getD before 3 0 - k ≡ 0 = omega (arith, none) in
-        record { rows = rw z at (P .rows); environment = P .environment; outside = P .outside; triggers = P .triggers; tidy = P .tidy }
+        record { rows = rw z at (P .rows); environment = P .environment; outside = P .outside; triggers = P .triggers; clean = P .clean }

@@ -17,7 +17,7 @@ use Rattle.engine_rows.specs.Records.{noCall, seen, callsAt, filledAt}
 use Rattle.engine_blocks.specs.Tabulate.{tabulateFrom}
 use Rattle.engine_blocks.specs.Blocks.{rowsOf, environmentOf}
 use Rattle.engine_blocks.specs.Changes.{SameOutside, SameTriggers}
-use Rattle.engine_clean.specs.Tidy.{Tidy}
+use Rattle.engine_clean.specs.Clean.{Clean}
 use Rattle.engine_children.specs.NewRow.{MayDivide}
 
 -- The slots of the live routines in walking order.
@@ -72,7 +72,7 @@ pub record FillsRows (before : List ℕ) (filled : Rows) (after : List ℕ) : Ty
   pub environment : (k : ℕ) → environmentOf k after ≡ environmentOf k before
   pub outside : SameOutside before after
   pub triggers : SameTriggers before after
-  pub tidy : (k : ℕ) → Tidy k before → Tidy k after
+  pub clean : (k : ℕ) → Clean k before → Clean k after
 
 pub record MayFillAll (t m : List ℕ) : Type 0 where
   pub size : 12288 ≤ length m

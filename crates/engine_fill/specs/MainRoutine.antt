@@ -12,7 +12,7 @@ use Rattle.engine_rows.specs.Engine.{childBindings}
 use Rattle.engine_rows.specs.Beginning.{environmentBindings}
 use Rattle.engine_blocks.specs.Blocks.{rowsOf, environmentOf}
 use Rattle.engine_blocks.specs.Changes.{SameOutside, SameTriggers}
-use Rattle.engine_clean.specs.Tidy.{Tidy}
+use Rattle.engine_clean.specs.Clean.{Clean}
 use Rattle.engine_children.specs.declared.rows.Parent.{Parent}
 
 -- The owners of main's names, if it sits in slot s.
@@ -35,4 +35,4 @@ pub record MainIs (t before : List ℕ) (s : ℕ) (row : List Variable → Row) 
   pub environment : (k : ℕ) → environmentOf k after ≡ environmentOf k before
   pub outside : SameOutside before after
   pub triggers : SameTriggers before after
-  pub tidy : (k : ℕ) → Tidy k before → Tidy k after
+  pub clean : (k : ℕ) → Clean k before → Clean k after

@@ -10,7 +10,7 @@ use Rattle.engine_rows.specs.Rows.{Rows}
 use Rattle.engine_rows.specs.Records.{filledAt}
 use Rattle.engine_blocks.specs.Blocks.{rowsOf, environmentOf}
 use Rattle.engine_blocks.specs.Changes.{SameOutside, SameTriggers}
-use Rattle.engine_clean.specs.Tidy.{Tidy}
+use Rattle.engine_clean.specs.Clean.{Clean}
 use Rattle.engine_fill.specs.Filling.{MayFillMain, MayFillChild}
 
 pub record MayFillSlot (t : List ℕ) (rows : Rows) (level p s : ℕ) : Type 0 where
@@ -23,7 +23,7 @@ pub record SlotFilled (t before : List ℕ) (level p s : ℕ) (after : List ℕ)
   pub environment : (k : ℕ) → environmentOf k after ≡ environmentOf k before
   pub outside : SameOutside before after
   pub triggers : SameTriggers before after
-  pub tidy : (k : ℕ) → Tidy k before → Tidy k after
+  pub clean : (k : ℕ) → Clean k before → Clean k after
 
 -- The slot seen last one level up, in the list by levels; main's place has 64, the environment's block.
 abbrev pub aboveIn : List ℕ → ℕ → ℕ

@@ -15,7 +15,7 @@ use Rattle.engine_rows.specs.Engine.{childBindings, callerAt}
 use Rattle.engine_rows.specs.Records.{isWait, callsAt, filledRow}
 use Rattle.engine_blocks.specs.Blocks.{block, rowsOf, environmentOf}
 use Rattle.engine_blocks.specs.Changes.{InBlock, SameOutside, SameTriggers}
-use Rattle.engine_clean.specs.Tidy.{Tidy}
+use Rattle.engine_clean.specs.Clean.{Clean}
 use Rattle.engine_evaluate.specs.Bound.{bindingsOf}
 use Rattle.engine_children.specs.declared.rows.Parent.{Parent}
 use Rattle.engine_children.specs.NewRow.{Reaches}
@@ -71,4 +71,4 @@ pub record ChildFilled (t before : List ℕ) (p s : ℕ) (after : List ℕ) : Ty
   pub environment : (k : ℕ) → environmentOf k after ≡ environmentOf k before
   pub outside : SameOutside before after
   pub triggers : SameTriggers before after
-  pub tidy : (k : ℕ) → Tidy k before → Tidy k after
+  pub clean : (k : ℕ) → Clean k before → Clean k after

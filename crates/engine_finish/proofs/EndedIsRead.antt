@@ -33,7 +33,7 @@ use Rattle.engine_blocks.specs.Tabulate.{tabulateFrom}
 use Rattle.engine_blocks.specs.Blocks.{Block, block, nonzero, variablesIn, rowAt, rowsOf, environmentOf}
 use Rattle.engine_blocks.proofs.InBlocks.{block-word}
 use Rattle.engine_blocks.proofs.RowChanges.{row-of}
-use Rattle.engine_clean.specs.Tidy.{TidySlot, TidyEnvironment, Tidy}
+use Rattle.engine_clean.specs.Clean.{CleanSlot, CleanEnvironment, Clean}
 use Rattle.engine_finish.specs.Ended.{idleBlock, restingBlock, Ended}
 use Rattle.engine_finish.proofs.RestingBlocks.{recordOf, record-words, environment-words, free-words}
 use Rattle.engine_finish.proofs.KeptRecords.{rowRecord, records-length, record-at, walking-order-unmarked, slot-in, PlaceOf, place-of, distinct-places}
@@ -64,7 +64,7 @@ zero-of zero e = refl
 zero-of (suc n) e = cc
 
 -- A free slot's own variables are none, so that unmarking them changes nothing.
-own-unmarked : (b : Block) → TidySlot b → ownIf (nonzero (b 0)) (unmarked (variablesIn b (b 4))) (variablesIn b (b 4)) ≡ unmarked (variablesIn b (b 4))
+own-unmarked : (b : Block) → CleanSlot b → ownIf (nonzero (b 0)) (unmarked (variablesIn b (b 4))) (variablesIn b (b 4)) ≡ unmarked (variablesIn b (b 4))
 unfolding ownIf
 own-unmarked b t = go (nonzero (b 0)) refl
   where
@@ -77,18 +77,18 @@ own-unmarked b t = go (nonzero (b 0)) refl
         let z : b 4 ≡ 0 = t .free (zero-of (b 0) e) 4 (omega arith) in
         ap (variablesIn b) z ∙ (sym none ∙ ap (λ (c : ℕ). unmarked (variablesIn b c)) (sym z))
 
-module _ (before : List ℕ) (n : ℕ) (tidy : Tidy n before) where
+module _ (before : List ℕ) (n : ℕ) (clean : Clean n before) where
   row-record : (s : ℕ) → s < 64 → rowRecord (unmarkedRows (rowsOf before) s) ≡ recordOf (block before s)
   unfolding rowRecord unmarkedRows withOwn recordOf rowAt
   row-record s h =
       rw (row-of before s h)
-      (ap (λ (xs : List Variable). record { level = block before s 1; child = block before s 2; place = block before s 3; own = xs }) (own-unmarked (block before s) (tidy .slots s h)))
+      (ap (λ (xs : List Variable). record { level = block before s 1; child = block before s 2; place = block before s 3; own = xs }) (own-unmarked (block before s) (clean .slots s h)))
 
   used-row : (s : ℕ) → s < 64 → nonzero (block before s 0) ≡ true → (unmarkedRows (rowsOf before) s) .used ≡ true
   unfolding unmarkedRows withOwn rowAt
   used-row s h e = rw (row-of before s h) e
 
-module _ (listing : Listing) (L : WithinLimits listing) (n : ℕ) (before after : List ℕ) (small : Words32 before) (tidy : Tidy n before) (s : State)
+module _ (listing : Listing) (L : WithinLimits listing) (n : ℕ) (before after : List ℕ) (small : Words32 before) (clean : Clean n before) (s : State)
     (H : rows-hold.Holds false listing (unmarkedRows (rowsOf before)) (unmarked (environmentOf n before)) s) (I : IsState listing s)
     (E : Ended (s .now) (walkingOrder (rowsOf before)) before after) where
   abbrev σ : Rows
@@ -133,7 +133,7 @@ module _ (listing : Listing) (L : WithinLimits listing) (n : ℕ) (before after 
       go : (x : Bool) → nonzero (block before q 0) ≡ x → block before q 0 ≡ 0
       go true e =
           let p : PlaceOf q order =
-          place-of order (subst (λ (z : List ℕ). In q z) (sym (rows-hold.holds-order H) ∙ same-order) (H .whole q (used-row before n tidy q l e))) in
+          place-of order (subst (λ (z : List ℕ). In q z) (sym (rows-hold.holds-order H) ∙ same-order) (H .whole q (used-row before n clean q l e))) in
           absurd (none (p .place) (omega (arith, many, p .within)) (p .is))
       go false e = zero-of (block before q 0) e
 
@@ -143,15 +143,15 @@ module _ (listing : Listing) (L : WithinLimits listing) (n : ℕ) (before after 
       let h : q < 64 = slot-small k l in
       first-block after q j (omega (arith, h)) g
       ∙ (ap (λ (b : Block). b j) (E .used k l)
-      ∙ (record-words (block before q) (suc k) (tidy .slots q h .tidy) (narrow-block before small q) j g
-      ∙ ap (λ (x : Record). getD (recordWords (suc k) x) j 0) (sym (record-at (left .children) σ order kept k l ∙ row-record before n tidy q h))))
+      ∙ (record-words (block before q) (suc k) (clean .slots q h .clean) (narrow-block before small q) j g
+      ∙ ap (λ (x : Record). getD (recordWords (suc k) x) j 0) (sym (record-at (left .children) σ order kept k l ∙ row-record before n clean q h))))
 
   outer-words : Reads (take 12288 after) environmentBlock 184 (environmentWords (s .environment))
   unfolding environmentOf
   outer-words j g =
       first-block after 64 j (omega arith) g
       ∙ (ap (λ (b : Block). b j) (E .outer)
-      ∙ (environment-words (block before 64) n (tidy .environment) (narrow-block before small 64) j g
+      ∙ (environment-words (block before 64) n (clean .environment) (narrow-block before small 64) j g
       ∙ ap (λ (e : List Variable). getD (environmentWords e) j 0) (H .environment-is)))
 
   ended-holds : Holds (take 12288 after) order (s .now) (s .environment) xs
@@ -163,7 +163,7 @@ module _ (listing : Listing) (L : WithinLimits listing) (n : ℕ) (before after 
         free = λ q l none j g.
             first-block after q j (omega arith) g
             ∙ (ap (λ (b : Block). b j) (E .free q l (λ k m e. none k (omega (arith, many, m)) e))
-            ∙ (free-words (block before q) (tidy .slots q l) (is-free q l none) j g ∙ sym (nil-word j)));
+            ∙ (free-words (block before q) (clean .slots q l) (is-free q l none) j g ∙ sym (nil-word j)));
         outer = outer-words;
       }
     where

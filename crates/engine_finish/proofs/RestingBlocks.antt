@@ -1,4 +1,4 @@
--- A tidy block without working words holds the words that the layout has for a routine, for a free slot, for the environment.
+-- A clean block without working words holds the words that the layout has for a routine, for a free slot, for the environment.
 -- Letters: b a block, j an offset.
 use mathlib.Core.Path.{_≡_, refl, sym, ap, _∙_}
 use mathlib.Core.Bool.{cond, _&&_}
@@ -15,7 +15,7 @@ use Rattle.machine.specs.Layout.{variablesWords, recordWords, environmentWords}
 use Rattle.engine_blocks.specs.Blocks.{Block, variablesIn}
 use Rattle.engine_blocks.specs.Changes.{putIn, cleared}
 use Rattle.engine_blocks.proofs.Puts.{put-same, put-other, cleared-inside, cleared-below}
-use Rattle.engine_clean.specs.Tidy.{TidyBlock, TidySlot, TidyEnvironment}
+use Rattle.engine_clean.specs.Clean.{CleanBlock, CleanSlot, CleanEnvironment}
 use Rattle.engine_finish.specs.Ended.{idleBlock, restingBlock}
 use Rattle.engine_finish.proofs.VariableWords.{unmarked-length, resting-words}
 
@@ -55,7 +55,7 @@ resting-later : (b : Block) (p k : ℕ) → 0 < k → restingBlock p b k ≡ idl
 unfolding restingBlock
 resting-later b p k h = idle-same (putIn b 0 p) b k (put-other b 0 p k (λ e. omega arith))
 
-pub record-words : (b : Block) (p : ℕ) → TidyBlock (b 4) b → ((k : ℕ) → b k < 4294967296) → (j : ℕ) → j < 184 → restingBlock p b j ≡ getD (recordWords p (recordOf b)) j 0
+pub record-words : (b : Block) (p : ℕ) → CleanBlock (b 4) b → ((k : ℕ) → b k < 4294967296) → (j : ℕ) → j < 184 → restingBlock p b j ≡ getD (recordWords p (recordOf b)) j 0
 unfolding recordWords recordOf
 record-words b p t narrow zero h = resting-first b p
 record-words b p t narrow (suc zero) h = resting-low b p 1 (omega arith) (λ e. omega arith) (λ e. omega arith)
@@ -85,7 +85,7 @@ after-eight : (xs : List Variable) (q : ℕ) → getD (environmentWords xs) (8 +
 unfolding environmentWords
 after-eight xs q = let e : 8 + q ≡ suc (suc (suc (suc (suc (suc (suc (suc q))))))) = omega arith in rw e
 
-pub environment-words : (b : Block) (n : ℕ) → TidyEnvironment n b → ((k : ℕ) → b k < 4294967296) → (j : ℕ) → j < 184 →
+pub environment-words : (b : Block) (n : ℕ) → CleanEnvironment n b → ((k : ℕ) → b k < 4294967296) → (j : ℕ) → j < 184 →
     idleBlock b j ≡ getD (environmentWords (unmarked (variablesIn b n))) j 0
 environment-words b n t narrow j h = go (decLt j 8)
   where
@@ -98,10 +98,10 @@ environment-words b n t narrow j h = go (decLt j 8)
     go (no g) =
         let q : ℕ = j - 8 in
         let e : j ≡ 8 + q = omega (arith, g) in
-        ap (idleBlock b) e ∙ (resting-words b n (t .tidy) narrow q (omega (arith, g)) ∙ (sym (after-eight (unmarked (variablesIn b n)) q)
+        ap (idleBlock b) e ∙ (resting-words b n (t .clean) narrow q (omega (arith, g)) ∙ (sym (after-eight (unmarked (variablesIn b n)) q)
         ∙ ap (λ (z : ℕ). getD (environmentWords (unmarked (variablesIn b n))) z 0) (sym e)))
 
-pub free-words : (b : Block) → TidySlot b → b 0 ≡ 0 → (j : ℕ) → j < 184 → idleBlock b j ≡ 0
+pub free-words : (b : Block) → CleanSlot b → b 0 ≡ 0 → (j : ℕ) → j < 184 → idleBlock b j ≡ 0
 free-words b t e j h = go (decLt j 104)
   where
     go : Dec (j < 104) → idleBlock b j ≡ 0

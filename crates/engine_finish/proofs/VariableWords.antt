@@ -1,4 +1,4 @@
--- The words of a tidy block's variables are those that the layout has for the variables without their marks.
+-- The words of a clean block's variables are those that the layout has for the variables without their marks.
 -- Letters: b a block, c the number of its variables, i a variable, f one of its six words, q a word counted from the first variable.
 use mathlib.Core.Path.{_≡_, refl, sym, ap, _∙_}
 use mathlib.Core.List.{List, [], _∷_}
@@ -17,7 +17,7 @@ use Rattle.engine_blocks.specs.Changes.{cleared}
 use Rattle.engine_blocks.proofs.Tabulated.{getD-tabulate, length-tabulate}
 use Rattle.engine_blocks.proofs.Puts.{put-other, cleared-inside, cleared-below}
 use Rattle.engine_variables.proofs.Readings.{moment-of}
-use Rattle.engine_clean.specs.Tidy.{TidyBlock}
+use Rattle.engine_clean.specs.Clean.{CleanBlock}
 use Rattle.engine_finish.specs.Ended.{idleBlock}
 
 -- ── the words of a list of variables, by variable and word ────────────────────────────────────────
@@ -71,7 +71,7 @@ unfolding waitingValue waitingOf
 waiting-value zero v h = sym (h refl)
 waiting-value (suc d) v h = refl
 
-module _ (b : Block) (c : ℕ) (t : TidyBlock c b) (narrow : (k : ℕ) → b k < 4294967296) where
+module _ (b : Block) (c : ℕ) (t : CleanBlock c b) (narrow : (k : ℕ) → b k < 4294967296) where
   variable-word : (i f : ℕ) → i < 16 → f < 6 → b (8 + (f + i * 6)) ≡ wordOf (unmarkedOf (variableIn b i)) f
   unfolding wordOf unmarkedOf variableIn
   variable-word i zero h l = let e : 8 + (0 + i * 6) ≡ 8 + i * 6 = omega arith in rw e

@@ -6,7 +6,7 @@ ghost use Rattle.machine.specs.Due.{dueAt};
 ghost use Rattle.engine_rows.specs.Order.{walkingOrder};
 ghost use Rattle.engine_rows.specs.Beginning.{nextDueOfRows};
 ghost use Rattle.engine_blocks.specs.Blocks.{rowsOf, environmentOf};
-ghost use Rattle.engine_clean.specs.Tidy.{Tidy};
+ghost use Rattle.engine_clean.specs.Clean.{Clean};
 ghost use Rattle.engine_finish.specs.Ended.{stored, Ended};
 use crate::order::order_slots;
 use crate::places::clear_header;
@@ -34,7 +34,7 @@ fn store_header(m: &mut [u32], present: Moment, count: u32)
 // At the present moment: header, order list and places written, working words cleared. Gives the next moment due (0: none), over the `size` environment
 // variables and the slots, which the pass that makes the order list finds: it looks at those blocks in which a waiting write may stand.
 pub fn finish(m: &mut [u32], present: Moment, size: usize) -> u64
-    requires { ⌜ HasMachine (now m) × (size ≤ 16) × (Tidy size (now m)) ⌝ }
+    requires { ⌜ HasMachine (now m) × (size ≤ 16) × (Clean size (now m)) ⌝ }
     ensures { λ r. ⌜ (Ended (present .0) (walkingOrder (rowsOf (now (m .entry)))) (now (m .entry)) (now (m .exit)))
         × (dueAt r ≡ nextDueOfRows (rowsOf (now (m .entry))) (environmentOf size (now (m .entry)))) ⌝ }
 {

@@ -16,8 +16,8 @@ use Rattle.engine_blocks.specs.Changes.{Changes, putIn}
 use Rattle.engine_variables.specs.Bindings.{variablesBeside}
 use Rattle.table.specs.Entry.{ChildStands}
 use Rattle.table.specs.Decode.{headAfter}
-use Rattle.engine_clean.specs.Tidy.{Tidy}
-use Rattle.engine_clean.proofs.Whole.{slot-keeps-tidy, working-slot}
+use Rattle.engine_clean.specs.Clean.{Clean}
+use Rattle.engine_clean.proofs.Whole.{slot-keeps-clean, working-slot}
 use Rattle.engine_evaluate.specs.Bound.{numberOf, Bound, bindingsOf}
 use Rattle.engine_children.specs.NewRow.{MayDivide}
 use Rattle.engine_children.specs.Fork.{MayFork}
@@ -26,11 +26,11 @@ use Rattle.engine_steps.proofs.Stores.{rows-changed, environment-kept, row-chan
 use Rattle.engine_steps.proofs.Joining.{row-elsewhere}
 use Rattle.engine_fork.specs.Asked.{MayForkStep}
 
--- The parent's block with its children counted is tidy.
-pub counted-tidy : {k : ℕ} {a b : List ℕ} (me n : ℕ) {change : Store → Store} → Changes me a b (putIn (block a me) 106 n) change
-    → me < 64 → (rowsOf a me) .used ≡ true → Tidy k a → Tidy k b
-counted-tidy {a = a} me n q slot live tidy =
-    slot-keeps-tidy (q .inBlock) slot (working-slot (block a me) 106 n (omega arith) (live-word a me slot live) (tidy .slots me slot)) tidy
+-- The parent's block with its children counted is clean.
+pub counted-clean : {k : ℕ} {a b : List ℕ} (me n : ℕ) {change : Store → Store} → Changes me a b (putIn (block a me) 106 n) change
+    → me < 64 → (rowsOf a me) .used ≡ true → Clean k a → Clean k b
+counted-clean {a = a} me n q slot live clean =
+    slot-keeps-clean (q .inBlock) slot (working-slot (block a me) 106 n (omega arith) (live-word a me slot live) (clean .slots me slot)) clean
 
 module _ {me : ℕ} {a b : List ℕ} {c : Block} (n : ℕ) (q : Changes me a b c (withSlot me (λ r. withChildren r n))) where
   -- A field that the number of children does not touch.
@@ -84,8 +84,8 @@ module _ {me : ℕ} {a b : List ℕ} {c : Block} (n : ℕ) (q : Changes me a b c
   used-same = ap (λ (rows : Rows). usedBelow rows 64) (rows-changed (λ r. withChildren r n) q) ∙ used-keep (rowsOf a) me (withChildren (rowsOf a me) n) 64 refl
 
   pub may-fork : {t : List ℕ} {cells : ℕ} (u : Running) → u .me ≡ me → (may : MayForkStep t a u cells n) → (rowsOf a me) .level ≤ 9 → u .live + n ≤ 64
-      → Tidy (may .variables) b → MayFork t b me cells n
-  may-fork {t} {cells} u here may level room tidy =
+      → Clean (may .variables) b → MayFork t b me cells n
+  may-fork {t} {cells} u here may level room clean =
       record {
         size = let e = q .outside .size in let h = may .pops .size in omega arith;
         table = may .table;
@@ -95,5 +95,5 @@ module _ {me : ℕ} {a b : List ℕ} {c : Block} (n : ℕ) (q : Changes me a b c
         divides = divides-kept (rw here at (may .divides (rw here level)));
         room = let e = used-same in let f = may .counted in omega arith;
         variables = may .variables;
-        tidy = tidy;
+        clean = clean;
       }

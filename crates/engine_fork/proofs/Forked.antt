@@ -17,7 +17,7 @@ use Rattle.engine_rows.specs.Engine.{RowsRunner, nextReady, orHalt, rowsWithNew
 use Rattle.engine_blocks.specs.Blocks.{block, rowsOf, environmentOf}
 use Rattle.engine_blocks.specs.Store.{storeOf, withSlot}
 use Rattle.engine_blocks.specs.Changes.{Changes, putIn}
-use Rattle.engine_clean.specs.Tidy.{Tidy}
+use Rattle.engine_clean.specs.Clean.{Clean}
 use Rattle.engine_ready.specs.Slots.{slotsOf}
 use Rattle.engine_evaluate.specs.Bound.{Bound, bindingsOf}
 use Rattle.engine_children.specs.declared.fork.NewSlots.{NewSlots}
@@ -30,7 +30,7 @@ use Rattle.engine_steps.specs.Asked.{MayPop, Slots}
 use Rattle.engine_steps.proofs.Stores.{rows-changed, environment-kept, change-stays, stays-then, stays-start}
 use Rattle.engine_fork.specs.Asked.{MayForkStep}
 use Rattle.engine_fork.proofs.NewSlots.{count-calls, new-small, new-sleepers, slots-each, slots-join}
-use Rattle.engine_fork.proofs.Counted.{field-kept, bound-kept, counted-tidy}
+use Rattle.engine_fork.proofs.Counted.{field-kept, bound-kept, counted-clean}
 
 module _ (t a : List ℕ) (u : Running) (cells n moment : ℕ) where
   -- 14: "live routines plus new children at most 64?"
@@ -40,7 +40,7 @@ module _ (t a : List ℕ) (u : Running) (cells n moment : ℕ) where
       record {
         outcome = λ k triggers reading go left. rw (count-calls t n cells, lt-leb (u .live + n) 64 over);
         stays = stays-start a;
-        tidy = λ k triggers reading live tidy. tidy;
+        clean = λ k triggers reading live clean. clean;
       }
 
   -- 15: "is this routine's level at most 9?"
@@ -51,7 +51,7 @@ module _ (t a : List ℕ) (u : Running) (cells n moment : ℕ) where
       record {
         outcome = λ k triggers reading go left. rw (count-calls t n cells, le-leb (u .live + n) 64 room, lt-leb ((rowsOf a (u .me)) .level) 9 deep);
         stays = stays-start a;
-        tidy = λ k triggers reading live tidy. tidy;
+        clean = λ k triggers reading live clean. clean;
       }
 
 module _ {t a b c : List ℕ} {u : Running} {cells n : ℕ} {new : NewSlots}
@@ -114,6 +114,6 @@ module _ {t a b c : List ℕ} {u : Running} {cells n : ℕ} {new : NewSlots}
               rw (count-calls t n cells, le-leb (u .live + n) 64 room, le-leb ((rowsOf a (u .me)) .level) 9 level)
               (rw (rows, environment, first, live, woken) at (pops .outcome k go left));
           stays = stays-then (change-stays q) (stays-then (record { outside = f .outside; triggers = f .triggers }) (pops .stays));
-          tidy = λ k triggers reading alive tidy.
-              pops .tidy k alive (f .tidy k (counted-tidy (u .me) n q (may .slot) (may .live) tidy));
+          clean = λ k triggers reading alive clean.
+              pops .clean k alive (f .clean k (counted-clean (u .me) n q (may .slot) (may .live) clean));
         }

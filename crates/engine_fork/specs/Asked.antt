@@ -12,7 +12,7 @@ use Rattle.engine_rows.specs.Rows.{Row}
 use Rattle.engine_rows.specs.Holds.{usedBelow}
 use Rattle.engine_blocks.specs.Blocks.{rowsOf}
 use Rattle.engine_blocks.specs.Store.{storeOf}
-use Rattle.engine_clean.specs.Tidy.{Tidy}
+use Rattle.engine_clean.specs.Clean.{Clean}
 use Rattle.engine_evaluate.specs.Bound.{Bound, bindingsOf}
 use Rattle.engine_children.specs.NewRow.{MayDivide}
 use Rattle.engine_steps.specs.declared.running.Running.{Running}
@@ -32,5 +32,5 @@ pub record MayForkStep (t words : List ℕ) (u : Running) (cells n : ℕ) : Type
   pub waiting : (u .ready) .count ≤ u .live
   -- the environment's variables, with which all names are bound; free slots are blank
   pub variables : ℕ
-  pub tidy : Tidy variables words
+  pub clean : Clean variables words
   pub bound : Bound (storeOf variables words) (bindingsOf words (u .me))

@@ -20,7 +20,7 @@ use Rattle.engine_rows.proofs.Steady.{TableFits}
 use Rattle.engine_rows.proofs.Holds.{Holds}
 use Rattle.engine_rows.proofs.InstantOnRows.{visitAt, instant-meets}
 use Rattle.engine_rows.proofs.StartOnRows.{main-runs, main-sound}
-use Rattle.engine_rows.proofs.Reachable.{Reached, teller, tells, reached-told}
+use Rattle.engine_rows.proofs.Reachable.{Reached, observer, tells, reached-observed}
 
 -- If the beginning of an instant leaves this state to the rest of the run, whatever that is, the state is reached.
 pub instant-reaches : (listing : Listing) (t : ℕ) (triggers : Owner → List ℕ) (T : TableFits listing) (s : State) → IsState listing s →
@@ -32,10 +32,10 @@ pub instant-reaches : (listing : Listing) (t : ℕ) (triggers : Owner → List �
     woken′ me′) →
     Reached listing t triggers T allowance σ′ environment′ ready′ live′ woken′ me′
 instant-reaches listing t triggers T s I σ environment H inputs allowance tr σ′ environment′ ready′ live′ woken′ me′ e =
-    reached-told listing t triggers T allowance _ σ′ environment′ ready′ live′ woken′ me′
+    reached-observed listing t triggers T allowance _ σ′ environment′ ready′ live′ woken′ me′
     (instant-meets listing t triggers T s I σ environment H inputs allowance
     (tells listing t triggers T allowance (visitAt listing t triggers T s σ environment H inputs allowance)) tr)
-    (e (teller listing t triggers T allowance))
+    (e (observer listing t triggers T allowance))
 
 -- Main, newly called, in slot s.
 pub start-reaches : (listing : Listing) (T : TableFits listing) (s : ℕ) → s < 64 → (allowance : ℕ) →

@@ -18,7 +18,7 @@ use Rattle.engine_rows.proofs.Loop.{instruction-as-walk, place-is, rout
 pub use Rattle.engine_rows.specs.Reached.{Reached}
 
 module _ (listing : Listing) (now : ℕ) (triggers : Owner → List ℕ) (T : TableFits listing) where
-  -- ── the next state, told by an outcome ────────────────────────────────────────────────────────
+  -- ── the next state, observed by an outcome ────────────────────────────────────────────────────────
   -- a runner that only says where it was started
   unfoldable pub slotOwners : List ℕ → List Owner
   slotOwners [] = []
@@ -37,8 +37,8 @@ module _ (listing : Listing) (now : ℕ) (triggers : Owner → List ℕ) (T : Ta
   slots-back [] = refl
   slots-back (s ∷ ss) = ap (λ l. s ∷ l) (slots-back ss)
 
-  unfoldable pub told : Rows → List ℕ → ℕ → Rows
-  told σ ready me zero =
+  unfoldable pub observed : Rows → List ℕ → ℕ → Rows
+  observed σ ready me zero =
       record {
         used = false;
         asleep = false;
@@ -54,16 +54,16 @@ module _ (listing : Listing) (now : ℕ) (triggers : Owner → List ℕ) (T : Ta
         bindings = slotOwners ready;
         own = [];
       }
-  told σ ready me (suc n) = σ n
+  observed σ ready me (suc n) = σ n
 
-  unfoldable pub teller : ℕ → RowsRunner
-  teller left σ environment ready live woken me = ends (told σ ready me) environment (suc left) live woken
+  unfoldable pub observer : ℕ → RowsRunner
+  observer left σ environment ready live woken me = ends (observed σ ready me) environment (suc left) live woken
 
-  pub data Told (left : ℕ) : RowsResult → Type 0 where
-    told-stop : {k : ℕ} → Told left (halts k)
-    told-end : {σ : Rows} {environment : List Variable} {live woken : ℕ} → Told left (ends σ environment left live woken)
-    told-next : {σ : Rows} {environment : List Variable} {ready : List ℕ} {live woken me : ℕ} → Reached listing now triggers T left σ environment ready live woken me →
-        Told left (ends (told σ ready me) environment (suc left) live woken)
+  pub data Observed (left : ℕ) : RowsResult → Type 0 where
+    observed-stop : {k : ℕ} → Observed left (halts k)
+    observed-end : {σ : Rows} {environment : List Variable} {live woken : ℕ} → Observed left (ends σ environment left live woken)
+    observed-next : {σ : Rows} {environment : List Variable} {ready : List ℕ} {live woken me : ℕ} → Reached listing now triggers T left σ environment ready live woken me →
+        Observed left (ends (observed σ ready me) environment (suc left) live woken)
 
   -- what an end says
   unfoldable rowsIn : RowsResult → Rows
@@ -86,30 +86,30 @@ module _ (listing : Listing) (now : ℕ) (triggers : Owner → List ℕ) (T : Ta
   wokenIn (halts k) = 0
   wokenIn (ends σ environment left live woken) = woken
 
-  unfoldable untold : Rows → Rows
-  untold τ n = τ (suc n)
+  unfoldable unobserved : Rows → Rows
+  unobserved τ n = τ (suc n)
 
-  rows-back : (σ : Rows) (ready : List ℕ) (me : ℕ) → untold (told σ ready me) ≡ σ
-  unfolding told untold
+  rows-back : (σ : Rows) (ready : List ℕ) (me : ℕ) → unobserved (observed σ ready me) ≡ σ
+  unfolding observed unobserved
   rows-back σ ready me = refl
 
-  ready-back : (σ : Rows) (ready : List ℕ) (me : ℕ) → ownerSlots ((told σ ready me 0) .bindings) ≡ ready
-  unfolding told
+  ready-back : (σ : Rows) (ready : List ℕ) (me : ℕ) → ownerSlots ((observed σ ready me 0) .bindings) ≡ ready
+  unfolding observed
   ready-back σ ready me = slots-back ready
 
-  me-back : (σ : Rows) (ready : List ℕ) (me : ℕ) → (told σ ready me 0) .place ≡ me
-  unfolding told
+  me-back : (σ : Rows) (ready : List ℕ) (me : ℕ) → (observed σ ready me 0) .place ≡ me
+  unfolding observed
   me-back σ ready me = refl
 
-  pub reached-told : (left : ℕ) (r : RowsResult) (σ : Rows) (environment : List Variable) (ready : List ℕ) (live woken me : ℕ) → Told left r →
-      r ≡ teller left σ environment ready live woken me → Reached listing now triggers T left σ environment ready live woken me
-  unfolding teller rowsIn environmentIn leftIn liveIn wokenIn
-  reached-told left _ σ environment ready live woken me (told-stop {k = k}) e = let z : _≡_ {A = ℕ} 0 (suc left) = ap leftIn e in absurd (omega arith)
-  reached-told left _ σ environment ready live woken me told-end e = let z : left ≡ suc left = ap leftIn e in absurd (omega arith)
-  reached-told left _ σ environment ready live woken me (told-next {σ = σ₀} {environment = environment₀} {ready = ready₀} {live = live₀}
+  pub reached-observed : (left : ℕ) (r : RowsResult) (σ : Rows) (environment : List Variable) (ready : List ℕ) (live woken me : ℕ) → Observed left r →
+      r ≡ observer left σ environment ready live woken me → Reached listing now triggers T left σ environment ready live woken me
+  unfolding observer rowsIn environmentIn leftIn liveIn wokenIn
+  reached-observed left _ σ environment ready live woken me (observed-stop {k = k}) e = let z : _≡_ {A = ℕ} 0 (suc left) = ap leftIn e in absurd (omega arith)
+  reached-observed left _ σ environment ready live woken me observed-end e = let z : left ≡ suc left = ap leftIn e in absurd (omega arith)
+  reached-observed left _ σ environment ready live woken me (observed-next {σ = σ₀} {environment = environment₀} {ready = ready₀} {live = live₀}
       {woken = woken₀} {me = me₀} R) e =
-      let rows : told σ₀ ready₀ me₀ ≡ told σ ready me = ap rowsIn e in
-      let a : σ₀ ≡ σ = sym (rows-back σ₀ ready₀ me₀) ∙ ap untold rows ∙ rows-back σ ready me in
+      let rows : observed σ₀ ready₀ me₀ ≡ observed σ ready me = ap rowsIn e in
+      let a : σ₀ ≡ σ = sym (rows-back σ₀ ready₀ me₀) ∙ ap unobserved rows ∙ rows-back σ ready me in
       let b : ready₀ ≡ ready = sym (ready-back σ₀ ready₀ me₀) ∙ ap (λ (τ : Rows). ownerSlots ((τ 0) .bindings)) rows ∙ ready-back σ ready me in
       let c : me₀ ≡ me = sym (me-back σ₀ ready₀ me₀) ∙ ap (λ (τ : Rows). (τ 0) .place) rows ∙ me-back σ ready me in
       subst (λ x. Reached listing now triggers T left x environment ready live woken me) a (subst (λ x. Reached listing now triggers T left σ₀ x ready live woken me) (ap environmentIn e)
@@ -117,11 +117,11 @@ module _ (listing : Listing) (now : ℕ) (triggers : Owner → List ℕ) (T : Ta
       (subst (λ x. Reached listing now triggers T left σ₀ environment₀ ready₀ live₀ x me) (ap wokenIn e)
       (subst (λ x. Reached listing now triggers T left σ₀ environment₀ ready₀ live₀ woken₀ x) c R)))))
 
-  pub tells : (left : ℕ) (whole : Result Turn) → Goal listing now triggers 4294967296 T left whole (Told left) (teller left)
-  unfolding teller
+  pub tells : (left : ℕ) (whole : Result Turn) → Goal listing now triggers 4294967296 T left whole (Observed left) (observer left)
+  unfolding observer
   tells left whole =
       record {
-        deep = λ σ environment q l woken f fs R S. told-next (record {
+        deep = λ σ environment q l woken f fs R S. observed-next (record {
           frame = f;
           frames = fs;
           whole = whole;
@@ -129,8 +129,8 @@ module _ (listing : Listing) (now : ℕ) (triggers : Owner → List ℕ) (T : Ta
           sound = S;
           here = refl;
         });
-        stops = λ e. told-stop;
-        finishes = λ h. told-end;
+        stops = λ e. observed-stop;
+        finishes = λ h. observed-end;
       }
 
   -- ── every instruction keeps it ────────────────────────────────────────────────────────────────
@@ -143,24 +143,24 @@ module _ (listing : Listing) (now : ℕ) (triggers : Owner → List ℕ) (T : Ta
       go σ′ environment′ ready′ live′ woken′ me′) →
       Reached listing now triggers T left σ′ environment′ ready′ live′ woken′ me′
   step-reaches left σ σ′ environment environment′ ready ready′ live live′ woken woken′ me me′ R e =
-      reached-told left _ σ′ environment′ ready′ live′ woken′ me′ outcome (e (teller left))
+      reached-observed left _ σ′ environment′ ready′ live′ woken′ me′ outcome (e (observer left))
     where
       mine : ℕ
       mine = ((R .frame) .self) .slot
 
-      D : Goal listing now triggers 4294967296 T left (R .whole) (Told left) (teller left)
+      D : Goal listing now triggers 4294967296 T left (R .whole) (Observed left) (observer left)
       D = tells left (R .whole)
 
-      at-mine : Told left (executeRows listing now triggers (teller left) left
+      at-mine : Observed left (executeRows listing now triggers (observer left) left
           (instructionAt listing (((R .frame) .self) .routine) (((R .frame) .self) .place)) σ environment ready live woken mine)
       at-mine = instruction-as-walk listing now triggers 4294967296 T left (R .whole) D σ environment ready live woken (R .frame) (R .frames)
           (R .runs) (R .sound) _ refl
 
-      outcome : Told left (executeRows listing now triggers (teller left) left (instructionAt listing ((σ me) .routine) ((σ me) .place)) σ environment
+      outcome : Observed left (executeRows listing now triggers (observer left) left (instructionAt listing ((σ me) .routine) ((σ me) .place)) σ environment
           ready live woken me)
-      outcome = subst (λ z. Told left (executeRows listing now triggers (teller left) left (instructionAt listing ((σ z) .routine) ((σ z) .place)) σ
+      outcome = subst (λ z. Observed left (executeRows listing now triggers (observer left) left (instructionAt listing ((σ z) .routine) ((σ z) .place)) σ
           environment ready live woken z)) (sym (R .here))
-          (subst (λ z. Told left (executeRows listing now triggers (teller left) left z σ environment ready live woken mine))
+          (subst (λ z. Observed left (executeRows listing now triggers (observer left) left z σ environment ready live woken mine))
           (sym (ap₂ (instructionAt listing) (routine-is listing now triggers 4294967296 T left (R .whole) D σ environment ready live woken (R .frame)
           (R .frames) (R .runs) (R .sound))
           (place-is listing now triggers 4294967296 T left (R .whole) D σ environment ready live woken (R .frame) (R .frames) (R .runs)
@@ -173,5 +173,5 @@ module _ (listing : Listing) (now : ℕ) (triggers : Owner → List ℕ) (T : Ta
       ((go : RowsRunner) → nextReady go left σ environment ready live woken ≡ go σ′ environment′ ready′ live′ woken′ me′) →
       Reached listing now triggers T left σ′ environment′ ready′ live′ woken′ me′
   pop-reaches left σ σ′ environment environment′ ready ready′ live live′ woken woken′ me′ fs d t whole I S e =
-      reached-told left _ σ′ environment′ ready′ live′ woken′ me′
-      (idle-as-walk listing now triggers 4294967296 T left whole (tells left whole) σ environment ready live woken fs d t I S) (e (teller left))
+      reached-observed left _ σ′ environment′ ready′ live′ woken′ me′
+      (idle-as-walk listing now triggers 4294967296 T left whole (tells left whole) σ environment ready live woken fs d t I S) (e (observer left))

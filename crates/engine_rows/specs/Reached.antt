@@ -33,7 +33,7 @@ pub record Known (σ : Rows) (t : Tree) : Type 0 where
   pub all : (s : ℕ) → (σ s) .asleep ≡ true → In s (slotsOf t)
 
 module _ (listing : Listing) where
-  -- a pending forest: sleepers at a wait, parents at a fork; and new ones, if told so
+  -- a pending forest: sleepers at a wait, parents at a fork; and new ones, if observed so
   pub data Rests : Bool → Tree → Type 0 where
     rests-nil : {n : Bool} → Rests n nil
     rests-new : {x : Record} {f : Tree} → x .isNew ≡ true → Rests true f → Rests true (put x nil f)

@@ -59,7 +59,7 @@ module _ {t m : List ℕ} {u : Running} (may : MayStep t m u) where
         room = may .room;
         waiting = may .waiting;
         variables = may .variables;
-        tidy = may .tidy;
+        clean = may .clean;
         bound = may .bound;
       }
 

@@ -12,7 +12,7 @@ use Rattle.engine_rows.specs.Engine.{RowsResult, RowsRunner, nextReady, runRows
 use Rattle.engine_rows.proofs.Reachable.{Reached}
 use Rattle.engine_rows.proofs.Bounds.{reached-bounds}
 use Rattle.engine_blocks.specs.Blocks.{rowsOf, environmentOf}
-use Rattle.engine_clean.specs.Tidy.{Tidy}
+use Rattle.engine_clean.specs.Clean.{Clean}
 use Rattle.engine_ready.specs.Slots.{slotsOf}
 use Rattle.engine_ready.specs.declared.ReadyList.{ReadyList}
 use Rattle.engine_ready.proofs.Falling.{length-slots}
@@ -69,8 +69,8 @@ module _ (t : List ℕ) (moment left : ℕ) {m : List ℕ} {ready : ReadyList} {
         (running-childless (tableListing t) moment (may .triggers) (may .fits) left (rowsOf m′) (environmentOf (environmentSize (tableListing t)) m′) (slotsOf (r .running .ready))
         (r .running .live) (r .running .woken) (r .running .me) (first-reached may e))
 
-    pub first-tidy : (may : MayBeginRun t m moment left ready live) (a : Answer) → r .answer ≡ a → RunsLive m′ a (r .running) → Tidy (environmentSize (tableListing t)) m′
-    first-tidy may a e runs = x .tidy (environmentSize (tableListing t)) (subst (λ (b : Answer). RunsLive m′ b (r .running)) (sym e) runs) (may .tidy)
+    pub first-clean : (may : MayBeginRun t m moment left ready live) (a : Answer) → r .answer ≡ a → RunsLive m′ a (r .running) → Clean (environmentSize (tableListing t)) m′
+    first-clean may a e runs = x .clean (environmentSize (tableListing t)) (subst (λ (b : Answer). RunsLive m′ b (r .running)) (sym e) runs) (may .clean)
 
     -- Somebody runs.
     unfoldable pub may-run-first : MayBeginRun t m moment left ready live → r .answer ≡ Goes → MayRunOn t m′ moment left (r .running)
@@ -84,7 +84,7 @@ module _ (t : List ℕ) (moment left : ℕ) {m : List ℕ} {ready : ReadyList} {
           lists = λ s index h k. lists-stay m m′ (x .stays .triggers) s index h ∙ may .lists s index h k;
           reached = first-reached may e;
           placed = first-kept may e .placed;
-          tidy = first-tidy may Goes e (reached-bounds (tableListing t) moment (may .triggers) (may .fits) left (rowsOf m′) (environmentOf (environmentSize (tableListing t)) m′)
+          clean = first-clean may Goes e (reached-bounds (tableListing t) moment (may .triggers) (may .fits) left (rowsOf m′) (environmentOf (environmentSize (tableListing t)) m′)
               (slotsOf (r .running .ready)) (r .running .live) (r .running .woken) (r .running .me) (first-reached may e) .sits);
           few = omega (arith, may .allowed, first-kept may e .few);
         }
@@ -95,7 +95,7 @@ module _ (t : List ℕ) (moment left : ℕ) {m : List ℕ} {ready : ReadyList} {
         record {
           outcome = λ may. first-left (runRows (tableListing t) moment (may .triggers) left) Goes e ∙ y .outcome (may-run-first may e);
           stays = stays-then (x .stays) (y .stays);
-          tidy = y .tidy;
+          clean = y .clean;
         }
 
     -- Nobody is ready.
@@ -106,7 +106,7 @@ module _ (t : List ℕ) (moment left : ℕ) {m : List ℕ} {ready : ReadyList} {
         record {
           outcome = λ again. first-left (runRows (tableListing t) moment (again .triggers) left) Ends e;
           stays = x .stays;
-          tidy = λ y same. first-tidy may Ends e (omega arith);
+          clean = λ y same. first-clean may Ends e (omega arith);
         }
 
     pub first-halts : (k : ℕ) → r .answer ≡ Halts k → RunsReady t m m′ moment left ready live (Halted k)
@@ -115,5 +115,5 @@ module _ (t : List ℕ) (moment left : ℕ) {m : List ℕ} {ready : ReadyList} {
         record {
           outcome = λ again. first-left (runRows (tableListing t) moment (again .triggers) left) (Halts k) e;
           stays = x .stays;
-          tidy = λ y same. let z : _≡_ {A = ℕ} 0 1 = cc in absurd (omega arith);
+          clean = λ y same. let z : _≡_ {A = ℕ} 0 1 = cc in absurd (omega arith);
         }

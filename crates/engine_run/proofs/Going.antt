@@ -14,7 +14,7 @@ use Rattle.engine_rows.specs.Engine.{RowsResult, RowsRunner, executeRows, runRo
 use Rattle.engine_rows.proofs.Reachable.{Reached, step-reaches}
 use Rattle.engine_rows.proofs.Bounds.{reached-bounds}
 use Rattle.engine_blocks.specs.Blocks.{rowsOf, environmentOf}
-use Rattle.engine_clean.specs.Tidy.{Tidy}
+use Rattle.engine_clean.specs.Clean.{Clean}
 use Rattle.engine_ready.specs.Slots.{slotsOf}
 use Rattle.engine_triggers.proofs.Chaining.{lists-stay}
 use Rattle.engine_steps.specs.declared.running.Running.{Running}
@@ -56,7 +56,7 @@ module _ (t : List ℕ) (moment : ℕ) where
   pub record Going (m₀ : List ℕ) (allowance : ℕ) (u₀ : Running) (m : List ℕ) (left : ℕ) (u : Running) : Type 0 where
     pub together : (may : MayRunOn t m₀ moment allowance u₀) → InStep may m left u
     pub placed : Placed t (rowsOf m)
-    pub tidy : Tidy ports m
+    pub clean : Clean ports m
     pub stays : Stays m₀ m
     pub few : u .woken + left ≤ 1000001
 
@@ -65,7 +65,7 @@ module _ (t : List ℕ) (moment : ℕ) where
       record {
         together = λ again. record { reached = again .reached; runs = refl };
         placed = may .placed;
-        tidy = may .tidy;
+        clean = may .clean;
         stays = stays-start m;
         few = may .few;
       }
@@ -77,7 +77,7 @@ module _ (t : List ℕ) (moment : ℕ) where
     pub may-step-now : MayRunOn t m₀ moment allowance u₀ → {m : List ℕ} {left : ℕ} {u : Running} → Going m₀ allowance u₀ m left u → MayStep t m u
     may-step-now may {m} {left} {u} g =
         may-step t m ports moment (may .triggers) (may .fits) left u (may .table) (g .together may .reached) (still-long may g) (omega (arith, g .few))
-        (g .placed) (g .tidy)
+        (g .placed) (g .clean)
 
     read-now : (may : MayRunOn t m₀ moment allowance u₀) → {m : List ℕ} {left : ℕ} {u : Running} → Going m₀ allowance u₀ m left u →
         Reading m (u .me) ports (may .triggers)
@@ -123,9 +123,9 @@ module _ (t : List ℕ) (moment : ℕ) where
           (running-childless listing moment (may .triggers) (may .fits) left (rowsOf m′) (environmentOf ports m′) (slotsOf (r .running .ready)) (r .running .live)
           (r .running .woken) (r .running .me) (reached-next may e))
 
-      tidy-next : (may : MayRunOn t m₀ moment allowance u₀) (a : Answer) → r .answer ≡ a → RunsLive m′ a (r .running) → Tidy ports m′
-      tidy-next may a e live =
-          x .tidy ports (may .triggers) (read-now may g) (subst (λ (b : Answer). RunsLive m′ b (r .running)) (sym e) live) (g .tidy)
+      clean-next : (may : MayRunOn t m₀ moment allowance u₀) (a : Answer) → r .answer ≡ a → RunsLive m′ a (r .running) → Clean ports m′
+      clean-next may a e live =
+          x .clean ports (may .triggers) (read-now may g) (subst (λ (b : Answer). RunsLive m′ b (r .running)) (sym e) live) (g .clean)
 
       -- Somebody runs.
       pub going-on : MayRunOn t m₀ moment allowance u₀ → r .answer ≡ Goes → Going m₀ allowance u₀ m′ left (r .running)
@@ -140,7 +140,7 @@ module _ (t : List ℕ) (moment : ℕ) where
               runs = sym (whole-so again ∙ left-so again (runRows listing moment (again .triggers) left) Goes e);
             };
             placed = k .placed;
-            tidy = tidy-next may Goes e (b .sits);
+            clean = clean-next may Goes e (b .sits);
             stays = stays-then (g .stays) (x .stays);
             few = omega (arith, g .few, k .few);
           }
@@ -153,7 +153,7 @@ module _ (t : List ℕ) (moment : ℕ) where
           record {
             outcome = λ again. whole-so again ∙ left-so again (runRows listing moment (again .triggers) left) Ends e;
             stays = stays-then (g .stays) (x .stays);
-            tidy = λ y same. tidy-next may Ends e (omega arith);
+            clean = λ y same. clean-next may Ends e (omega arith);
           }
 
       -- The machine stops.
@@ -163,7 +163,7 @@ module _ (t : List ℕ) (moment : ℕ) where
           record {
             outcome = λ again. whole-so again ∙ left-so again (runRows listing moment (again .triggers) left) (Halts k) e;
             stays = stays-then (g .stays) (x .stays);
-            tidy = λ y same. let z : _≡_ {A = ℕ} 0 1 = cc in absurd (omega arith);
+            clean = λ y same. let z : _≡_ {A = ℕ} 0 1 = cc in absurd (omega arith);
           }
 
     -- No step is left.
@@ -173,5 +173,5 @@ module _ (t : List ℕ) (moment : ℕ) where
         record {
           outcome = λ again. sym (g .together again .runs) ∙ ap (λ (k : ℕ). rest (again .triggers) m k u) none;
           stays = g .stays;
-          tidy = λ y same. let z : _≡_ {A = ℕ} 0 1 = cc in absurd (omega arith);
+          clean = λ y same. let z : _≡_ {A = ℕ} 0 1 = cc in absurd (omega arith);
         }

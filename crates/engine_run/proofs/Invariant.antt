@@ -1,4 +1,4 @@
--- A state that is reached, with every routine at an instruction and tidy words, meets all that one step asks, and is read as a step is read.
+-- A state that is reached, with every routine at an instruction and clean words, meets all that one step asks, and is read as a step is read.
 -- Letters: t the table's words, w the machine's, n the number of environment variables, u the running state; the others as in scheduler's Reachable.
 use mathlib.Core.Path.{_≡_, refl, sym, ap, subst, _∙_}
 use mathlib.Core.Bool.{Bool, true, false}
@@ -22,7 +22,7 @@ use Rattle.engine_rows.proofs.Bounds.{Bounds, reached-bounds}
 use Rattle.engine_rows.proofs.RowBounds.{ready-rises}
 use Rattle.engine_blocks.specs.Blocks.{ownerAt, rowsOf, environmentOf}
 use Rattle.engine_blocks.specs.Store.{storeOf}
-use Rattle.engine_clean.specs.Tidy.{Tidy}
+use Rattle.engine_clean.specs.Clean.{Clean}
 use Rattle.engine_ready.specs.Slots.{slotsOf}
 use Rattle.engine_ready.specs.Ordered.{Ordered}
 use Rattle.engine_ready.proofs.Falling.{length-slots}
@@ -65,8 +65,8 @@ module _ (t w : List ℕ) (n moment : ℕ) (triggers : Owner → List ℕ) (T : 
   small : (r : Row) → GoesOn t r → suc (r .place) < 4294967296
   small r g = let b = bounds t table .code (r .routine) (g .routine) in let h = g .next in omega arith
 
-  pub may-step : 12288 ≤ length w → u .woken < 4294967295 → Placed t (rowsOf w) → Tidy n w → MayStep t w u
-  may-step size woken placed tidy =
+  pub may-step : 12288 ≤ length w → u .woken < 4294967295 → Placed t (rowsOf w) → Clean n w → MayStep t w u
+  may-step size woken placed clean =
       record {
         table = table;
         pops = record {
@@ -97,7 +97,7 @@ module _ (t w : List ℕ) (n moment : ℕ) (triggers : Owner → List ℕ) (T : 
             let f = live-few in-order (ready-live (tableListing t) moment triggers T left (rowsOf w) (environmentOf n w) (slotsOf (u .ready)) (u .live) (u .woken) (u .me) R) in
             let g = R .sound .used in omega arith;
         variables = n;
-        tidy = tidy;
+        clean = clean;
         bound = names-bound;
       }
 

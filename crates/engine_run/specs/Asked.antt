@@ -12,7 +12,7 @@ use Rattle.engine_blocks.specs.Blocks.{rowsOf}
 use Rattle.engine_blocks.specs.Store.{storeOf}
 use Rattle.engine_ready.specs.Ordered.{Ordered}
 use Rattle.engine_ready.specs.Slots.{slotsOf}
-use Rattle.engine_clean.specs.Tidy.{Tidy}
+use Rattle.engine_clean.specs.Clean.{Clean}
 use Rattle.engine_evaluate.specs.Bound.{Bound, bindingsOf}
 use Rattle.engine_children.specs.NewRow.{MayDivide}
 use Rattle.engine_steps.specs.declared.running.Running.{Running}
@@ -37,5 +37,5 @@ pub record MayStep (t words : List ℕ) (u : Running) : Type 0 where
   pub waiting : (u .ready) .count ≤ u .live
   -- the environment's variables, with which all names are bound; free slots are blank
   pub variables : ℕ
-  pub tidy : Tidy variables words
+  pub clean : Clean variables words
   pub bound : Bound (storeOf variables words) (bindingsOf words (u .me))

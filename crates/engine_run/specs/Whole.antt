@@ -14,7 +14,7 @@ use Rattle.engine_rows.specs.Engine.{RowsResult, halts, ends, RowsRunner, nextR
 use Rattle.engine_rows.specs.Steady.{TableFits}
 use Rattle.engine_rows.specs.Reached.{Reached}
 use Rattle.engine_blocks.specs.Blocks.{ownerAt, rowsOf, environmentOf}
-use Rattle.engine_clean.specs.Tidy.{Tidy}
+use Rattle.engine_clean.specs.Clean.{Clean}
 use Rattle.engine_ready.specs.Ordered.{Ordered}
 use Rattle.engine_ready.specs.Slots.{slotsOf}
 use Rattle.engine_ready.specs.declared.ReadyList.{ReadyList}
@@ -37,7 +37,7 @@ pub record MayRunOn (t words : List ℕ) (moment left : ℕ) (u : Running) : Typ
   pub reached : Reached (tableListing t) moment triggers fits left (rowsOf words) (environmentOf (environmentSize (tableListing t)) words) (slotsOf (u .ready))
       (u .live) (u .woken) (u .me)
   pub placed : Placed t (rowsOf words)
-  pub tidy : Tidy (environmentSize (tableListing t)) words
+  pub clean : Clean (environmentSize (tableListing t)) words
   pub few : u .woken + left ≤ 1000001
 
 -- What holds before the first that is ready goes on.
@@ -48,7 +48,7 @@ pub record MayBeginRun (t words : List ℕ) (moment left : ℕ) (ready : ReadyLi
   pub triggers : Owner → List ℕ
   pub lists : (s index : ℕ) → s ≤ 64 → index < 16 → triggersAt words s index ≡ triggers (ownerAt s index)
   pub placed : Placed t (rowsOf words)
-  pub tidy : Tidy (environmentSize (tableListing t)) words
+  pub clean : Clean (environmentSize (tableListing t)) words
   pub allowed : left ≤ 1000000
   pub order : Ordered (rowsOf words) (slotsOf ready)
   -- if this leaves a state to the rest of the run, whatever that is, the state is reached
@@ -68,7 +68,7 @@ pub record RunsOn (t before after : List ℕ) (moment left : ℕ) (u : Running) 
       runRows (tableListing t) moment (may .triggers) left (rowsOf before) (environmentOf (environmentSize (tableListing t)) before) (slotsOf (u .ready)) (u .live)
       (u .woken) (u .me) ≡ ranBy (environmentSize (tableListing t)) after r
   pub stays : Stays before after
-  pub tidy : (x : Left) → r ≡ Ended x → Tidy (environmentSize (tableListing t)) after
+  pub clean : (x : Left) → r ≡ Ended x → Clean (environmentSize (tableListing t)) after
 
 -- The same from the first that is ready.
 pub record RunsReady (t before after : List ℕ) (moment left : ℕ) (ready : ReadyList) (live : ℕ) (r : Ran) : Type 0 where
@@ -76,4 +76,4 @@ pub record RunsReady (t before after : List ℕ) (moment left : ℕ) (ready : Re
       nextReady (runRows (tableListing t) moment (may .triggers) left) left (rowsOf before) (environmentOf (environmentSize (tableListing t)) before) (slotsOf ready)
       live 0 ≡ ranBy (environmentSize (tableListing t)) after r
   pub stays : Stays before after
-  pub tidy : (x : Left) → r ≡ Ended x → Tidy (environmentSize (tableListing t)) after
+  pub clean : (x : Left) → r ≡ Ended x → Clean (environmentSize (tableListing t)) after

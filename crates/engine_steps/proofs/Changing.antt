@@ -43,7 +43,7 @@ assigns {a} {m} u v name x e binding p bound few value ready live woken me listi
           reading .lists (binding .block) (binding .index) (bound .block) (bound .index) ∙ ap triggers (bound .owner few) in
           rw (sym (value .equal n (reading .bound)), rows-named p n, environment-named p n, ready, lists, live, woken, me);
       stays = p .stays;
-      tidy = λ n triggers reading used. p .tidy n (reading .bound) (rw me at used);
+      clean = λ n triggers reading used. p .clean n (reading .bound) (rw me at used);
     }
 
 -- ── `A` ───────────────────────────────────────────────────────────────────────────────────────────
@@ -75,7 +75,7 @@ module _ {a : List ℕ} (u : Running) (name delay x present : ℕ) (d e : List P
       record {
         outcome = λ n triggers reading go left. rw (sym (after .equal n (reading .bound)), short);
         stays = stays-start a;
-        tidy = λ n triggers reading used tidy. tidy;
+        clean = λ n triggers reading used clean. clean;
       }
 
   module _ (positive : isPositive delay ≡ true) where
@@ -86,7 +86,7 @@ module _ {a : List ℕ} (u : Running) (name delay x present : ℕ) (d e : List P
         record {
           outcome = λ n triggers reading go left. rw (sym (after .equal n (reading .bound)), positive, late);
           stays = stays-start a;
-          tidy = λ n triggers reading used tidy. tidy;
+          clean = λ n triggers reading used clean. clean;
         }
 
     -- "`A|n|d|e` puts a waiting write of e on n, d milliseconds from now".
@@ -98,5 +98,5 @@ module _ {a : List ℕ} (u : Running) (name delay x present : ℕ) (d e : List P
           outcome = λ n triggers reading go left.
               rw (sym (after .equal n (reading .bound)), sym (value .equal n (reading .bound)), positive, below, rows-named p n, environment-named p n, is);
           stays = p .stays;
-          tidy = λ n triggers reading used. p .tidy n (reading .bound) used;
+          clean = λ n triggers reading used. p .clean n (reading .bound) used;
         })

@@ -20,7 +20,7 @@ use Rattle.engine_steps.specs.declared.running.Stepped.{Stepped}
 use Rattle.engine_ready.specs.declared.ReadyList.{ReadyList}
 use Rattle.engine_steps.specs.Outcome.{left-by, RunsLive, Reading, Pops, Executes}
 use Rattle.engine_steps.specs.Asked.{Slots, slots-one}
-use Rattle.engine_steps.proofs.Stores.{rows-changed, environment-kept, change-stays, stays-start, placed-tidy}
+use Rattle.engine_steps.proofs.Stores.{rows-changed, environment-kept, change-stays, stays-start, placed-clean}
 use Rattle.walk.specs.Walk.{branchPlace}
 use Rattle.walk.specs.Memory.{evaluateBy}
 
@@ -39,7 +39,7 @@ pub pops-none : (a : List ℕ) (u : Running) → (u .ready) .count ≡ 0 → Pop
 unfolding left-by nextReady
 pops-none a u e =
     let none = none-left (u .ready) e in
-    record { outcome = λ n go left. rw none; stays = stays-start a; tidy = λ n live tidy. tidy }
+    record { outcome = λ n go left. rw none; stays = stays-start a; clean = λ n live clean. clean }
 
 module _ {a m : List ℕ} {s : ℕ} (place : ℕ) (p : Changes s a m (placedBlock (block a s) place) (withSlot s (λ r. atPlace r place))) (small : s < 64) where
   -- Slot s is the first.
@@ -51,7 +51,7 @@ module _ {a m : List ℕ} {s : ℕ} (place : ℕ) (p : Changes s a m (placedBloc
       record {
         outcome = λ n go left. rw (slots, rows-changed (λ r. atPlace r place) p, environment-kept (λ r. atPlace r place) p n, first, woken, live, me);
         stays = change-stays p;
-        tidy = λ n used tidy. placed-tidy place p small (rw me at used) tidy;
+        clean = λ n used clean. placed-clean place p small (rw me at used) clean;
       }
 
   -- The running routine goes on at `place`.
@@ -61,7 +61,7 @@ module _ {a m : List ℕ} {s : ℕ} (place : ℕ) (p : Changes s a m (placedBloc
       record {
         outcome = λ n triggers reading go left. rw (rows-changed (λ r. atPlace r place) p, environment-kept (λ r. atPlace r place) p n, me);
         stays = change-stays p;
-        tidy = λ n triggers reading used tidy. placed-tidy place p small (rw me at used) tidy;
+        clean = λ n triggers reading used clean. placed-clean place p small (rw me at used) clean;
       }
 
 -- "`U|e|k` goes to instruction k if e is 0": as `G` to that place.
@@ -73,11 +73,11 @@ branches listing moment {a} {m} {u} {r} e k v target value chosen j =
     record {
       outcome = λ n triggers reading go left. rw (sym (value .equal n (reading .bound)), chosen) (j .outcome n triggers reading go left);
       stays = j .stays;
-      tidy = j .tidy;
+      clean = j .clean;
     }
 
 -- A wait: the next that is ready.
 pub waits : (listing : Listing) (moment : ℕ) {a m : List ℕ} {u : Running} {r : Stepped} (names : List ℕ) → Pops a m u r → Executes listing moment (wait names) a m u r
 unfolding executeRows
 waits listing moment names p =
-    record { outcome = λ n triggers reading go left. p .outcome n go left; stays = p .stays; tidy = λ n triggers reading. p .tidy n }
+    record { outcome = λ n triggers reading go left. p .outcome n go left; stays = p .stays; clean = λ n triggers reading. p .clean n }

@@ -15,15 +15,15 @@ use Rattle.engine_blocks.specs.Blocks.{Block, block, rowsOf, environmentOf}
 use Rattle.engine_blocks.specs.Store.{withSlot}
 use Rattle.engine_blocks.specs.Changes.{Changes, putIn, cleared, placedBlock}
 use Rattle.engine_blocks.proofs.RowChanges.{with-row-other}
-use Rattle.engine_clean.specs.Tidy.{Tidy}
-use Rattle.engine_clean.proofs.Whole.{slot-keeps-tidy, working-slot, freed-slot}
+use Rattle.engine_clean.specs.Clean.{Clean}
+use Rattle.engine_clean.proofs.Whole.{slot-keeps-clean, working-slot, freed-slot}
 use Rattle.engine_ready.specs.Slots.{slotsOf}
 use Rattle.engine_steps.specs.declared.running.Running.{Running}
 use Rattle.engine_steps.specs.declared.running.Answer.the-variants.{Goes, Ends}
 use Rattle.engine_steps.specs.declared.running.Stepped.{Stepped}
 use Rattle.engine_steps.specs.Outcome.{left-by, RunsLive, Reading, Pops, Joins, Executes}
 use Rattle.engine_steps.specs.Asked.{MayPop}
-use Rattle.engine_steps.proofs.Stores.{rows-changed, environment-kept, row-changed, change-stays, stays-then, live-word, placed-tidy}
+use Rattle.engine_steps.proofs.Stores.{rows-changed, environment-kept, row-changed, change-stays, stays-then, live-word, placed-clean}
 
 with-row-twice : (rows : Rows) (p : ℕ) (x y : Row) → withRow (withRow rows p x) p y ≡ withRow rows p y
 unfolding withRow chooseRow
@@ -83,9 +83,9 @@ freed-place {s} {a} {b} q p l = go (ℕ-discrete p s)
 
 -- ── a join ────────────────────────────────────────────────────────────────────────────────────────
 module _ {a b : List ℕ} {p : ℕ} (k : ℕ) (q : Changes p a b (putIn (block a p) 106 k) (withSlot p (λ r. withChildren r k))) (h : p < 64) where
-  children-tidy : {n : ℕ} → (rowsOf a p) .used ≡ true → Tidy n a → Tidy n b
-  children-tidy used tidy =
-      slot-keeps-tidy (q .inBlock) h (working-slot (block a p) 106 k (omega arith) (live-word a p h used) (tidy .slots p h)) tidy
+  children-clean : {n : ℕ} → (rowsOf a p) .used ≡ true → Clean n a → Clean n b
+  children-clean used clean =
+      slot-keeps-clean (q .inBlock) h (working-slot (block a p) 106 k (omega arith) (live-word a p h used) (clean .slots p h)) clean
 
   -- Others live.
   pub joins-others : {m : List ℕ} {u : Running} {r : Stepped} → k ≡ (rowsOf a p) .children - 1 → ((rowsOf a p) .children ≡ 1 → ⊥) → Pops b m u r → Joins a m u p r
@@ -95,7 +95,7 @@ module _ {a b : List ℕ} {p : ℕ} (k : ℕ) (q : Changes p a b (putIn (block a
         outcome = λ n go left.
             rw (ne-eqb _ 1 some, ← less) (rw (rows-changed (λ r. withChildren r k) q, environment-kept (λ r. withChildren r k) q n) at (pops .outcome n go left));
         stays = stays-then (change-stays q) (pops .stays);
-        tidy = λ n used live tidy. pops .tidy n live (children-tidy used tidy);
+        clean = λ n used live clean. pops .clean n live (children-clean used clean);
       }
 
   -- It was the last.
@@ -114,14 +114,14 @@ module _ {a b : List ℕ} {p : ℕ} (k : ℕ) (q : Changes p a b (putIn (block a
           outcome = λ n go left.
               rw (eq-eqb _ 1 one, last-rows, none, next, environment-kept (λ r. atPlace r place) t n, environment-kept (λ r. withChildren r k) q n, ready, live, woken, me);
           stays = stays-then (change-stays q) (change-stays t);
-          tidy = λ n used alive tidy. placed-tidy place t h (rw me at alive) (children-tidy used tidy);
+          clean = λ n used alive clean. placed-clean place t h (rw me at alive) (children-clean used clean);
         }
 
 -- ── the end ───────────────────────────────────────────────────────────────────────────────────────
 module _ {a b : List ℕ} (u v : Running) (q : Changes (u .me) a b (cleared 0 144 (block a (u .me))) (withSlot (u .me) (λ r. freeRow))) (h : u .me < 64)
     (ready : v .ready ≡ u .ready) (live : v .live ≡ u .live - 1) (woken : v .woken ≡ u .woken) (listing : Listing) (moment : ℕ) where
-  freed-tidy : {n : ℕ} → Tidy n a → Tidy n b
-  freed-tidy tidy = slot-keeps-tidy (q .inBlock) h (freed-slot (block a (u .me))) tidy
+  freed-clean : {n : ℕ} → Clean n a → Clean n b
+  freed-clean clean = slot-keeps-clean (q .inBlock) h (freed-slot (block a (u .me))) clean
 
   -- Main's end ends the instant.
   pub ends-main : (rowsOf a (u .me)) .level ≡ 0 → Executes listing moment end a b u (record { answer = Ends; running = v })
@@ -131,7 +131,7 @@ module _ {a b : List ℕ} (u v : Running) (q : Changes (u .me) a b (cleared 0 14
         outcome = λ n triggers reading go left.
             rw (eq-eqb _ 0 main, rows-changed (λ r. freeRow) q, environment-kept (λ r. freeRow) q n, live, woken);
         stays = change-stays q;
-        tidy = λ n triggers reading alive tidy. freed-tidy tidy;
+        clean = λ n triggers reading alive clean. freed-clean clean;
       }
 
   pub ends-child : {m : List ℕ} {r : Stepped} → ((rowsOf a (u .me)) .level ≡ 0 → ⊥) → Joins b m v ((rowsOf a (u .me)) .parent) r → Executes listing moment end a m u r
@@ -142,7 +142,7 @@ module _ {a b : List ℕ} (u v : Running) (q : Changes (u .me) a b (cleared 0 14
             rw (ne-eqb _ 0 deeper)
             (rw (rows-changed (λ r. freeRow) q, environment-kept (λ r. freeRow) q n, ready, live, woken) at (j .outcome n go left));
         stays = stays-then (change-stays q) (j .stays);
-        tidy = λ n triggers reading alive tidy.
+        clean = λ n triggers reading alive clean.
             let up = reading .parent ((rowsOf a (u .me)) .level - 1) (omega (arith, deeper)) in
-            j .tidy n (ap (λ (x : Row). x .used) (row-elsewhere (λ r. freeRow) q ((rowsOf a (u .me)) .parent) (up .1)) ∙ up .0) alive (freed-tidy tidy);
+            j .clean n (ap (λ (x : Row). x .used) (row-elsewhere (λ r. freeRow) q ((rowsOf a (u .me)) .parent) (up .1)) ∙ up .0) alive (freed-clean clean);
       }

@@ -10,8 +10,8 @@ use Rattle.engine_blocks.specs.Store.{Store, storeOf, withSlot}
 use Rattle.engine_blocks.specs.Changes.{Changes, placedBlock}
 use Rattle.engine_blocks.proofs.RowChanges.{row-of, with-row-same}
 use Rattle.engine_blocks.proofs.Staying.{outside-then, triggers-then, outside-start, triggers-start}
-use Rattle.engine_clean.specs.Tidy.{Tidy}
-use Rattle.engine_clean.proofs.Whole.{slot-keeps-tidy, placed-slot}
+use Rattle.engine_clean.specs.Clean.{Clean}
+use Rattle.engine_clean.proofs.Whole.{slot-keeps-clean, placed-slot}
 use Rattle.engine_steps.specs.Outcome.{Stays}
 
 module _ {s : ℕ} {a m : List ℕ} {b : Block} (f : Row → Row) (p : Changes s a m b (withSlot s f)) where
@@ -52,9 +52,9 @@ module _ {s : ℕ} {a m : List ℕ} (place : ℕ) (p : Changes s a m (placedBloc
   live-before u = sym (ap (λ (r : Row). r .used) (row-changed (λ r. atPlace r place) p)) ∙ u
 
   -- A live routine goes on at an instruction.
-  pub placed-tidy : {n : ℕ} → (rowsOf m s) .used ≡ true → Tidy n a → Tidy n m
-  placed-tidy u tidy =
-      slot-keeps-tidy (p .inBlock) h (placed-slot (block a s) place (live-word a s h (live-before u)) (tidy .slots s h)) tidy
+  pub placed-clean : {n : ℕ} → (rowsOf m s) .used ≡ true → Clean n a → Clean n m
+  placed-clean u clean =
+      slot-keeps-clean (p .inBlock) h (placed-slot (block a s) place (live-word a s h (live-before u)) (clean .slots s h)) clean
 
 -- The same place, said otherwise.
 pub placed-as : {s : ℕ} {a m : List ℕ} (place other : ℕ) → place ≡ other → Changes s a m (placedBlock (block a s) place) (withSlot s (λ r. atPlace r place))

@@ -16,14 +16,14 @@ use Rattle.engine_variables.specs.Bindings.{BoundTo, variablesBeside}
 use Rattle.engine_variables.specs.declared.Binding.{Binding}
 use Rattle.engine_blocks.proofs.RowChanges.{row-of}
 use Rattle.engine_blocks.proofs.Tabulated.{length-tabulate}
-use Rattle.engine_clean.specs.Tidy.{TidySlot, TidyEnvironment, Tidy}
-use Rattle.engine_clean.proofs.Whole.{slot-keeps-tidy, environment-keeps-tidy, assigned-slot, scheduled-slot, assigned-environment, scheduled-environment}
+use Rattle.engine_clean.specs.Clean.{CleanSlot, CleanEnvironment, Clean}
+use Rattle.engine_clean.proofs.Whole.{slot-keeps-clean, environment-keeps-clean, assigned-slot, scheduled-slot, assigned-environment, scheduled-environment}
 use Rattle.engine_evaluate.specs.Bound.{numberOf, bindingsOf, Bound}
 use Rattle.engine_steps.specs.declared.running.Running.{Running}
 use Rattle.engine_steps.specs.declared.running.Answer.the-variants.{Goes}
 use Rattle.engine_steps.specs.declared.running.Stepped.{Stepped}
 use Rattle.engine_steps.specs.Outcome.{ChangesName}
-use Rattle.engine_steps.proofs.Stores.{change-stays, stays-then, placed-tidy}
+use Rattle.engine_steps.proofs.Stores.{change-stays, stays-then, placed-clean}
 
 -- ── a variable that is there lies among its block's ───────────────────────────────────────────────
 -- A block's variables are among so many: a slot's by its own count, the environment's by n.
@@ -42,29 +42,29 @@ inside-environment n words i l =
     let few : i < length (environmentOf n words) = l in
     omega arith
 
--- A change of a variable that keeps its block tidy, in a slot or in the environment, keeps all blocks tidy.
-pub variable-tidy : {a b : List ℕ} {s i n : ℕ} (changed : Block → Block) (change : Store → Store) → Changes s a b (changed (block a s)) change → s ≤ 64
+-- A change of a variable that keeps its block clean, in a slot or in the environment, keeps all blocks clean.
+pub variable-clean : {a b : List ℕ} {s i n : ℕ} (changed : Block → Block) (change : Store → Store) → Changes s a b (changed (block a s)) change → s ≤ 64
     → numberOf (ownerAt s i) < length (variablesBeside (storeOf n a) (ownerAt s i))
-    → ((c : Block) → TidySlot c → i < c 4 → TidySlot (changed c)) → ((c : Block) → TidyEnvironment n c → i < n → TidyEnvironment n (changed c))
-    → Tidy n a → Tidy n b
-variable-tidy {a} {b} {s} {i} {n} changed change p h there slot environment tidy = go (decLt s 64)
+    → ((c : Block) → CleanSlot c → i < c 4 → CleanSlot (changed c)) → ((c : Block) → CleanEnvironment n c → i < n → CleanEnvironment n (changed c))
+    → Clean n a → Clean n b
+variable-clean {a} {b} {s} {i} {n} changed change p h there slot environment clean = go (decLt s 64)
   where
-    go : Dec (s < 64) → Tidy n b
-    go (yes l) = slot-keeps-tidy (p .inBlock) l (slot (block a s) (tidy .slots s l) (inside-slot n a s i l there)) tidy
+    go : Dec (s < 64) → Clean n b
+    go (yes l) = slot-keeps-clean (p .inBlock) l (slot (block a s) (clean .slots s l) (inside-slot n a s i l there)) clean
     go (no l) =
         let e : s ≡ 64 = omega arith in
         let q : Changes 64 a b (changed (block a 64)) change = rw e at p in
         let t : numberOf (ownerAt 64 i) < length (variablesBeside (storeOf n a) (ownerAt 64 i)) = rw e at there in
-        environment-keeps-tidy (q .inBlock) (environment (block a 64) (tidy .environment) (inside-environment n a i t)) tidy
+        environment-keeps-clean (q .inBlock) (environment (block a 64) (clean .environment) (inside-environment n a i t)) clean
 
 module _ {a b : List ℕ} {s n : ℕ} (i : ℕ) (h : s ≤ 64) (there : numberOf (ownerAt s i) < length (variablesBeside (storeOf n a) (ownerAt s i))) where
-  pub assigned-all : {change : Store → Store} (v : ℕ) → Changes s a b (assignedBlock i v (block a s)) change → Tidy n a → Tidy n b
+  pub assigned-all : {change : Store → Store} (v : ℕ) → Changes s a b (assignedBlock i v (block a s)) change → Clean n a → Clean n b
   assigned-all {change} v p =
-      variable-tidy (assignedBlock i v) change p h there (λ c t l. assigned-slot c i t l v) (λ c t l. assigned-environment n c i t l v)
+      variable-clean (assignedBlock i v) change p h there (λ c t l. assigned-slot c i t l v) (λ c t l. assigned-environment n c i t l v)
 
-  pub scheduled-all : {change : Store → Store} (t v : ℕ) → 0 < t → Changes s a b (queuedBlock (scheduledBlock i t v (block a s))) change → Tidy n a → Tidy n b
+  pub scheduled-all : {change : Store → Store} (t v : ℕ) → 0 < t → Changes s a b (queuedBlock (scheduledBlock i t v (block a s))) change → Clean n a → Clean n b
   scheduled-all {change} t v pos p =
-      variable-tidy (λ c. queuedBlock (scheduledBlock i t v c)) change p h there (λ c d l. scheduled-slot c i d l t v pos) (λ c d l. scheduled-environment n c i d l t v pos)
+      variable-clean (λ c. queuedBlock (scheduledBlock i t v c)) change p h there (λ c d l. scheduled-slot c i d l t v pos) (λ c d l. scheduled-environment n c i d l t v pos)
 
 -- ── through a name's binding ──────────────────────────────────────────────────────────────────────
 module _ {a b m : List ℕ} (u : Running) (name : ℕ) (binding : Binding) (bound : BoundTo (rowsOf a (u .me)) name binding)
@@ -76,7 +76,7 @@ module _ {a b m : List ℕ} (u : Running) (name : ℕ) (binding : Binding) (boun
   name-there n all = rw (bound .owner few) (all .there name few)
 
   pub changes-name : ((n : ℕ) → numberOf (ownerAt (binding .block) (binding .index)) < length (variablesBeside (storeOf n a) (ownerAt (binding .block) (binding .index)))
-      → Tidy n a → Tidy n b) → ChangesName a m u name change (record { answer = Goes; running = u })
+      → Clean n a → Clean n b) → ChangesName a m u name change (record { answer = Goes; running = u })
   changes-name keeps =
       record {
         goes = refl;
@@ -84,7 +84,7 @@ module _ {a b m : List ℕ} (u : Running) (name : ℕ) (binding : Binding) (boun
             q .store n ∙ ap (withSlot (u .me) (λ (row : Row). atPlace row (suc ((rowsOf a (u .me)) .place)))) (p .store n ∙
             ap (λ (o : Owner). withVariable o change (storeOf n a)) (bound .owner few));
         stays = stays-then (change-stays p) (change-stays q);
-        tidy = λ n all used tidy. placed-tidy (suc ((rowsOf a (u .me)) .place)) q small used (keeps n (name-there n all) tidy);
+        clean = λ n all used clean. placed-clean (suc ((rowsOf a (u .me)) .place)) q small used (keeps n (name-there n all) clean);
       }
 
 -- ── rows and environment after a name's change ────────────────────────────────────────────────────

@@ -12,7 +12,7 @@ use Rattle.engine_rows.specs.Engine.{RowsResult, halts, ends, RowsRunner, nextR
 use Rattle.engine_blocks.specs.Blocks.{ownerAt, rowsOf, environmentOf}
 use Rattle.engine_blocks.specs.Store.{storeOf, withSlot, withVariable}
 use Rattle.engine_blocks.specs.Changes.{SameOutside, SameTriggers}
-use Rattle.engine_clean.specs.Tidy.{Tidy}
+use Rattle.engine_clean.specs.Clean.{Clean}
 use Rattle.engine_ready.specs.Slots.{slotsOf}
 use Rattle.engine_triggers.specs.Chains.{triggersAt}
 use Rattle.engine_evaluate.specs.Bound.{bindingsOf, Bound}
@@ -52,7 +52,7 @@ pub record Pops (before after : List ℕ) (u : Running) (r : Stepped) : Type 0 w
   pub outcome : (n : ℕ) (go : RowsRunner) (left : ℕ) →
       nextReady go left (rowsOf before) (environmentOf n before) (slotsOf (u .ready)) (u .live) (u .woken) ≡ left-by n after go left (r .answer) (r .running)
   pub stays : Stays before after
-  pub tidy : (n : ℕ) → RunsLive after (r .answer) (r .running) → Tidy n before → Tidy n after
+  pub clean : (n : ℕ) → RunsLive after (r .answer) (r .running) → Clean n before → Clean n after
 
 -- The instruction is executed.
 pub record Executes (listing : Listing) (moment : ℕ) (instruction : Instruction) (before after : List ℕ) (u : Running) (r : Stepped) : Type 0 where
@@ -60,7 +60,7 @@ pub record Executes (listing : Listing) (moment : ℕ) (instruction : Instructio
       executeRows listing moment triggers go left instruction (rowsOf before) (environmentOf n before) (slotsOf (u .ready)) (u .live) (u .woken) (u .me) ≡
       left-by n after go left (r .answer) (r .running)
   pub stays : Stays before after
-  pub tidy : (n : ℕ) (triggers : Owner → List ℕ) → Reading before (u .me) n triggers → RunsLive after (r .answer) (r .running) → Tidy n before → Tidy n after
+  pub clean : (n : ℕ) (triggers : Owner → List ℕ) → Reading before (u .me) n triggers → RunsLive after (r .answer) (r .running) → Clean n before → Clean n after
 
 -- The variable of a name is changed, and the running routine goes on at the next instruction.
 pub record ChangesName (before after : List ℕ) (u : Running) (name : ℕ) (change : Variable → Variable) (r : Stepped) : Type 0 where
@@ -68,7 +68,7 @@ pub record ChangesName (before after : List ℕ) (u : Running) (name : ℕ) (cha
   pub store : (n : ℕ) → storeOf n after ≡
       withSlot (u .me) (λ row. atPlace row (suc ((rowsOf before (u .me)) .place))) (withVariable (ownerOf (bindingsOf before (u .me)) name) change (storeOf n before))
   pub stays : Stays before after
-  pub tidy : (n : ℕ) → Bound (storeOf n before) (bindingsOf before (u .me)) → (rowsOf after (u .me)) .used ≡ true → Tidy n before → Tidy n after
+  pub clean : (n : ℕ) → Bound (storeOf n before) (bindingsOf before (u .me)) → (rowsOf after (u .me)) .used ≡ true → Clean n before → Clean n after
 
 -- A child of the routine in slot p has ended, and its row is free already.
 pub record Joins (before after : List ℕ) (u : Running) (p : ℕ) (r : Stepped) : Type 0 where
@@ -76,4 +76,4 @@ pub record Joins (before after : List ℕ) (u : Running) (p : ℕ) (r : Stepped)
       joinRows (eqb ((rowsOf before p) .children) 1) go left (rowsOf before) (environmentOf n before) (slotsOf (u .ready)) (u .live) (u .woken) p ≡
       left-by n after go left (r .answer) (r .running)
   pub stays : Stays before after
-  pub tidy : (n : ℕ) → (rowsOf before p) .used ≡ true → RunsLive after (r .answer) (r .running) → Tidy n before → Tidy n after
+  pub clean : (n : ℕ) → (rowsOf before p) .used ≡ true → RunsLive after (r .answer) (r .running) → Clean n before → Clean n after

@@ -1,4 +1,4 @@
--- Due writes made variable by variable in a block are the row's due writes; the block stays tidy.
+-- Due writes made variable by variable in a block are the row's due writes; the block stays clean.
 -- Letters: b a block, t a moment above 0, c how many variables are done, i a variable's index, k an offset.
 use mathlib.Core.Path.{_≡_, refl, sym, ap, _∙_}
 use mathlib.Core.Bool.{Bool, true, false, cond}
@@ -17,7 +17,7 @@ use Rattle.engine_blocks.proofs.Tabulated.{tabulate-same}
 use Rattle.engine_blocks.proofs.RowChanges.{variable-same, bindings-same}
 use Rattle.engine_variables.proofs.VariableChanges.{InVariable, other-variable}
 use Rattle.engine_variables.proofs.VariableBlocks.{due-within, due-variable}
-use Rattle.engine_clean.specs.Tidy.{TidySlot, TidyEnvironment}
+use Rattle.engine_clean.specs.Clean.{CleanSlot, CleanEnvironment}
 use Rattle.engine_clean.proofs.Whole.{due-slot, due-environment}
 use Rattle.engine_writes.specs.Passes.{dueFirst, dueSlot}
 
@@ -103,22 +103,22 @@ due-row b t pos = go (nonzero (b 0)) refl
     go true e = due-first-row b t pos
     go false e = refl
 
--- ── tidy ──────────────────────────────────────────────────────────────────────────────────────────
-due-first-slot : (b : Block) (t c : ℕ) → TidySlot b → c ≤ b 4 → c ≤ 16 → TidySlot (dueFirst c t b)
+-- ── clean ──────────────────────────────────────────────────────────────────────────────────────────
+due-first-slot : (b : Block) (t c : ℕ) → CleanSlot b → c ≤ b 4 → c ≤ 16 → CleanSlot (dueFirst c t b)
 unfolding dueFirst
 due-first-slot b t zero s h l = s
 due-first-slot b t (suc c) s h l =
     due-slot (dueFirst c t b) c (due-first-slot b t c s (omega arith) (omega arith)) (rw (first-words-stay b t c 4 (omega arith) (omega arith)) (omega arith)) t
 
-pub due-slot-tidy : (b : Block) (t : ℕ) → TidySlot b → TidySlot (dueSlot t b)
+pub due-slot-clean : (b : Block) (t : ℕ) → CleanSlot b → CleanSlot (dueSlot t b)
 unfolding dueSlot
-due-slot-tidy b t s = go (nonzero (b 0))
+due-slot-clean b t s = go (nonzero (b 0))
   where
-    go : (x : Bool) → TidySlot (cond x (dueFirst (min (b 4) 16) t b) b)
+    go : (x : Bool) → CleanSlot (cond x (dueFirst (min (b 4) 16) t b) b)
     go true = due-first-slot b t (min (b 4) 16) s (omega arith) (omega arith)
     go false = s
 
-pub due-environment-tidy : (b : Block) (t n c : ℕ) → TidyEnvironment n b → c ≤ n → TidyEnvironment n (dueFirst c t b)
+pub due-environment-clean : (b : Block) (t n c : ℕ) → CleanEnvironment n b → c ≤ n → CleanEnvironment n (dueFirst c t b)
 unfolding dueFirst
-due-environment-tidy b t n zero s h = s
-due-environment-tidy b t n (suc c) s h = due-environment n (dueFirst c t b) c (due-environment-tidy b t n c s (omega arith)) h t
+due-environment-clean b t n zero s h = s
+due-environment-clean b t n (suc c) s h = due-environment n (dueFirst c t b) c (due-environment-clean b t n c s (omega arith)) h t

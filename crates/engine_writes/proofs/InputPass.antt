@@ -17,8 +17,8 @@ use Rattle.engine_blocks.specs.Blocks.{Block, block, ownerAt, rowsOf, environme
 use Rattle.engine_blocks.specs.Store.{Store, storeOf, variableFrom, withVariable}
 use Rattle.engine_blocks.specs.Changes.{SameOutside, SameTriggers, InBlock, Changes, assignedBlock}
 use Rattle.engine_blocks.proofs.Staying.{outside-then, outside-start, triggers-then, triggers-start}
-use Rattle.engine_clean.specs.Tidy.{Tidy}
-use Rattle.engine_clean.proofs.Whole.{assigned-environment, environment-keeps-tidy}
+use Rattle.engine_clean.specs.Clean.{Clean}
+use Rattle.engine_clean.proofs.Whole.{assigned-environment, environment-keeps-clean}
 use Rattle.engine_writes.specs.Beginnings.{NumbersBelow, InputsWritten}
 
 pub record InputsSoFar (ns vs : List ℕ) (k : ℕ) (before after : List ℕ) : Type 0 where
@@ -26,11 +26,11 @@ pub record InputsSoFar (ns vs : List ℕ) (k : ℕ) (before after : List ℕ) : 
   pub environment : (n : ℕ) → applyInputs (inputsOf (drop k ns) (drop k vs)) (environmentOf n after) ≡ applyInputs (inputsOf ns vs) (environmentOf n before)
   pub outside : SameOutside before after
   pub triggers : SameTriggers before after
-  pub tidy : (n : ℕ) → NumbersBelow n ns → Tidy n before → Tidy n after
+  pub clean : (n : ℕ) → NumbersBelow n ns → Clean n before → Clean n after
 
 pub inputs-begun : (ns vs m : List ℕ) → InputsSoFar ns vs 0 m m
 inputs-begun ns vs m =
-    record { rows = refl; environment = λ n. refl; outside = outside-start m; triggers = triggers-start m; tidy = λ n h w. w }
+    record { rows = refl; environment = λ n. refl; outside = outside-start m; triggers = triggers-start m; clean = λ n h w. w }
 
 -- One input as the change of an environment variable.
 rows-assigned : (store : Store) (i v : ℕ) → (withVariable (ownerAt 64 i) (λ x. writtenTo x v) store) .rows ≡ store .rows
@@ -72,9 +72,9 @@ module _ (ns vs : List ℕ) (k : ℕ) {a m m′ : List ℕ} (l : k < length ns) 
         environment = λ n. inputs-left n ∙ done .environment n;
         outside = outside-then (done .outside) (next .outside);
         triggers = triggers-then (done .triggers) (next .triggers);
-        tidy = λ n h w.
-            let t = done .tidy n h w in
-            environment-keeps-tidy (next .inBlock) (assigned-environment n (block m 64) (getD ns k 0) (t .environment) (h .below k l) (getD vs k 0)) t;
+        clean = λ n h w.
+            let t = done .clean n h w in
+            environment-keeps-clean (next .inBlock) (assigned-environment n (block m 64) (getD ns k 0) (t .environment) (h .below k l) (getD vs k 0)) t;
       }
 
 none-left : (vs : List ℕ) (e : List Variable) → applyInputs (inputsOf [] vs) e ≡ e
@@ -88,5 +88,5 @@ inputs-done ns vs {a} {m} done n h =
       environment = sym (ap (λ (l : List ℕ). applyInputs (inputsOf l (drop (length ns) vs)) (environmentOf n m)) (drop-length ns) ∙ none-left (drop (length ns) vs) (environmentOf n m)) ∙ done .environment n;
       outside = done .outside;
       triggers = done .triggers;
-      tidy = done .tidy n h;
+      clean = done .clean n h;
     }

@@ -1,5 +1,5 @@
 -- A pass over the blocks, one after the other: it begins with none done, and one more block done is one more.
--- When all are done, rows and environment are those of the blocks made, and all stay tidy.
+-- When all are done, rows and environment are those of the blocks made, and all stay clean.
 use mathlib.Core.Path.{_≡_, refl, sym, ap, _∙_, subst, fun-ext}
 use mathlib.Core.Bool.{Bool, true, false, cond}
 use mathlib.Core.List.{List}
@@ -13,10 +13,10 @@ use Rattle.engine_blocks.specs.Blocks.{Block, block, nonzero, rowAt, rowsOf, va
 use Rattle.engine_blocks.specs.Changes.{SameTriggers, InBlock}
 use Rattle.engine_blocks.proofs.InBlocks.{other-block, same-outside}
 use Rattle.engine_blocks.proofs.RowChanges.{row-of, row-past}
-use Rattle.engine_clean.specs.Tidy.{TidySlot, TidyEnvironment}
+use Rattle.engine_clean.specs.Clean.{CleanSlot, CleanEnvironment}
 use Rattle.engine_writes.specs.Passes.{dueFirst, dueSlot, Mapped}
 use Rattle.engine_writes.specs.Beginnings.{DueMade}
-use Rattle.engine_writes.proofs.DueBlocks.{late-words-stay, due-variables, due-row, due-slot-tidy, due-environment-tidy}
+use Rattle.engine_writes.proofs.DueBlocks.{late-words-stay, due-variables, due-row, due-slot-clean, due-environment-clean}
 
 pub none-mapped : (f : Block → Block) (m : List ℕ) → Mapped 0 f m m
 none-mapped f m = record { size = refl; header = refl; past = refl; made = λ s h l. absurd (let z : ⊥ = omega arith in z); others = λ s h l. refl }
@@ -87,8 +87,8 @@ module _ (n t : ℕ) (few : n ≤ 16) (pos : 0 < t) (a m m′ : List ℕ) (slots
         environment = due-environment-of;
         outside = record { size = o .size ∙ slots .size; header = o .header ∙ slots .header; past = o .past ∙ slots .past };
         triggers = due-triggers;
-        tidy = λ w. record {
-          slots = λ s h. subst (λ (b : Block). TidySlot b) (sym (slot-block s h)) (due-slot-tidy (block a s) t (w .slots s h));
-          environment = subst (λ (b : Block). TidyEnvironment n b) (sym outer-block) (due-environment-tidy (block a 64) t n n (w .environment) (omega arith));
+        clean = λ w. record {
+          slots = λ s h. subst (λ (b : Block). CleanSlot b) (sym (slot-block s h)) (due-slot-clean (block a s) t (w .slots s h));
+          environment = subst (λ (b : Block). CleanEnvironment n b) (sym outer-block) (due-environment-clean (block a 64) t n n (w .environment) (omega arith));
         };
       }

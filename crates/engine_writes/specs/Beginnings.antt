@@ -7,7 +7,7 @@ use Rattle.walk.specs.Instant.{dueWrites, Write, applyInputs}
 use Rattle.engine_rows.specs.Beginning.{dueInRows}
 use Rattle.engine_blocks.specs.Blocks.{block, rowsOf, environmentOf}
 use Rattle.engine_blocks.specs.Changes.{SameOutside, SameTriggers}
-use Rattle.engine_clean.specs.Tidy.{Tidy}
+use Rattle.engine_clean.specs.Clean.{Clean}
 use Rattle.engine_writes.specs.Passes.{dueFirst, dueSlot}
 
 -- Due writes made everywhere.
@@ -16,7 +16,7 @@ pub record DueMade (n t : ℕ) (before after : List ℕ) : Type 0 where
   pub environment : environmentOf n after ≡ dueWrites t (environmentOf n before)
   pub outside : SameOutside before after
   pub triggers : SameTriggers before after
-  pub tidy : Tidy n before → Tidy n after
+  pub clean : Clean n before → Clean n after
 
 -- Of each block the soonest moment due is known (place s for slot s, 64 for the environment). Where that is not t, making the writes due at t would
 -- change nothing.
@@ -30,7 +30,7 @@ pub record InputsWritten (n : ℕ) (inputs : List Write) (before after : List �
   pub environment : environmentOf n after ≡ applyInputs inputs (environmentOf n before)
   pub outside : SameOutside before after
   pub triggers : SameTriggers before after
-  pub tidy : Tidy n before → Tidy n after
+  pub clean : Clean n before → Clean n after
 
 -- 11 "Are the input numbers below i ..?"
 pub record NumbersBelow (i : ℕ) (numbers : List ℕ) : Type 0 where

@@ -163,8 +163,8 @@ module _ (w m : List ℕ) (k : ℕ) (p : Path) (within : k < getD m 3 0) (G : Go
         left ≡ getD (p .left) ((recordOf m k) .level) 0 → first ≡ getD (p .head) ((recordOf m k) .level) 0 → child ≡ (recordOf m k) .child →
         Picked w first left next child r → Made w m k p r
     picked-made next left first child r a b f c P = record {
-      nobody = λ e. missing-child next left child a b c (P .nobody e);
-      somebody = λ e. chosen-child next left child _ _ _ a b c (rw f at (P .somebody e));
+      no-maker = λ e. missing-child next left child a b c (P .no-maker e);
+      a-maker = λ e. chosen-child next left child _ _ _ a b c (rw f at (P .a-maker e));
     }
 
 -- ── what comes after a record ─────────────────────────────────────────────────────────────────────
@@ -213,8 +213,8 @@ pub place-from : (m : List ℕ) (k at place : ℕ) → at ≡ blockAt (slotOf m 
 place-from m k at place a e = e ∙ ap (λ u. getD m (u + 3) 0) a ∙ sym (place-word m k)
 
 -- ── answers ───────────────────────────────────────────────────────────────────────────────────────
-pub nobody-made : (w m : List ℕ) (k : ℕ) (p : Path) (r : Maker) → r .found ≡ false → whole w m ≡ false → Made w m k p r
-nobody-made w m k p r e h = record { nobody = λ z. h; somebody = λ z. no-clash e z }
+pub no-maker-made : (w m : List ℕ) (k : ℕ) (p : Path) (r : Maker) → r .found ≡ false → whole w m ≡ false → Made w m k p r
+no-maker-made w m k p r e h = record { no-maker = λ z. h; a-maker = λ z. no-clash e z }
 
 pub maker-unfit : (w m : List ℕ) (k : ℕ) (p : Path) → levelFits (p .forked) ((recordOf m k) .level) (p .depth) ≡ false → noMaker ≡ makerFor w m k p
 unfolding makerFor

@@ -71,8 +71,8 @@ pub record Caller (w m : List ℕ) (k : ℕ) (p : Path) (routine head left : ℕ
   pub law : madeByFirst (tableListing w) (momentAt m 1) (recordOf m k) (scanAfter w m k) (call ∷ later) outer ≡ whole w m
 
 pub record Made (w m : List ℕ) (k : ℕ) (p : Path) (r : Maker) : Type 0 where
-  pub nobody : r .found ≡ false → whole w m ≡ false
-  pub somebody : r .found ≡ true → Caller w m k p (r .routine) (r .head) (r .left)
+  pub no-maker : r .found ≡ false → whole w m ≡ false
+  pub a-maker : r .found ≡ true → Caller w m k p (r .routine) (r .head) (r .left)
 
 -- After a step the scan has come to the k-th record, or the list does not pass.
 pub record Stepped (w m : List ℕ) (k : ℕ) (q : Path) : Type 0 where

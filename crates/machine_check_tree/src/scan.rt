@@ -10,7 +10,7 @@ use machine::ORDER;
 use machine::OWN;
 use machine::PLACE;
 use table_child_fields::pick::Maker;
-use table_child_fields::pick::nobody;
+use table_child_fields::pick::no_maker;
 use table_child_fields::pick::pick;
 use table_child_fields::routines::line_at;
 use table_child_fields::routines::owned_by;
@@ -65,7 +65,7 @@ fn made_by(t: &[u32], m: &[u32], k: usize, p: Path) -> Maker
     let depth = p.depth;
     let forked = p.forked;
     if !level_fits(forked, level, depth) {
-        return nobody();
+        return no_maker();
     }
     let child = number(m[at + CHILD]);
     let first = p.head[level];

@@ -1,3 +1,3 @@
 pub mod FewListed
 pub mod PiecePrinted
-pub mod Told
+pub mod Results

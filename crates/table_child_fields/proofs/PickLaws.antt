@@ -1,4 +1,4 @@
--- The child field that is looked for: nobody, or somebody.
+-- The child field that is looked for: there is none, or it is this one.
 use mathlib.Core.Path.{_≡_, refl, _∙_}
 use mathlib.Core.Bool.{Bool, true, false, cond}
 use mathlib.Core.List.{List}
@@ -16,25 +16,25 @@ no-clash e f = absurd (let z : _≡_ {A = ℕ} 0 1 = cc in let y : ⊥ = omega a
 
 -- ── the maker by its cases ────────────────────────────────────────────────────────────────────────
 module _ (w : List ℕ) (first left next child : ℕ) where
-  pub nobody-low : child < next → noMaker ≡ makerOf w first left next child
+  pub no-maker-low : child < next → noMaker ≡ makerOf w first left next child
   unfolding makerOf
-  nobody-low h = rw (lt-ltb child next h)
+  no-maker-low h = rw (lt-ltb child next h)
 
-  pub nobody-high : next ≤ child → left ≤ child - next → noMaker ≡ makerOf w first left next child
+  pub no-maker-high : next ≤ child → left ≤ child - next → noMaker ≡ makerOf w first left next child
   unfolding makerOf
-  nobody-high l h = rw (le-ltb child next l, le-leb left (child - next) h)
+  no-maker-high l h = rw (le-ltb child next l, le-leb left (child - next) h)
 
-  somebody : next ≤ child → child - next < left → makerAfter w first left (child - next) ≡ makerOf w first left next child
+  a-maker : next ≤ child → child - next < left → makerAfter w first left (child - next) ≡ makerOf w first left next child
   unfolding makerOf
-  somebody l h = rw (le-ltb child next l, lt-leb left (child - next) h)
+  a-maker l h = rw (le-ltb child next l, lt-leb left (child - next) h)
 
-  pub somebody-picked : (head routine after : ℕ) → next ≤ child → child - next < left → head ≡ headAfter w first (child - next) →
+  pub a-maker-picked : (head routine after : ℕ) → next ≤ child → child - next < left → head ≡ headAfter w first (child - next) →
       routine ≡ word w (head + 1) → after ≡ head + (2 + 2 * word w head) →
       _≡_ {A = Maker} (record { found = true; routine = routine; head = after; left = left - (child - next) - 1 }) (makerOf w first left next child)
-  somebody-picked head routine after low high h r a =
+  a-maker-picked head routine after low high h r a =
       let callee : routine ≡ word w (headAfter w first (child - next) + 1) = rw h at r in
       let later : after ≡ headAfter w first (child - next + 1) = a ∙ next-head w first (child - next) head h in
-      rw (callee, later) (somebody low high)
+      rw (callee, later) (a-maker low high)
 
 -- ── what the maker tells ──────────────────────────────────────────────────────────────────────────
 -- A child's number is not among those that may still come.
@@ -51,8 +51,8 @@ pub record Chosen (w : List ℕ) (first left next child routine head rest : ℕ)
   pub fewer : rest ≡ left - (child - next) - 1
 
 pub record Picked (w : List ℕ) (first left next child : ℕ) (r : Maker) : Type 0 where
-  pub nobody : r .found ≡ false → Missing next left child
-  pub somebody : r .found ≡ true → Chosen w first left next child (r .routine) (r .head) (r .left)
+  pub no-maker : r .found ≡ false → Missing next left child
+  pub a-maker : r .found ≡ true → Chosen w first left next child (r .routine) (r .head) (r .left)
 
 pub picked : (w : List ℕ) (first left next child : ℕ) → Picked w first left next child (makerOf w first left next child)
 unfolding makerOf
@@ -60,9 +60,9 @@ picked w first left next child = by (ltb child next) refl (leb left (child - nex
   where
     by : (x : Bool) → ltb child next ≡ x → (y : Bool) → leb left (child - next) ≡ y →
         Picked w first left next child (cond x noMaker (cond y noMaker (makerAfter w first left (child - next))))
-    by true e y f = record { nobody = λ z. too-low (ltb-true _ _ e); somebody = λ z. no-clash refl z }
-    by false e true f = record { nobody = λ z. too-high (ltb-false _ _ e) (leb-true _ _ f); somebody = λ z. no-clash refl z }
+    by true e y f = record { no-maker = λ z. too-low (ltb-true _ _ e); a-maker = λ z. no-clash refl z }
+    by false e true f = record { no-maker = λ z. too-high (ltb-false _ _ e) (leb-true _ _ f); a-maker = λ z. no-clash refl z }
     by false e false f = record {
-      nobody = λ z. no-clash z refl;
-      somebody = λ z. record { low = ltb-false _ _ e; high = leb-false _ _ f; callee = refl; after = refl; fewer = refl };
+      no-maker = λ z. no-clash z refl;
+      a-maker = λ z. record { low = ltb-false _ _ e; high = leb-false _ _ f; callee = refl; after = refl; fewer = refl };
     }

@@ -14,7 +14,7 @@ pub struct Maker {
     pub left: usize,
 }
 
-pub fn nobody() -> Maker
+pub fn no_maker() -> Maker
     ensures { λ r. ⌜ r ≡ noMaker ⌝ }
 {
     Maker {
@@ -31,11 +31,11 @@ pub fn pick(t: &[u32], first: usize, left: usize, next: usize, child: usize) -> 
     ensures { λ r. ⌜ r ≡ makerOf (now (t .entry)) first left next child ⌝ }
 {
     if child < next {
-        return nobody();
+        return no_maker();
     }
     let skip = child - next;
     if left <= skip {
-        return nobody();
+        return no_maker();
     }
     let head = head_after(t, first, left, skip);
     let routine = number(t[head + 1]);

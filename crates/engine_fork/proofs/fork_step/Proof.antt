@@ -7,7 +7,7 @@ use borrow.Author.Needs.{needs}
 use Rattle.engine_rows.specs.Rows.{Row}
 use Rattle.engine_blocks.specs.Blocks.{rowsOf}
 use Rattle.engine_steps.specs.declared.running.Running.{Running}
-use Rattle.engine_fork.proofs.Counted.{counted-tidy, may-fork}
+use Rattle.engine_fork.proofs.Counted.{counted-clean, may-fork}
 use Rattle.engine_fork.proofs.Forked.{too-many, too-deep, may-put, may-pop-child, forks}
 use Rattle.engine_fork.proofs.fork_step.Statement.{statement}
 use Rattle.engine_fork.proofs.fork_step.Tie as tie
@@ -52,7 +52,7 @@ fork-children-requires c κs =
     let level : (rowsOf (now (a .m)) (a .running .me)) .level ≤ 9 = omega (arith, past .if2 .left) in
     let q = c .before .before .before .set-children .ensures in
     let may = earlier .pre in
-    may-fork (a .n) q (a .running) refl may level room (counted-tidy (a .running .me) (a .n) q (may .slot) (may .live) (may .tidy))
+    may-fork (a .n) q (a .running) refl may level room (counted-clean (a .running .me) (a .n) q (may .slot) (may .live) (may .clean))
 
 put-before-requires : tie.Need-put-before-requires
 put-before-requires c κs =

@@ -37,7 +37,7 @@ finish-requires c κs =
     let earlier = past .before .before .before .before .before .before .before .before in
     let p = earlier .pre in
     let s = whole-size (now (earlier .args .table)) (p .1 .table) _ _ (past .before .before .number .ensures .0) (past .number2 .ensures .0) in
-    (p .1 .size, s .1, rw (s .0) (p .1 .tidy))
+    (p .1 .size, s .1, rw (s .0) (p .1 .clean))
 
 due-at-requires : tie.Need-due-at-requires
 due-at-requires c κs = search needs

@@ -1,7 +1,7 @@
 use Rattle.engine_finish.proofs.OrderTurns.{built-below}
 use Rattle.engine_finish.proofs.PlaceTurns.{built-differ}
 use Rattle.engine_finish.proofs.Composed.{instant-ended}
-use Rattle.engine_finish.proofs.DueSlots.{all-due, cleared-tidy}
+use Rattle.engine_finish.proofs.DueSlots.{all-due, cleared-clean}
 use Rattle.engine_finish.specs.Ended.{Ended}
 use Rattle.engine_rows.specs.Order.{walkingOrder}
 use Rattle.engine_blocks.specs.Blocks.{rowsOf}
@@ -23,7 +23,7 @@ sooner-of-variables-requires c κs = search needs
 order-slots-requires : tie.Need-order-slots-requires
 order-slots-requires c κs =
     let past = c .before .before .before .before .before in
-    (search needs, cleared-tidy (past .clear-header .ensures) (past .before .before .before .pre .2))
+    (search needs, cleared-clean (past .clear-header .ensures) (past .before .before .before .pre .2))
 
 set-places-requires : tie.Need-set-places-requires
 set-places-requires c κs =

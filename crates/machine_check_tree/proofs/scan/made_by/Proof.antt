@@ -5,7 +5,7 @@ use lib.ListN.{getD}
 use native.Mathlib.Omega.{arith}
 use borrow.Author.Tests.{not-true, not-false}
 use Rattle.machine_check_tree.specs.Scan.{recordOf}
-use Rattle.machine_check_tree.proofs.ScanLaws.{level-below, level-unfit, picked-made, level-from, child-from, nobody-made, frame-fits, maker-unfit, maker-fit}
+use Rattle.machine_check_tree.proofs.ScanLaws.{level-below, level-unfit, picked-made, level-from, child-from, no-maker-made, frame-fits, maker-unfit, maker-fit}
 use Rattle.table_child_fields.proofs.PickLaws.{picked}
 use borrow.Author.Needs.{needs}
 use Rattle.machine_check_tree.proofs.scan.made_by.Statement.{statement}
@@ -30,8 +30,8 @@ number-requires c κs = search needs
 level-fits-requires : tie.Need-level-fits-requires
 level-fits-requires c κs = search needs
 
-nobody-requires : tie.Need-nobody-requires
-nobody-requires c κs = search needs
+no-maker-requires : tie.Need-no-maker-requires
+no-maker-requires c κs = search needs
 
 returns : tie.Need-returns
 returns c =
@@ -39,8 +39,8 @@ returns c =
     let a = past .before .before .before .args in
     let e : c .before .before .before .number .result ≡ recordOf (a .m .now) (a .k) .level = level-from (a .m .now) (a .k) _ _ (past .block-of .ensures .0) (c .before .before .before .number .ensures .0) in
     let h = rw e at (sym (c .before .before .level-fits .ensures) ∙ not-true _ (c .before .if1 .taken)) in (
-      c .nobody .ensures ∙ maker-unfit _ _ _ _ h,
-      nobody-made _ _ _ _ _ (ap (λ x. x .found) (c .nobody .ensures))
+      c .no-maker .ensures ∙ maker-unfit _ _ _ _ h,
+      no-maker-made _ _ _ _ _ (ap (λ x. x .found) (c .no-maker .ensures))
           (level-unfit (a .t .now) (a .m .now) (a .k) (a .t4) (past .before .before .before .pre .2) (past .before .before .before .pre .4) h),
     )
 
@@ -116,7 +116,7 @@ made-by-spec =
     shared-slice-read-number
     number-requires
     level-fits-requires
-    nobody-requires
+    no-maker-requires
     returns
     add-number-2
     mul-number-2

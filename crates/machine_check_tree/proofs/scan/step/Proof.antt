@@ -23,7 +23,7 @@ returns c =
     let a = c .before .before .before .before .before .before .args in
     let n = not-true _ (c .before .if1 .taken) in (
       c .refused .ensures ∙ unmade-path _ _ _ _ _ (c .before .before .before .made-by .ensures .0) n,
-      refused-step _ _ _ (a .p) _ (c .refused .ensures) (c .before .before .before .made-by .ensures .1 .nobody n),
+      refused-step _ _ _ (a .p) _ (c .refused .ensures) (c .before .before .before .made-by .ensures .1 .no-maker n),
     )
 
 block-of-requires : tie.Need-block-of-requires
@@ -34,7 +34,7 @@ block-of-requires c κs =
 owned-by-requires : tie.Need-owned-by-requires
 owned-by-requires c κs =
     let past = c .before .before .before .before .before .before in
-    (past .pre .0, c .before .before .before .made-by .ensures .1 .somebody (not-false _ (c .before .if1 .left)) .there, past .pre .3 .table .most)
+    (past .pre .0, c .before .before .before .made-by .ensures .1 .a-maker (not-false _ (c .before .if1 .left)) .there, past .pre .3 .table .most)
 
 add-number : tie.Need-add-number
 add-number c = search needs
@@ -57,7 +57,7 @@ returns-2 c =
     let earlier = past .before .before .before .before .before .before in
     let a = earlier .args in
     let e : c .before .before .number .result ≡ length (recordOf (a .m .now) (a .k) .own) = size-from (a .m .now) (a .k) _ _ (past .block-of .ensures .0) (c .before .before .number .ensures .0) in
-    let C = past .before .before .before .made-by .ensures .1 .somebody (not-false _ (past .before .if1 .left)) in
+    let C = past .before .before .before .made-by .ensures .1 .a-maker (not-false _ (past .before .if1 .left)) in
     let h : length (recordOf (a .m .now) (a .k) .own) ≡ ownedBy (tableListing (a .t .now)) (past .before .before .before .made-by .result .routine) → ⊥ = λ z. c .before .if2 .taken (e ∙ z ∙ sym (c .before .before .before .before .owned-by .ensures)) in (
       c .refused2 .ensures ∙ wrong-size-path _ _ _ _ _ (past .before .before .before .made-by .ensures .0) (not-false _ (past .before .if1 .left)) h,
       refused-step _ _ _ (a .p) _ (c .refused2 .ensures)
@@ -70,7 +70,7 @@ settle-requires c κs =
     let earlier = past .before .before .before .before .before in
     let a = earlier .args in
     let e : c .before .number .result ≡ length (recordOf (a .m .now) (a .k) .own) = size-from (a .m .now) (a .k) _ _ (c .before .before .before .before .block-of .ensures .0) (c .before .number .ensures .0) in
-    let C = past .before .before .made-by .ensures .1 .somebody (not-false _ (past .if1 .left)) in
+    let C = past .before .before .made-by .ensures .1 .a-maker (not-false _ (past .if1 .left)) in
     (earlier .pre .0, earlier .pre .1, earlier .pre .2, earlier .pre .3, earlier .pre .4, C, sym e ∙ c .if2 .left ∙ c .before .before .before .owned-by .ensures)
 
 returns-3 : tie.Need-returns-3

@@ -1,5 +1,5 @@
 -- `printed_calls::calls::tell` meets its contract.
-use Rattle.session_printed.proofs.Told.{refused-tells, stopped-tells, done-tells}
+use Rattle.session_printed.proofs.Results.{refused-tells, stopped-tells, done-tells}
 use borrow.Author.Needs.{needs}
 use Rattle.session_printed.proofs.calls.tell.Statement.{statement}
 use Rattle.session_printed.proofs.calls.tell.Tie as tie

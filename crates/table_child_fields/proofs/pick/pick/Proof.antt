@@ -3,24 +3,24 @@ use Prim.Native.Nat.{_+_, _-_, _<_}
 use mathlib.Core.Path.{_∙_}
 use native.Mathlib.Omega.{arith}
 use Rattle.table.specs.Decode.{headAfter}
-use Rattle.table_child_fields.proofs.PickLaws.{nobody-low, nobody-high, somebody-picked}
+use Rattle.table_child_fields.proofs.PickLaws.{no-maker-low, no-maker-high, a-maker-picked}
 use borrow.Author.Needs.{needs}
 use Rattle.table_child_fields.proofs.pick.pick.Statement.{statement}
 use Rattle.table_child_fields.proofs.pick.pick.Tie as tie
 
-nobody-requires : tie.Need-nobody-requires
-nobody-requires c κs = search needs
+no-maker-requires : tie.Need-no-maker-requires
+no-maker-requires c κs = search needs
 
 returns : tie.Need-returns
 returns c =
-    c .nobody .ensures ∙ nobody-low _ _ _ _ _ (c .before .if1 .taken)
+    c .no-maker .ensures ∙ no-maker-low _ _ _ _ _ (c .before .if1 .taken)
 
-nobody-requires-2 : tie.Need-nobody-requires-2
-nobody-requires-2 c κs = search needs
+no-maker-requires-2 : tie.Need-no-maker-requires-2
+no-maker-requires-2 c κs = search needs
 
 returns-2 : tie.Need-returns-2
 returns-2 c =
-    c .nobody2 .ensures ∙ nobody-high _ _ _ _ _ (c .before .before .if1 .left) (c .before .if2 .taken)
+    c .no-maker2 .ensures ∙ no-maker-high _ _ _ _ _ (c .before .before .if1 .left) (c .before .if2 .taken)
 
 head-after-requires : tie.Need-head-after-requires
 head-after-requires c κs = search needs
@@ -87,16 +87,16 @@ returns-3 : tie.Need-returns-3
 returns-3 c =
     let past = c .before .before .before .before .before in
     let a = past .before .before .before .args in
-    somebody-picked (a .t .now) (a .first) (a .left) (a .next) (a .child) (c .before .before .before .before .head-after .result) _ _ (past .before .if1 .left) (past .if2 .left) (c .before .before .before .before .head-after .ensures)
+    a-maker-picked (a .t .now) (a .first) (a .left) (a .next) (a .child) (c .before .before .before .before .head-after .result) _ _ (past .before .if1 .left) (past .if2 .left) (c .before .before .before .before .head-after .ensures)
     (c .before .before .number .ensures .0) (rw (c .number2 .ensures .0))
 
 pub pick-spec : {M : Type 1} → statement M
 pick-spec =
     tie.close
     (tie.spec
-    nobody-requires
+    no-maker-requires
     returns
-    nobody-requires-2
+    no-maker-requires-2
     returns-2
     head-after-requires
     add-number

@@ -1,4 +1,4 @@
--- Working words stored leave a slot in use tidy.
+-- Working words stored leave a slot in use clean.
 use mathlib.Core.Path.{_≡_, sym, ap, _∙_}
 use mathlib.Core.Bool.{true}
 use mathlib.Core.List.{List}
@@ -7,7 +7,7 @@ use native.Mathlib.Omega.{arith}
 use Rattle.engine_rows.specs.Rows.{Row}
 use Rattle.engine_blocks.specs.Blocks.{Block, block, nonzero, rowAt, rowsOf}
 use Rattle.engine_blocks.proofs.RowChanges.{row-of}
-use Rattle.engine_clean.specs.Tidy.{TidyBlock, TidySlot}
+use Rattle.engine_clean.specs.Clean.{CleanBlock, CleanSlot}
 
 -- the first word of a slot in use
 pub in-use : (words : List ℕ) (s : ℕ) → s < 64 → (rowsOf words s) .used ≡ true → block words s 0 ≡ 0 → ⊥
@@ -18,8 +18,8 @@ in-use words s h u e =
     let q : _≡_ {A = ℕ} 0 1 = cc in omega arith
 
 module _ (b b' : Block) (same : (k : ℕ) → k < 104 → b' k ≡ b k) where
-  same-tidy : (c : ℕ) → TidyBlock c b → TidyBlock c b'
-  same-tidy c t =
+  same-clean : (c : ℕ) → CleanBlock c b → CleanBlock c b'
+  same-clean c t =
       record {
         few = t .few;
         kept = λ k h g. same k (omega arith) ∙ t .kept k h g;
@@ -37,9 +37,9 @@ module _ (b b' : Block) (same : (k : ℕ) → k < 104 → b' k ≡ b k) where
             omega (arith, same (10 + i * 6) (omega arith), same (11 + i * 6) (omega arith), none);
       }
 
-  pub filled-slot : (b 0 ≡ 0 → ⊥) → TidySlot b → TidySlot b'
+  pub filled-slot : (b 0 ≡ 0 → ⊥) → CleanSlot b → CleanSlot b'
   filled-slot u t =
       record {
-        tidy = rw (same 4 (omega arith)) (same-tidy (b 4) (t .tidy));
+        clean = rw (same 4 (omega arith)) (same-clean (b 4) (t .clean));
         free = λ e. absurd (u (sym (same 0 (omega arith)) ∙ e));
       }

@@ -1,4 +1,4 @@
--- Tidy blocks: every word that neither a row nor a working word uses is 0, a variable without a waiting write has no waiting value, and a block whose
+-- Clean blocks: every word that neither a row nor a working word uses is 0, a variable without a waiting write has no waiting value, and a block whose
 -- word 7 is 0 has no waiting write.
 use mathlib.Core.Path.{_≡_}
 use mathlib.Core.List.{List}
@@ -13,7 +13,7 @@ pub record Blank (b : Block) (i : ℕ) : Type 0 where
   pub high : b (11 + i * 6) ≡ 0
 
 -- A block with `count` variables.
-pub record TidyBlock (count : ℕ) (b : Block) : Type 0 where
+pub record CleanBlock (count : ℕ) (b : Block) : Type 0 where
   pub few : count ≤ 16
   -- words 5 and 6, and the two words kept for one more moment in each variable
   pub kept : (k : ℕ) → 5 ≤ k → k < 7 → b k ≡ 0
@@ -27,16 +27,16 @@ pub record TidyBlock (count : ℕ) (b : Block) : Type 0 where
   pub quiet : b 7 ≡ 0 → (i : ℕ) → i < 16 → b (10 + i * 6) + b (11 + i * 6) * 4294967296 ≡ 0
 
 -- A slot's block: a free one is 0 up to the trigger words.
-pub record TidySlot (b : Block) : Type 0 where
-  pub tidy : TidyBlock (b 4) b
+pub record CleanSlot (b : Block) : Type 0 where
+  pub clean : CleanBlock (b 4) b
   pub free : b 0 ≡ 0 → (k : ℕ) → k < 144 → b k ≡ 0
 
 -- The environment's block, with n variables: nothing before the variables but word 7.
-pub record TidyEnvironment (n : ℕ) (b : Block) : Type 0 where
-  pub tidy : TidyBlock n b
+pub record CleanEnvironment (n : ℕ) (b : Block) : Type 0 where
+  pub clean : CleanBlock n b
   pub before : (k : ℕ) → k < 7 → b k ≡ 0
 
 -- All blocks of the machine's words.
-pub record Tidy (n : ℕ) (words : List ℕ) : Type 0 where
-  pub slots : (s : ℕ) → s < 64 → TidySlot (block words s)
-  pub environment : TidyEnvironment n (block words 64)
+pub record Clean (n : ℕ) (words : List ℕ) : Type 0 where
+  pub slots : (s : ℕ) → s < 64 → CleanSlot (block words s)
+  pub environment : CleanEnvironment n (block words 64)

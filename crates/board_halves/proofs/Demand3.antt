@@ -9,7 +9,7 @@ use Rattle.listing.specs.Listing.{Listing, Call}
 use Rattle.listing.specs.Load.{Loads}
 use Rattle.listing.proofs.Determine.{one-listing}
 use Rattle.walk.specs.Instant.{Done}
-use Rattle.walk.specs.Calls.{Layout, Machine, running, firstWords, Outcome, done, outcomeNumber, outcomeListed, startOn}
+use Rattle.walk.specs.Calls.{Layout, Machine, running, firstWords, Outcome, done, outcomeNumber, outcomeListed, startOn, noFigures, outcomeFigures}
 use Rattle.walk.specs.Events.{eventsAt}
 use Rattle.walk.specs.Runs.{Run, answersFrom, answersFromFound, foundAfter, reported, answers, acceptedInputs, reportedWrites, timeOf}
 use Rattle.walk.specs.Promises.{resultOf}
@@ -42,7 +42,7 @@ pub record OnTheWalk (listing : Listing) {layout : Layout} (run : BoardRun layou
 module _ {layout : Layout} (exact : Exact layout) (run : BoardRun layout) (started : (run .result) .number ≡ 0) where
   -- the start went through, so that the machine before the calls is the walk's after its start
   of-session : (b : BoardSession layout run) → OnTheWalk (b .listing) run
-  unfolding acceptedInputs timeOf reportedWrites answers boardWrites outcomeListed foundAfter
+  unfolding acceptedInputs timeOf reportedWrites answers boardWrites noFigures outcomeFigures foundAfter
   of-session b =
       let w = start-went-through (b .listing) (run .allowance) _ (b .outcome) (b .starts) (sym (number-told (b .outcome)) ∙ sym (ap (λ (r : Promises.Result). r .number) (b .startResult)) ∙ started) in
       let found : layout .readMachine (b .listing) (firstWords (run .machine)) ≡ some (running ((w .d) .state)) = b .startMachine ∙ ap (foundAfter _) (w .is) in

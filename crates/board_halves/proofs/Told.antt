@@ -5,8 +5,6 @@ use mathlib.Core.Bool.{Bool, true, false}
 use mathlib.Core.List.{List, [], _∷_, _++_}
 use Prim.Native.Nat.{ℕ, zero, suc, _≤_}
 use native.Mathlib.Omega.{arith}
-use borrow.Author.Tests.{leb-true}
-use lib.Dec.{leb}
 use Rattle.listing.specs.Listing.{Listing}
 use Rattle.walk.specs.State.{Result, stop, ok}
 use Rattle.walk.specs.Instant.{Done}
@@ -16,7 +14,6 @@ use Rattle.walk.specs.Runs.{InstantCall, callOn, machineAfter, Answered, answer
 use Rattle.walk.specs.Promises.{resultOf}
 use Rattle.walk.specs.Promises as Promises
 use Rattle.walk.specs.Boards.{BoardCall, asInstantCall, asInstantCalls}
-use Rattle.walk_laws.proofs.Booleans.{and-left}
 use Rattle.board_promises.specs.Sessions.{resultsOf, resultsOn, StopsAreNumbered, one-answer}
 use Rattle.board_halves.specs.Boards.{ifZero, boardAccepted, boardTime}
 use Rattle.walk_laws.proofs.Answers.{stop-is-not-0}

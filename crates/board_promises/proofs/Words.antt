@@ -4,16 +4,13 @@ use mathlib.Core.Bool.{true}
 use mathlib.Core.List.{List, [], _∷_, _++_}
 use mathlib.Core.Option.{some}
 use Prim.Native.Nat.{ℕ, zero, suc, _+_, _-_, _≤_, _<_}
-use lib.Dec.{leb}
 use lib.ListN.{length, getD, drop, replicate, length-append, length-drop, List·getD-append}
 use lib.Seq.{take-at, drop-at, getD-drop, getD-take}
-use borrow.Author.Tests.{leb-true}
 use native.Mathlib.Omega.{arith}
 use Rattle.listing.specs.Listing.{Listing}
 use Rattle.walk.specs.State.{State}
 use Rattle.walk.specs.Question7.{IsState}
 use Rattle.walk.specs.Calls.{Words32, Layout, running, isStop, haltedWords, memoryWords, firstWords, laterWords}
-use Rattle.walk_laws.proofs.Booleans.{and-right}
 use Rattle.board_promises.specs.Exact.{ExactMachine, MachineWords}
 use Rattle.walk_laws.proofs.Answers.{stop-is-word}
 

@@ -8,7 +8,7 @@ use Rattle.listing.specs.Listing.{Listing}
 use Rattle.walk.specs.State.{State, Variable}
 use Rattle.walk.specs.State as walk
 use Rattle.walk.specs.Instant.{Done, environmentSize}
-use Rattle.walk.specs.Calls.{haltedWords, answered, outcomeNumber, outcomePlace, outcomeSteps, outcomeListed, outcomeDue, numbersAfter, valuesAfter}
+use Rattle.walk.specs.Calls.{haltedWords, answered, outcomeNumber, outcomePlace, numbersAfter, valuesAfter, noFigures, outcomeFigures}
 use Rattle.walk.specs.Promises as promises
 use Rattle.table.specs.Decode.{tableListing}
 use Rattle.engine_rows.specs.Rows.{Rows}
@@ -50,7 +50,7 @@ done-of (same-done {d = d} A) σ environment left live woken e = record { given 
 module _ (t words : List ℕ) (moment allowance : ℕ) (ran : Ran) (may : MayConclude t words moment allowance ran) where
   pub concluded-stop : (k : ℕ) → ran ≡ Halted k → (after numbers values : List ℕ) → after ≡ haltedWords k ++ drop 12288 words →
       Concludes (tableListing t) words numbers values after numbers values (may .answer) (Stopped k)
-  unfolding ranBy resultOf promises.resultOf answered outcomeNumber outcomePlace outcomeSteps outcomeListed outcomeDue numbersAfter valuesAfter
+  unfolding ranBy resultOf promises.resultOf answered outcomeNumber outcomePlace noFigures outcomeFigures numbersAfter valuesAfter
   concluded-stop k e after numbers values h =
       let s : may .answer ≡ walk.stop k = stop-of (may .same) k (ap (ranBy (environmentSize (tableListing t)) words) e) in
       rw s (record { result = refl; machine = leaves-stopped h; numbersAre = refl; valuesAre = refl })

@@ -10,7 +10,7 @@ use lib.ListN.{length, getD, take, drop, length-drop}
 use Rattle.listing.specs.Listing.{Listing}
 use Rattle.walk.specs.State.{State, Variable}
 use Rattle.walk.specs.Instant.{Done, Write, environmentSize, writtenFrom, listedIf, writtenOutputs, nextDue}
-use Rattle.walk.specs.Calls.{Words32, running, answered, outcomeNumber, outcomePlace, outcomeSteps, outcomeListed, outcomeDue, numbersAfter, valuesAfter}
+use Rattle.walk.specs.Calls.{Words32, running, answered, outcomeNumber, outcomePlace, numbersAfter, valuesAfter, noFigures, outcomeFigures}
 use Rattle.walk.specs.Promises as promises
 use Rattle.table.specs.Decode.{tableListing}
 use Rattle.machine.specs.ReadMachine.{readMachine}
@@ -89,7 +89,7 @@ module _ (t before after : List ℕ) (moment : ℕ) (may : MayFinish t before mo
 
     pub finished-as : FinishedAs t before numbers values after numbers′ values′ steps (may .state)
         (answers.Done (record { steps = steps; listed = count; due = due }))
-    unfolding resultOf promises.resultOf answered outcomeNumber outcomePlace outcomeSteps outcomeListed outcomeDue numbersAfter valuesAfter
+    unfolding resultOf promises.resultOf answered outcomeNumber outcomePlace noFigures outcomeFigures numbersAfter valuesAfter
     finished-as =
         record {
           reads = finished-reads;

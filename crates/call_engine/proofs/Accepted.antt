@@ -14,7 +14,7 @@ use Rattle.listing.specs.Listing.{Listing}
 use Rattle.walk.specs.State.{State}
 use Rattle.walk.specs.State as walk
 use Rattle.walk.specs.Instant.{Done, Write, environmentSize, nextDue, start, instant}
-use Rattle.walk.specs.Calls.{Outcome, refused, answered, outcomeNumber, outcomePlace, outcomeSteps, outcomeListed, outcomeDue, MachineAfter, untouched, halts, runs, numbersAfter, valuesAfter, dueBefore, inputsRise, inputsOf, allowed, startLongEnough, instantLongEnough, startCall, instantCall, firstWords}
+use Rattle.walk.specs.Calls.{Outcome, refused, answered, outcomeNumber, outcomePlace, MachineAfter, untouched, halts, runs, numbersAfter, valuesAfter, dueBefore, inputsRise, inputsOf, allowed, startLongEnough, instantLongEnough, startCall, instantCall, firstWords, noFigures, outcomeFigures}
 use Rattle.walk.specs.Promises.{Keeps}
 use Rattle.walk.specs.Promises as promises
 use Rattle.table.specs.Question6.{isTable, readTable}
@@ -36,7 +36,7 @@ use Rattle.call_questions.proofs.Calling.{Long, long}
 -- ── a refusal ─────────────────────────────────────────────────────────────────────────────────────
 -- Nothing is touched, and the figures are 0.
 refusal-keeps : (table machine on ov : List ℕ) (o : Outcome) (k : ℕ) → o ≡ refused k → Keeps layout table machine on ov machine on ov o (resultOf (answers.Refused k))
-unfolding resultOf promises.resultOf outcomeNumber outcomePlace outcomeSteps outcomeListed outcomeDue numbersAfter valuesAfter
+unfolding resultOf promises.resultOf outcomeNumber outcomePlace noFigures outcomeFigures numbersAfter valuesAfter
 refusal-keeps table machine on ov o k e = rw e (record { result = refl; machineIs = untouched refl; numbersAre = refl; valuesAre = refl })
 
 asked-refuses : (r : ℕ) (next o : Outcome) → asked r next ≡ o → (r ≡ 0 → ⊥) → o ≡ refused r

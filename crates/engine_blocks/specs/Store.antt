@@ -1,5 +1,4 @@
 -- Rows and environment together, and the changes that the engine's code makes to them.
-use mathlib.Core.Bool.{false}
 use mathlib.Core.List.{List}
 use Prim.Native.Nat.{ℕ}
 use Rattle.walk.specs.State.{Variable}

@@ -7,7 +7,6 @@ use native.Mathlib.Omega.{arith}
 use native.Mathlib.Decide.{decLt}
 use lib.ListN.{length}
 use lib.Pow.{pow-pos, pow-mono, shl-exact}
-use borrow.Author.Tests.{le-leb, lt-leb, le-ltb, lt-ltb}
 use Rattle.words.specs.ForkBits.{forkBits}
 use Rattle.engine_rows.specs.Rows.{Row, Rows}
 use Rattle.engine_rows.proofs.Priority.{fork-fits}

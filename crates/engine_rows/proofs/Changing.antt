@@ -7,7 +7,7 @@ use Prim.Native.Nat.{ℕ, suc, _+_}
 use lib.ListN.{length, length-set}
 use Rattle.listing.specs.Listing.{Listing}
 use Rattle.walk.specs.State.{Variable, Node, node, Forest, empty, more, liveInNode, liveInForest}
-use Rattle.walk.specs.Memory.{writeAt, inputAt}
+use Rattle.walk.specs.Memory.{inputAt}
 use Rattle.walk.specs.Instant.{dueWrites, dueInNode, dueInForest, unmarked, unmarkedNode, unmarkedForest, Write, applyInputs}
 use Rattle.engine_rows.specs.Rows.{Row, Rows, withOwn}
 use Rattle.engine_rows.specs.Beginning.{ownIf, dueInRows, unmarkedRows}

@@ -2,7 +2,7 @@
 -- Letters as in Place and Held.
 use mathlib.Core.Path.{_≡_, refl, sym, ap, ap₂, _∙_, fun-ext}
 use mathlib.Core.Bool.{Bool, true, false}
-use mathlib.Core.List.{List, [], _∷_}
+use mathlib.Core.List.{List, _∷_}
 use Prim.Native.Nat.{ℕ, zero, suc, _+_, _-_, _≤_, _<_}
 use native.Mathlib.Nat.{le-refl, add-zero, add-suc}
 use native.Mathlib.Omega.{arith}
@@ -11,7 +11,7 @@ use lib.ListN.{length}
 use borrow.Author.Tests.{lt-ltb, le-ltb}
 use Rattle.listing.specs.Listing.{Kind, byReference, byValue, Call, Listing}
 use Rattle.walk.specs.Memory.{addressOf, addressesOf, bindNames, consecutive, ownVariables, variableAt, namedIn}
-use Rattle.walk.specs.State.{Variable, newVariable}
+use Rattle.walk.specs.State.{Variable}
 use Rattle.walk.specs.Walk.{routineAt}
 use Rattle.engine_rows.specs.Engine.{Caller, childBindings, childRow, freeElse, freeSlot, ownBindings}
 use Rattle.engine_rows.specs.Rows.{Row, Rows, inSlot, withRow}

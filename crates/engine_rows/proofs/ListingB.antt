@@ -34,18 +34,22 @@ pressedAfter (ends rows environment left live woken) =
     (applyInputs (record { number = 0; value = 3 } ∷ []) (dueWrites 10 (unmarked environment))) live 100
 
 started : seenOf (startOnRows listingB 7 100) ≡ ended (newVariable 0 ∷ newVariable 0 ∷ []) 3 3 0
-unfolding seenOf startOnRows newEnvironment mainRow environmentCaller environmentBindings runRows executeRows forkRows rowsWithNew newSlots rowsWithChild callerAt childRow childBindings
-    ownVariables ownBindings freeSlot freeElse forkBits nextReady orHalt firstPlace countIf withRow chooseRow withChildren atPlace withOwn noRows freeRow named ownerOf variableOf variableAt
-    instructionAt routineAt noRoutine childCount environmentSize mainCall listingB noVariable newVariable
+unfolding seenOf startOnRows newEnvironment mainRow environmentCaller environmentBindings runRows executeRows forkRows rowsWithNew newSlots
+    rowsWithChild callerAt childRow childBindings ownVariables ownBindings freeSlot freeElse forkBits nextReady orHalt firstPlace
+    countIf withRow chooseRow withChildren atPlace withOwn noRows freeRow named ownerOf variableOf variableAt instructionAt routineAt
+    noRoutine childCount environmentSize mainCall listingB noVariable newVariable
 started = refl
 
 -- "Press 3 at 10: output 1 is 7, 5 steps." Both children wake, and main ends with them.
 pressed : seenOf (pressedAfter (startOnRows listingB 7 100)) ≡
     ended (record { value = 3; written = true; waiting = idle } ∷ record { value = 7; written = true; waiting = idle } ∷ []) 5 0 2
-unfolding seenOf pressedAfter startOnRows newEnvironment mainRow environmentCaller environmentBindings runRows executeRows forkRows rowsWithNew newSlots rowsWithChild callerAt childRow
-    childBindings ownVariables ownBindings freeSlot freeElse forkBits nextReady orHalt firstPlace countIf withRow chooseRow withChildren atPlace withOwn noRows freeRow named ownerOf
-    variableOf variableAt instructionAt routineAt noRoutine childCount environmentSize mainCall listingB noVariable newVariable instantOnRows dueInRows unmarkedRows ownIf filledRows filledAt
-    filledRow seen chooseSlot callsAt callsOf noCall isWait walkingOrder orderBelow orderIf insertInOrder beforeElse orderKey applyInputs inputAt inputTo dueWrites madeDue dueWrite madeIfDue
-    unmarkedOf unmarked triggersOf triggersBelow listIf listNames consIf sameOwner awaited awaitedBy readyOf readyBelow insertIf insert insertAt insertAll wakesNow anyNamedWritten triggered
-    consecutive rowsWith environmentWith writtenTo evaluateBy evaluatePieces evaluatePiece operate top endRows joinRows
+unfolding seenOf pressedAfter startOnRows newEnvironment mainRow environmentCaller environmentBindings runRows executeRows forkRows
+    rowsWithNew newSlots rowsWithChild callerAt childRow childBindings ownVariables ownBindings freeSlot freeElse forkBits nextReady
+    orHalt firstPlace countIf withRow chooseRow withChildren atPlace withOwn noRows freeRow named ownerOf variableOf variableAt
+    instructionAt routineAt noRoutine childCount environmentSize mainCall listingB noVariable newVariable instantOnRows dueInRows
+    unmarkedRows ownIf filledRows filledAt filledRow seen chooseSlot callsAt callsOf noCall isWait walkingOrder orderBelow orderIf
+    insertInOrder beforeElse orderKey applyInputs inputAt inputTo dueWrites madeDue dueWrite madeIfDue unmarkedOf unmarked triggersOf
+    triggersBelow listIf listNames consIf sameOwner awaited awaitedBy readyOf readyBelow insertIf insert insertAt insertAll wakesNow
+    anyNamedWritten triggered consecutive rowsWith environmentWith writtenTo evaluateBy evaluatePieces evaluatePiece operate top
+    endRows joinRows
 pressed = refl

@@ -6,9 +6,7 @@ use mathlib.Core.List.{List, [], _∷_, _++_}
 use Prim.Native.Nat.{ℕ, zero, suc, _+_, _*_, _-_, _/_, _^_, _≤_, _<_}
 use native.Mathlib.Nat.{le-refl, le-trans, add-zero, add-suc, pow-succ', mul-one, mul-left-comm, mul-le-mul-right, suc-mul}
 use native.Mathlib.Omega.{arith}
-use lib.Dec.{ltb}
 use lib.ListN.{length}
-use borrow.Author.Tests.{ltb-true, ltb-false}
 use Rattle.listing.specs.Listing.{Call, Listing}
 use Rattle.walk.specs.Memory.{addressesOf, bindNames, ownVariables, top, namedIn}
 use Rattle.walk.specs.State.{Variable}

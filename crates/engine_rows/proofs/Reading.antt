@@ -9,8 +9,8 @@ use native.Mathlib.Omega.{arith}
 use lib.Dec.{ltb}
 use lib.ListN.{length, set, length-append, List·getD-eq-default}
 use borrow.Author.Tests.{ltb-false}
-use Rattle.listing.specs.Listing.{Piece, less, literal, minus, plus, times, valueOf, writtenMark}
-use Rattle.walk.specs.Memory.{addressOf, evaluate, evaluatePiece, evaluatePieces, top, variableAt, evaluateBy}
+use Rattle.listing.specs.Listing.{Piece}
+use Rattle.walk.specs.Memory.{addressOf, evaluate, variableAt, evaluateBy}
 use Rattle.walk.specs.State.{Variable, noVariable}
 use Rattle.engine_rows.specs.Rows.{Rows, environmentWith, inSlot, named, ownerOf, variableOf}
 use Rattle.engine_rows.proofs.Place.{Frame, memoryOf, up}

@@ -8,9 +8,9 @@ use Prim.Native.Nat.{ℕ, zero, suc, _+_, _*_, _-_, _≤_, _<_}
 use native.Mathlib.Nat.{le-refl}
 use native.Mathlib.Omega.{arith}
 use lib.Dec.{ltb}
-use lib.ListN.{length, getD, set, drop, length-append, length-set, length-replicate}
+use lib.ListN.{length, getD, set, drop, length-append, length-set}
 use Rattle.listing.specs.Listing.{Listing, Kind, byReference, byValue, Call, fork}
-use Rattle.walk.specs.State.{Variable, newVariable}
+use Rattle.walk.specs.State.{Variable}
 use Rattle.walk.specs.Memory.{addressOf, addressesOf, bindNames, ownVariables, consecutive, top, namedIn}
 use Rattle.walk.specs.Walk.{routineAt, instructionAt, childCount}
 use Rattle.walk.specs.Question7.{ownedCount, ownedBy, boundNames}

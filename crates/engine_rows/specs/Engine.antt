@@ -4,11 +4,11 @@ use mathlib.Core.Bool.{Bool, true, false}
 use mathlib.Core.List.{List, [], _∷_, _++_}
 use Prim.Native.Nat.{ℕ, zero, suc, _+_, _*_, _-_, _^_}
 use lib.Dec.{eqb, ltb, leb}
-use lib.ListN.{length, replicate}
+use lib.ListN.{length}
 use Rattle.words.specs.Words.{isPositive}
 use Rattle.words.specs.Moments.{momentRange}
 use Rattle.listing.specs.Listing.{Listing, Call, Kind, byReference, byValue, Instruction, assign, schedule, branch, jump, wait, fork, end}
-use Rattle.walk.specs.State.{Variable, due, newVariable, writtenTo, scheduledOn}
+use Rattle.walk.specs.State.{Variable, writtenTo, scheduledOn}
 use Rattle.walk.specs.Walk.{routineAt, instructionAt, childCount, branchPlace}
 use Rattle.engine_rows.specs.Rows.{Owner, inSlot, Row, Rows, freeRow, withRow, atPlace, withChildren, variableOf, rowsWith, environmentWith, ownerOf, named}
 use Rattle.engine_rows.specs.Ready.{insertAll}

@@ -1,11 +1,10 @@
 -- A state that is reached, with every routine at an instruction and clean words, meets all that one step asks, and is read as a step is read.
 -- Letters: t the table's words, w the machine's, n the number of environment variables, u the running state; the others as in scheduler's Reachable.
 use mathlib.Core.Path.{_≡_, refl, sym, ap, subst, _∙_}
-use mathlib.Core.Bool.{Bool, true, false}
+use mathlib.Core.Bool.{true}
 use mathlib.Core.List.{List, [], _∷_}
 use Prim.Native.Nat.{ℕ, zero, suc, _+_, _*_, _^_, _≤_, _<_, min}
 use native.Mathlib.Omega.{arith}
-use lib.Dec.{ltb}
 use lib.ListN.{length}
 use Rattle.listing.specs.Listing.{Listing}
 use Rattle.walk.specs.State.{Variable}
@@ -40,7 +39,6 @@ use Rattle.engine_run.specs.Placed.{GoesOn, Placed}
 use Rattle.engine_run.proofs.Reaching.{ordered-of-rise, slots-of-order}
 use Rattle.engine_run.proofs.ReadyLive.{live-few, ready-live}
 use Rattle.engine_run.proofs.Parents.{parent-apart, parent-children}
-use Rattle.words.specs.ForkBits.{forkBits}
 use Rattle.words.proofs.ForkBits.{fork-bits-are-at-most-three}
 
 module _ (t w : List ℕ) (n moment : ℕ) (triggers : Owner → List ℕ) (T : TableFits (tableListing t)) (left : ℕ) (u : Running) (table : isTable t ≡ true)

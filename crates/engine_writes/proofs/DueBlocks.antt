@@ -6,7 +6,7 @@ use mathlib.Core.List.{List, [], _∷_}
 use Prim.Native.Nat.{ℕ, zero, suc, _+_, _*_, _≤_, _<_, min}
 use native.Mathlib.Decide.{ℕ-discrete}
 use native.Mathlib.Omega.{arith}
-use Rattle.walk.specs.State.{Variable, madeDue, dueWrite}
+use Rattle.walk.specs.State.{Variable, madeDue}
 use Rattle.walk.specs.Instant.{dueWrites}
 use Rattle.engine_rows.specs.Rows.{Row, withOwn}
 use Rattle.engine_rows.specs.Beginning.{ownIf}

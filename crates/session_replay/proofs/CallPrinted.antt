@@ -9,7 +9,7 @@ use native.Mathlib.Omega.{arith}
 use Rattle.listing.specs.Listing.{Listing}
 use Rattle.walk.specs.State.{State}
 use Rattle.walk.specs.Instant.{Write, nextDue, Done}
-use Rattle.walk.specs.Calls.{Words32, Outcome, done, outcomeNumber, outcomeListed, outcomeDue, MachineAfter, runs, numbersAfter, valuesAfter, inputsOf, firstWords, running}
+use Rattle.walk.specs.Calls.{Words32, Outcome, done, outcomeNumber, MachineAfter, runs, numbersAfter, valuesAfter, inputsOf, firstWords, running, noFigures, outcomeFigures}
 use Rattle.walk.specs.Events.{eventsAt}
 use Rattle.walk.specs.Promises.{Result, Keeps}
 use Rattle.walk.specs.Promises as promises
@@ -64,7 +64,7 @@ module _ (table before machine numbersBefore valuesBefore numbers values printed
   done-printed : (d : Done) → Keeps layout table before numbersBefore valuesBefore machine numbers values (done d) result → Moved t (done d) →
       MachineAfter layout table before machine (done d) →
       ResultPrinted result now t numbers values printedBefore out r → CallPrinted table machine out l (played now t (done d)) r
-  unfolding played promises.resultOf outcomeNumber outcomeListed outcomeDue numbersAfter valuesAfter
+  unfolding played promises.resultOf outcomeNumber noFigures outcomeFigures numbersAfter valuesAfter
   done-printed d keeps (moves at) (runs {listing = k} of-table of-machine zero size past) p =
       let same : k ≡ l = same-listing table l k reads of-table in
       let stands : layout .readMachine l (firstWords machine) ≡ some (running (d .state)) = subst (λ (x : Listing). layout .readMachine x (firstWords machine) ≡ some (running (d .state))) same of-machine in

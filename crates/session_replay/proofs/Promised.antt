@@ -9,7 +9,7 @@ use lib.Seq.{drop-at}
 use Rattle.listing.specs.Listing.{Listing}
 use Rattle.walk.specs.State.{State}
 use Rattle.walk.specs.Instant.{Write}
-use Rattle.walk.specs.Calls.{Outcome, outcomeListed, MachineAfter, untouched, halts, runs, haltedWords, numbersAfter, inputsOf, firstWords, laterWords, startOn, instantFrom}
+use Rattle.walk.specs.Calls.{Outcome, MachineAfter, untouched, halts, runs, haltedWords, numbersAfter, inputsOf, firstWords, laterWords, startOn, instantFrom}
 use Rattle.walk.specs.Promises.{Result, Keeps}
 use Rattle.walk.specs.Promises as promises
 use Rattle.walk.specs.Session.{sessionAllowance, played, callFrom}

@@ -8,8 +8,8 @@ use borrow.Author.Tests.{eqb-true, eq-eqb}
 use Rattle.test_cases.specs.Frame.{onward}
 use Rattle.test_cases.specs.Words.{Tells}
 use Rattle.test_cases.proofs.Telling.{tells-no, tells-same, tells-else}
-use Rattle.test_stored_calls.specs.Pairs.{fitting, PairsPut}
-use Rattle.test_stored_calls.specs.declared.reports.Report.{Report}
+use Rattle.test_stored_answers.specs.Pairs.{fitting, PairsPut}
+use Rattle.test_stored_answers.specs.declared.Report.{Report}
 use Rattle.test_stored_answers.specs.Answers.{AnswerAt, unlisted, AnswerRight}
 
 -- ── two reports compared part by part ─────────────────────────────────────────────────────────────

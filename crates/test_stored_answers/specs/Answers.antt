@@ -5,8 +5,8 @@ use Prim.Native.Nat.{ℕ}
 use lib.ListN.{replicate}
 use Rattle.test_cases.specs.Frame.{wordAt, onward, momentAt}
 use Rattle.test_lending.specs.Memories.{pattern}
-use Rattle.test_stored_calls.specs.Pairs.{fitting, PairsPut}
-use Rattle.test_stored_calls.specs.declared.reports.Report.{Report}
+use Rattle.test_stored_answers.specs.Pairs.{fitting, PairsPut}
+use Rattle.test_stored_answers.specs.declared.Report.{Report}
 
 -- the answer stored at a place
 pub record AnswerAt (s : List ℕ) (at : ℕ) (r : Report) : Type 0 where

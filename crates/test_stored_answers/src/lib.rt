@@ -1,8 +1,11 @@
 // The answer stored for a call: number, steps, outputs listed, 1 if a moment is due or else 0, that moment, a number and a value for each output.
+pub mod inputs;
+
 ghost use mathlib.Core.Path.{_≡_};
 ghost use Rattle.test_cases.specs.Words.{Tells};
-ghost use Rattle.test_stored_calls.specs.Pairs.{fitting, PairsPut};
+ghost use Rattle.test_stored_answers.specs.Pairs.{fitting, PairsPut};
 ghost use Rattle.test_stored_answers.specs.Answers.{AnswerAt, unlisted, AnswerRight};
+use crate::inputs::read_pairs;
 use test_cases::frame::moment_at;
 use test_cases::frame::past;
 use test_cases::frame::word_at;
@@ -10,11 +13,17 @@ use test_cases::memories::same;
 use test_cases::report::say;
 use test_cases::report::say_number;
 use test_lending::machine::PATTERN;
-use test_stored_calls::inputs::read_pairs;
-use test_stored_calls::reports::Report;
 
 // The words of an answer before its outputs.
 pub const ANSWER: usize = 24;
+
+// The number, the steps used, the outputs listed, and the next moment due, or 0 if none is (a moment due is at least 1).
+pub struct Report {
+    pub number: u32,
+    pub steps: u32,
+    pub listed: u32,
+    pub due: u64,
+}
 
 // The answer stored at a place: number, steps, outputs listed, whether a moment is due, and that moment or 0.
 fn answer_at(s: &[u8], at: usize) -> Report

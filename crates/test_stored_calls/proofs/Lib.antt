@@ -1,3 +1,2 @@
 pub mod Reporting
-pub mod Pairing
 pub mod Making

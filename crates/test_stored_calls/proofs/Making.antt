@@ -15,11 +15,11 @@ use Rattle.test_stored_calls.specs.Reports.{reportOf, Reported}
 use Rattle.test_lending.specs.Places.{lentPlaces, lentPart}
 use Rattle.test_lending.proofs.Lending.{lent-within}
 use Rattle.test_stored_calls.specs.Calls.{callOutcome, lentOutcome, storedOutcome, Made}
-use Rattle.test_stored_calls.specs.Pairs.{eachPair, valuesAt, PairsPut}
+use Rattle.test_stored_answers.specs.Pairs.{eachPair, valuesAt, PairsPut}
 use Rattle.test_cases.specs.Frame.{wordAt, onward}
-use Rattle.test_stored_calls.proofs.Pairing.{pairs-taken}
+use Rattle.test_stored_answers.proofs.Pairing.{pairs-taken}
 use Rattle.test_stored_calls.specs.declared.calls.Call.{Call}
-use Rattle.test_stored_calls.specs.declared.reports.Report.{Report}
+use Rattle.test_stored_answers.specs.declared.Report.{Report}
 
 -- ── from what the call left of the lent parts p, q and v ──────────────────────────────────────────
 pub made : (c : Call) (table machine numbers values p q v : List ℕ) (o : ℕ → ℕ → ℕ → ℕ → ℕ → Outcome) (r : Report) (lt lm ln lv lw lw′ : ℕ)

@@ -4,7 +4,7 @@ use Prim.Native.Nat.{ℕ, zero, suc}
 use Rattle.fabrwent.specs.Figures.{dueIn, resultIn, DueTold}
 use Rattle.fabrwent.specs.declared.calls.FabrwentCall.{FabrwentCall}
 use Rattle.test_stored_calls.specs.Reports.{dueFigure, reportOf}
-use Rattle.test_stored_calls.specs.declared.reports.Report.{Report}
+use Rattle.test_stored_answers.specs.declared.Report.{Report}
 
 -- a report of these figures
 report : ℕ → ℕ → ℕ → ℕ → Report

@@ -10,10 +10,10 @@ use Rattle.walk.specs.Promises.{resultOf}
 use Rattle.layout.specs.Layout.{layout}
 use Rattle.test_cases.specs.Frame.{wordAt, onward, momentAt}
 use Rattle.test_lending.specs.Places.{lentPlaces, lentPart}
-use Rattle.test_stored_calls.specs.Pairs.{numbersAt, valuesAt}
+use Rattle.test_stored_answers.specs.Pairs.{numbersAt, valuesAt}
 use Rattle.test_stored_calls.specs.Reports.{reportOf}
 use Rattle.test_stored_calls.specs.declared.calls.Call.{Call}
-use Rattle.test_stored_calls.specs.declared.reports.Report.{Report}
+use Rattle.test_stored_answers.specs.declared.Report.{Report}
 
 pub record CallAt (s : List ℕ) (at : ℕ) (r : Call) : Type 0 where
   pub kindIs : r .kind ≡ wordAt s at

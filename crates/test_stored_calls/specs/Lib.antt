@@ -1,3 +1,2 @@
 pub mod Reports
-pub mod Pairs
 pub mod Calls

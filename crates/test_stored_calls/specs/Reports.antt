@@ -6,7 +6,7 @@ use Rattle.walk.specs.Instant.{NextDue, never, moment}
 use Rattle.walk.specs.Calls.{Outcome, MachineAfter, numbersAfter, valuesAfter}
 use Rattle.walk.specs.Promises.{Result, resultOf}
 use Rattle.layout.specs.Layout.{layout}
-use Rattle.test_stored_calls.specs.declared.reports.Report.{Report}
+use Rattle.test_stored_answers.specs.declared.Report.{Report}
 
 -- a moment due as itself, and 0 if none is: a moment due is at least 1
 unfoldable pub dueFigure : NextDue → ℕ

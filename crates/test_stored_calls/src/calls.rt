@@ -4,8 +4,6 @@
 ghost use mathlib.Core.Path.{_≡_};
 ghost use Rattle.test_stored_calls.specs.Calls.{CallAt, answerPlace, callOutcome, lentOutcome, storedOutcome, Made};
 ghost use Rattle.test_stored_calls.specs.Reports.{Reported};
-use crate::inputs::read_pairs;
-use crate::reports::Report;
 use crate::reports::report_in;
 use test_cases::frame::moment_at;
 use test_cases::frame::past;
@@ -13,6 +11,8 @@ use test_cases::frame::word_at;
 use test_lending::places::all_but_one;
 use test_lending::places::least;
 use test_lending::places::lent;
+use test_stored_answers::Report;
+use test_stored_answers::inputs::read_pairs;
 
 // The kind (0 the start, 1 an instant), what is spoilt, the moment, the allowance, how many inputs, and where they stand.
 pub struct Call {

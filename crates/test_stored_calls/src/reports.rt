@@ -3,14 +3,7 @@ ghost use mathlib.Core.Path.{_≡_};
 ghost use Rattle.fabrwent.specs.Figures.{resultIn, DueTold};
 ghost use Rattle.test_stored_calls.specs.Reports.{reportOf};
 use fabrwent::FabrwentCall;
-
-// The number, the steps used, the outputs listed, and the next moment due, or 0 if none is (a moment due is at least 1).
-pub struct Report {
-    pub number: u32,
-    pub steps: u32,
-    pub listed: u32,
-    pub due: u64,
-}
+use test_stored_answers::Report;
 
 // The figures of an exported call.
 pub fn report_in(ran: FabrwentCall) -> Report

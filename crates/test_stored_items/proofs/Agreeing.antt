@@ -16,7 +16,7 @@ use Rattle.test_lending.specs.Places.{spoiltFirst, spoiltTable, spoiltMachine}
 use Rattle.test_stored_calls.specs.Calls.{CallAt, answerPlace, numbersLeft, valuesLeft, Made}
 use Rattle.test_stored_calls.specs.Reports.{reportOf}
 use Rattle.test_stored_calls.specs.declared.calls.Call.{Call}
-use Rattle.test_stored_calls.specs.declared.reports.Report.{Report}
+use Rattle.test_stored_answers.specs.declared.Report.{Report}
 use Rattle.test_stored_answers.specs.Answers.{unlisted, AnswerRight}
 use Rattle.test_stored_items.specs.Calls.{outcomeOf, CallAgrees, RanCall, RanSpoilt}
 use Rattle.test_stored_items.specs.Items.{afterCall, afterItem}

@@ -7,7 +7,7 @@ use Prim.Native.Nat.{ℕ}
 use Rattle.words.specs.Words.{bit}
 use Rattle.listing.specs.Listing.{Listing, byReference, wait, jump}
 use Rattle.walk.specs.State.{idle, due, Variable, node, Forest, empty, more, State}
-use Rattle.walk.specs.Calls.{Machine, halted, running, Outcome, refused, stopped, done, isStop, outcomeNumber, outcomePlace, outcomeSteps, numbersAfter, valuesAfter}
+use Rattle.walk.specs.Calls.{Machine, halted, running, Outcome, refused, stopped, done, isStop, outcomeNumber, outcomePlace, outcomeFigures, numbersAfter, valuesAfter}
 use Rattle.walk.specs.Comparison as Comparison
 use Rattle.walk.specs.Comparison.{Compared, notCompared, compared, comparedNumber, comparedPlace, comparedAlike, bothStates}
 use Rattle.walk.specs.Evaluation.{callsQuoted}
@@ -54,9 +54,9 @@ listsTwo = done (record { state = atFive; steps = 4; listed = 1 ≔ 7 ∷ 3 ≔ 
 -- "A call that goes through has number 0 and place 0"; "place 0 from here on"; a refusal's and a stop's "other result figures are 0".
 abbrev pub figures : List (Claim ℕ)
 figures =
-    outcomeNumber listsTwo gives 0 ∷ outcomePlace listsTwo gives 0 ∷ outcomeSteps listsTwo gives 4 ∷
-    outcomeNumber (refused 9) gives 9 ∷ outcomePlace (refused 9) gives 0 ∷ outcomeSteps (refused 9) gives 0 ∷
-    outcomeNumber (stopped 13) gives 13 ∷ outcomePlace (stopped 13) gives 0 ∷ outcomeSteps (stopped 13) gives 0 ∷
+    outcomeNumber listsTwo gives 0 ∷ outcomePlace listsTwo gives 0 ∷ (outcomeFigures listsTwo) .steps gives 4 ∷
+    outcomeNumber (refused 9) gives 9 ∷ outcomePlace (refused 9) gives 0 ∷ (outcomeFigures (refused 9)) .steps gives 0 ∷
+    outcomeNumber (stopped 13) gives 13 ∷ outcomePlace (stopped 13) gives 0 ∷ (outcomeFigures (stopped 13)) .steps gives 0 ∷
     comparedNumber (compared true) gives 0 ∷ comparedNumber (compared false) gives 0 ∷ comparedNumber (notCompared 7) gives 7 ∷
     comparedPlace (compared true) gives 0 ∷ comparedPlace (notCompared 7) gives 0 ∷
     bit (comparedAlike (compared true)) gives 1 ∷ bit (comparedAlike (compared false)) gives 0 ∷ bit (comparedAlike (notCompared 7)) gives 0 ∷

@@ -67,21 +67,24 @@ outcomeNumber (done d) = 0
 unfoldable pub outcomePlace : Outcome → ℕ
 outcomePlace o = 0
 
+-- The figures beside number and place: the steps used, the outputs listed, the waits passed, the next moment due.
+pub record Figures : Type 0 where
+  pub steps : ℕ
+  pub listed : List Write
+  pub woken : ℕ
+  pub due : NextDue
+
 -- "a refusal[’s] other result figures are 0 and due is none"; "the result [of a stop] is as for a refusal"
-unfoldable pub outcomeSteps : Outcome → ℕ
-outcomeSteps (refused k) = 0
-outcomeSteps (stopped k) = 0
-outcomeSteps (done d) = d .steps
+unfoldable pub noFigures : Figures
+noFigures = record { steps = 0; listed = []; woken = 0; due = never }
 
-unfoldable pub outcomeListed : Outcome → List Write
-outcomeListed (refused k) = []
-outcomeListed (stopped k) = []
-outcomeListed (done d) = d .listed
+unfoldable pub outcomeFigures : Outcome → Figures
+outcomeFigures (refused k) = noFigures
+outcomeFigures (stopped k) = noFigures
+outcomeFigures (done d) = record { steps = d .steps; listed = d .listed; woken = d .woken; due = nextDue (d .state) }
 
-unfoldable pub outcomeDue : Outcome → NextDue
-outcomeDue (refused k) = never
-outcomeDue (stopped k) = never
-outcomeDue (done d) = nextDue (d .state)
+abbrev pub outcomeListed : Outcome → List Write
+outcomeListed o = (outcomeFigures o) .listed
 
 -- What the lent machine memory holds after a call on a table that stands for the listing (if it stands for one).
 pub data MachineAfter (layout : Layout) (table before after : List ℕ) : Outcome → Type 0 where

@@ -17,7 +17,7 @@ use Rattle.walk.specs.Trace as Trace
 use Rattle.walk.specs.Session as Session
 use Rattle.walk.specs.Runs as Runs
 use Rattle.walk.specs.Instant.{Write, NextDue}
-use Rattle.walk.specs.Calls.{Outcome, outcomeNumber, outcomeSteps, outcomeListed, outcomeDue, startOn}
+use Rattle.walk.specs.Calls.{Outcome, outcomeNumber, outcomeFigures, startOn}
 use Rattle.walk.specs.Session.{session, sessionOf}
 use Rattle.walk.specs.Runs.{InstantCall, Answered, answersFrom, machineAfter}
 
@@ -29,7 +29,7 @@ pub record Seen : Type 0 where
   pub due : NextDue
 
 unfoldable pub seen : Outcome → Seen
-seen o = record { number = outcomeNumber o; steps = outcomeSteps o; listed = outcomeListed o; due = outcomeDue o }
+seen o = let f = outcomeFigures o in record { number = outcomeNumber o; steps = f .steps; listed = f .listed; due = f .due }
 
 unfoldable pub allSeen : List Answered → List Seen
 allSeen [] = []
@@ -43,55 +43,32 @@ seenOn (loaded listing) allowance calls =
 
 -- A list of calls on a quoted listing, and a session of a quoted listing and trace.
 unfoldable pub callsQuoted : String → ℕ → List InstantCall → List Seen
-unfolding load
+unfolding load seen allSeen seenOn
     Bytes.bytesOf
-    State.noVariable State.newVariable State.writtenTo State.inputTo State.scheduledOn State.unmarkedOf State.madeIfDue State.dueWrite State.madeDue
-    State._⊕_ State._>>=_ State.liveInNode
-    Memory.variableAt Memory.writeAt Memory.inputAt Memory.scheduleAt Memory.addressOf Memory.addressesOf Memory.anyWritten Memory.operate
-    Memory.evaluatePiece Memory.evaluatePieces Memory.top Memory.evaluateBy Memory.evaluate Memory.consecutive Memory.bindNames Memory.ownVariables
-    Walk.noRoutine Walk.routineAt Walk.instructionAt Walk.newRoutine Walk.newRoutines Walk.childCount Walk.enter Walk.sleep Walk.leave Walk.inTurn
-    Walk.begin Walk.join Walk.asking Walk.branchPlace Walk.move Walk.carryOut Walk.execute Walk.step Walk.run Walk.passedWait Walk.wake Walk.resume
-    Walk.visit
-    Instant.dueWrites Instant.applyInputs Instant.unmarked Instant.earlierOf Instant.earlier Instant.dueOf Instant.dueOfVariables Instant.nextDue
-    Instant.listedIf Instant.writtenFrom Instant.writtenOutputs Instant.finish Instant.environmentSize Instant.mainCall Instant.environmentNames
-    Instant.start Instant.instant Instant.dueInNode Instant.unmarkedNode Instant.dueOfNode
-    Calls.isStop Calls.haltedWords Calls.outcomeNumber Calls.outcomePlace Calls.outcomeSteps Calls.outcomeListed Calls.outcomeDue Calls.numbersAfter
-    Calls.valuesAfter Calls.ask Calls.found Calls.unstopped Calls.dueBefore Calls.inputsRise Calls.allowed Calls.answered Calls.startLongEnough
-    Calls.instantLongEnough Calls.inputsOf Calls.startOn Calls.instantFrom Calls.startCall Calls.instantCall
+    State.noVariable State.newVariable State.writtenTo State.inputTo State.scheduledOn State.unmarkedOf State.madeIfDue State.dueWrite
+    State.madeDue State._⊕_ State._>>=_ State.liveInNode
+    Memory.variableAt Memory.writeAt Memory.inputAt Memory.scheduleAt Memory.addressOf Memory.addressesOf Memory.anyWritten
+    Memory.operate Memory.evaluatePiece Memory.evaluatePieces Memory.top Memory.evaluateBy Memory.evaluate Memory.consecutive
+    Memory.bindNames Memory.ownVariables
+    Walk.noRoutine Walk.routineAt Walk.instructionAt Walk.newRoutine Walk.newRoutines Walk.childCount Walk.enter Walk.sleep Walk.leave
+    Walk.inTurn Walk.begin Walk.join Walk.asking Walk.branchPlace Walk.move Walk.carryOut Walk.execute Walk.step Walk.run
+    Walk.passedWait Walk.wake Walk.resume Walk.visit
+    Instant.dueWrites Instant.applyInputs Instant.unmarked Instant.earlierOf Instant.earlier Instant.dueOf Instant.dueOfVariables
+    Instant.nextDue Instant.listedIf Instant.writtenFrom Instant.writtenOutputs Instant.finish Instant.environmentSize
+    Instant.mainCall Instant.environmentNames Instant.start Instant.instant Instant.dueInNode Instant.unmarkedNode Instant.dueOfNode
+    Calls.isStop Calls.haltedWords Calls.outcomeNumber Calls.outcomePlace Calls.noFigures Calls.outcomeFigures Calls.numbersAfter
+    Calls.valuesAfter Calls.ask Calls.found Calls.unstopped Calls.dueBefore Calls.inputsRise Calls.allowed Calls.answered
+    Calls.startLongEnough Calls.instantLongEnough Calls.inputsOf Calls.startOn Calls.instantFrom Calls.startCall Calls.instantCall
     Events.eventsAt
-    Trace.readBelow Trace.readSigned Trace.readTraceFields Trace.readTraceLine Trace.joinInput Trace.withInput Trace.withLine Trace.scriptOf
-    Trace.script
-    Session.played Session.afterThen Session.andThen Session.callFrom Session.dueNext Session.dueOr Session.dueInstantsBefore Session.allDueBefore
-    Session.endCode Session.play Session.playAll Session.writeLine Session.writeLines Session.endLine Session.endOf Session.printed Session.onLoading
-    Session.beforeLoading Session.sessionOf Session.session
-    Runs.callOn Runs.machineAfter Runs.answersFrom Runs.acceptedBy Runs.accepted Runs.reported Runs.timeAfter Runs.timeFrom Runs.answers
-    Runs.acceptedInputs Runs.reportedWrites Runs.timeOf
-    seen allSeen seenOn
+    Trace.readBelow Trace.readSigned Trace.readTraceFields Trace.readTraceLine Trace.joinInput Trace.withInput Trace.withLine
+    Trace.scriptOf Trace.script
+    Session.played Session.afterThen Session.andThen Session.callFrom Session.dueNext Session.dueOr Session.dueInstantsBefore
+    Session.allDueBefore Session.endCode Session.play Session.playAll Session.writeLine Session.writeLines Session.endLine
+    Session.endOf Session.printed Session.onLoading Session.beforeLoading Session.sessionOf Session.session
+    Runs.callOn Runs.machineAfter Runs.answersFrom Runs.acceptedBy Runs.accepted Runs.reported Runs.timeAfter Runs.timeFrom
+    Runs.answers Runs.acceptedInputs Runs.reportedWrites Runs.timeOf
 callsQuoted listing allowance calls = seenOn (load (bytesOf listing)) allowance calls
 
 unfoldable pub sessionQuoted : String → String → Bytes
-unfolding load
-    Bytes.bytesOf Bytes.digits Bytes.figure
-    Text.signedFigure
-    State.noVariable State.newVariable State.writtenTo State.inputTo State.scheduledOn State.unmarkedOf State.madeIfDue State.dueWrite State.madeDue
-    State._⊕_ State._>>=_ State.liveInNode
-    Memory.variableAt Memory.writeAt Memory.inputAt Memory.scheduleAt Memory.addressOf Memory.addressesOf Memory.anyWritten Memory.operate
-    Memory.evaluatePiece Memory.evaluatePieces Memory.top Memory.evaluateBy Memory.evaluate Memory.consecutive Memory.bindNames Memory.ownVariables
-    Walk.noRoutine Walk.routineAt Walk.instructionAt Walk.newRoutine Walk.newRoutines Walk.childCount Walk.enter Walk.sleep Walk.leave Walk.inTurn
-    Walk.begin Walk.join Walk.asking Walk.branchPlace Walk.move Walk.carryOut Walk.execute Walk.step Walk.run Walk.passedWait Walk.wake Walk.resume
-    Walk.visit
-    Instant.dueWrites Instant.applyInputs Instant.unmarked Instant.earlierOf Instant.earlier Instant.dueOf Instant.dueOfVariables Instant.nextDue
-    Instant.listedIf Instant.writtenFrom Instant.writtenOutputs Instant.finish Instant.environmentSize Instant.mainCall Instant.environmentNames
-    Instant.start Instant.instant Instant.dueInNode Instant.unmarkedNode Instant.dueOfNode
-    Calls.isStop Calls.haltedWords Calls.outcomeNumber Calls.outcomePlace Calls.outcomeSteps Calls.outcomeListed Calls.outcomeDue Calls.numbersAfter
-    Calls.valuesAfter Calls.ask Calls.found Calls.unstopped Calls.dueBefore Calls.inputsRise Calls.allowed Calls.answered Calls.startLongEnough
-    Calls.instantLongEnough Calls.inputsOf Calls.startOn Calls.instantFrom Calls.startCall Calls.instantCall
-    Events.eventsAt
-    Trace.readBelow Trace.readSigned Trace.readTraceFields Trace.readTraceLine Trace.joinInput Trace.withInput Trace.withLine Trace.scriptOf
-    Trace.script
-    Session.played Session.afterThen Session.andThen Session.callFrom Session.dueNext Session.dueOr Session.dueInstantsBefore Session.allDueBefore
-    Session.endCode Session.play Session.playAll Session.writeLine Session.writeLines Session.endLine Session.endOf Session.printed Session.onLoading
-    Session.beforeLoading Session.sessionOf Session.session
-    Runs.callOn Runs.machineAfter Runs.answersFrom Runs.acceptedBy Runs.accepted Runs.reported Runs.timeAfter Runs.timeFrom Runs.answers
-    Runs.acceptedInputs Runs.reportedWrites Runs.timeOf
+unfolding callsQuoted Bytes.digits Bytes.figure Text.signedFigure
 sessionQuoted listing trace = session (bytesOf listing) (bytesOf trace)

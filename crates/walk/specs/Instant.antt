@@ -2,7 +2,7 @@
 use mathlib.Core.Bool.{Bool, true, false}
 use mathlib.Core.List.{List, [], _∷_}
 use Prim.Native.Nat.{ℕ, suc, _+_, _-_}
-use lib.Dec.{eqb, leb}
+use lib.Dec.{leb}
 use lib.ListN.{drop, replicate}
 use Rattle.listing.specs.Listing.{Listing, Call}
 use Rattle.walk.specs.State.{Waiting, idle, due, Variable, newVariable, madeDue, unmarkedOf, Node, node, Forest, empty, more, liveInForest, State, Running, newRunning, Turn, Result, ok, _>>=_}

@@ -7,7 +7,7 @@ use lib.ListN.{length}
 use Rattle.listing.specs.Listing.{Listing}
 use Rattle.listing.specs.Load.{Loading, refused, loaded, loading, isLongEnough}
 use Rattle.walk.specs.Instant.{NextDue}
-use Rattle.walk.specs.Calls.{Layout, Outcome, outcomeNumber, outcomePlace, outcomeSteps, outcomeListed, outcomeDue, MachineAfter, numbersAfter, valuesAfter, firstWords, laterWords, startCall, instantCall}
+use Rattle.walk.specs.Calls.{Layout, Outcome, outcomeNumber, outcomePlace, outcomeFigures, MachineAfter, numbersAfter, valuesAfter, firstWords, laterWords, startCall, instantCall}
 
 -- The result of a start or an instant call: number, place, steps used, outputs listed, next moment due.
 pub record Result : Type 0 where
@@ -19,7 +19,8 @@ pub record Result : Type 0 where
 
 unfoldable pub resultOf : Outcome → Result
 resultOf o =
-    record { number = outcomeNumber o; place = outcomePlace o; steps = outcomeSteps o; listed = length (outcomeListed o); due = outcomeDue o }
+    let f = outcomeFigures o in
+    record { number = outcomeNumber o; place = outcomePlace o; steps = f .steps; listed = length (f .listed); due = f .due }
 
 -- A call with outcome o on a table, which found these words in the machine and in the two output lists, left those, and gave this result.
 pub record Keeps (layout : Layout) (table machine numbers values machine′ numbers′ values′ : List ℕ) (o : Outcome) (r : Result) : Type 0 where

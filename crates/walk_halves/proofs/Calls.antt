@@ -11,7 +11,7 @@ use lib.Dec.{ltb}
 use Rattle.listing.specs.Listing.{Listing}
 use Rattle.walk.specs.State.{State, Result, stop, ok}
 use Rattle.walk.specs.Instant.{nextDue, Done, instant}
-use Rattle.walk.specs.Calls.{halted, running, Outcome, refused, stopped, done, ask, unstopped, dueBefore, inputsRise, allowed, answered, instantFrom, outcomeListed}
+use Rattle.walk.specs.Calls.{halted, running, Outcome, refused, stopped, done, ask, unstopped, dueBefore, inputsRise, allowed, answered, instantFrom, noFigures, outcomeFigures}
 use Rattle.walk.specs.Events.{Event, eventsAt}
 use Rattle.walk.specs.Runs.{InstantCall, callOn, machineAfter, Answered, answersFrom, acceptedBy, accepted, reported, timeAfter, timeFrom}
 use Rattle.walk_halves.specs.Halves.{onlyOf}
@@ -92,18 +92,18 @@ module _ (g : Grower) where
 
   after-refusal : (n j : ℕ) (p : Part) (k : InstantCall) (xs : List Answered) → Traced n p xs →
       Traced n p (record { call = k; outcome = refused j } ∷ xs)
-  unfolding accepted acceptedBy reported outcomeListed eventsAt timeFrom timeAfter
+  unfolding accepted acceptedBy reported noFigures outcomeFigures eventsAt timeFrom timeAfter
   after-refusal n j p k xs rest = record { steps = rest .steps; follow = rest .follow; inputs = rest .inputs; reports = rest .reports; end = rest .end }
 
   after-stop : (n j : ℕ) (p : Part) (k : InstantCall) (xs : List Answered) → Traced n p xs → Traced n p (record { call = k; outcome = stopped j } ∷ xs)
-  unfolding accepted acceptedBy reported outcomeListed eventsAt timeFrom timeAfter
+  unfolding accepted acceptedBy reported noFigures outcomeFigures eventsAt timeFrom timeAfter
   after-stop n j p k xs rest = record { steps = rest .steps; follow = rest .follow; inputs = rest .inputs; reports = rest .reports; end = rest .end }
 
   module _ (listing : Listing) (setting : Setting g listing) where
     after-done : (s : State) (p : Part) (k : InstantCall) (d : Done) (xs : List Answered) → Passed listing s k d →
         (step : Stepped g listing (k .time) (k .inputs) p d) → Traced (k .time) (step .part) xs →
         Traced (s .now) p (record { call = k; outcome = done d } ∷ xs)
-    unfolding allInputs allReports endOf accepted acceptedBy reported outcomeListed timeFrom timeAfter
+    unfolding allInputs allReports endOf accepted acceptedBy reported noFigures outcomeFigures timeFrom timeAfter
     after-done s p k d xs through step rest =
         let listed = eventsAt (k .time) (d .listed) in
         record {

@@ -4,14 +4,9 @@ use Prim.Native.Nat.{ℕ}
 use Rattle.listing.specs.Lists as Lists
 use Rattle.listing.specs.Listing.{Call}
 use Rattle.walk.specs.State as State
-use Rattle.walk.specs.Memory as Memory
-use Rattle.walk.specs.Walk as Walk
-use Rattle.walk.specs.Instant as Instant
 use Rattle.walk.specs.Instant.{Done}
-use Rattle.walk.specs.Calls as Calls
+use Rattle.walk.specs.Evaluation.{callsQuoted}
 use Rattle.walk.specs.Calls.{Outcome, refused, stopped, done, outcomeNumber, startOn}
-use Rattle.walk.specs.Events as Events
-use Rattle.walk.specs.Runs as Runs
 use Rattle.walk.specs.Events.{Event}
 use Rattle.walk.specs.Runs.{Run, Answered, answers, acceptedInputs, reportedWrites, timeOf}
 use Rattle.walk_halves.specs.Halves as Halves
@@ -24,18 +19,7 @@ doneOf (stopped k) = record { state = record { now = 0; environment = []; tree =
 doneOf (done d) = d
 
 unfoldable pub startOf : Run → Done
-unfolding State.noVariable State.newVariable State.writtenTo State.inputTo State.scheduledOn State.unmarkedOf State.madeIfDue State.dueWrite State.madeDue State._⊕_ State._>>=_ State.liveInNode Memory.variableAt Memory.writeAt Memory.inputAt Memory.scheduleAt Memory.addressOf
-    Memory.addressesOf Memory.anyWritten Memory.operate Memory.evaluatePiece Memory.evaluatePieces Memory.top Memory.evaluateBy Memory.evaluate
-    Memory.consecutive Memory.bindNames Memory.ownVariables Walk.noRoutine Walk.routineAt Walk.instructionAt Walk.newRoutine
-    Walk.newRoutines Walk.childCount Walk.enter Walk.sleep Walk.leave Walk.inTurn Walk.begin Walk.join Walk.asking
-    Walk.branchPlace Walk.move Walk.carryOut Walk.execute Walk.step Walk.run Walk.passedWait Walk.wake Walk.resume Walk.visit
-    Instant.dueWrites Instant.applyInputs Instant.unmarked Instant.earlierOf Instant.earlier Instant.dueOf
-    Instant.dueOfVariables Instant.nextDue Instant.listedIf Instant.writtenFrom Instant.writtenOutputs Instant.finish Instant.environmentSize
-    Instant.mainCall Instant.environmentNames Instant.start Instant.instant Instant.dueInNode Instant.unmarkedNode Instant.dueOfNode
-    Calls.outcomeNumber Calls.outcomeListed Calls.ask Calls.unstopped Calls.dueBefore Calls.inputsRise Calls.allowed Calls.answered
-    Calls.startOn Calls.instantFrom Runs.callOn Runs.machineAfter Runs.answersFrom Events.eventsAt Runs.acceptedBy Runs.accepted
-    Runs.reported Runs.timeAfter Runs.timeFrom Runs.answers Runs.acceptedInputs Runs.reportedWrites Runs.timeOf Lists.all Halves.among
-    Halves.shareNone Halves.allApart Halves.calledByReference Halves.keptIf Halves.onlyOf doneOf
+unfolding callsQuoted Lists.all Halves.among Halves.shareNone Halves.allApart Halves.calledByReference Halves.keptIf Halves.onlyOf doneOf
 startOf run = doneOf (startOn (run .listing) (run .allowance))
 
 unfoldable pub numbersOf : List Answered → List ℕ

@@ -10,7 +10,7 @@ use lib.Dec.{ltb, leb}
 use lib.ListN.{length, take, length-set, List·getD-append}
 use lib.Seq.{set-append-left}
 use Rattle.walk.specs.State.{Variable, noVariable, inputTo, writtenTo}
-use Rattle.walk.specs.Memory.{variableAt, writeAt, inputAt}
+use Rattle.walk.specs.Memory.{variableAt, inputAt}
 use Rattle.walk.specs.Instant.{dueWrites, Write, applyInputs, unmarked, dueOfVariables}
 use Rattle.walk.specs.Calls.{inputsRise}
 use Rattle.walk_laws.proofs.Booleans.{and-left, and-right}

@@ -12,7 +12,7 @@ use lib.Dec.{leb, ltb}
 use lib.ListN.{length, getD, take, drop, set, length-append, length-drop, length-set, List·getD-append, List·getD-eq-default}
 use lib.Seq.{getD-set-same, getD-set-other, set-out, getD-take, getD-drop, getD-append-add, ext-getD, length-take-le}
 use Rattle.words.specs.Words.{isPositive}
-use Rattle.listing.specs.Listing.{Piece, literal, valueOf, writtenMark, plus, minus, times, less, Kind, byReference, byValue}
+use Rattle.listing.specs.Listing.{Piece, Kind, byReference, byValue}
 use Rattle.walk.specs.State.{Variable, noVariable, newVariable, writtenTo, scheduledOn}
 use Rattle.walk.specs.Memory.{variableAt, writeAt, scheduleAt, nowhere, addressOf, addressesOf, anyWritten, namedIn, evaluateBy, evaluate, consecutive, bindNames, ownVariables}
 use Rattle.walk.specs.Instant.{earlier, dueOf, dueOfVariables}

@@ -10,7 +10,7 @@ use lib.ListN.{length, length-append, length-set}
 use Rattle.words.specs.Words.{isPositive}
 use Rattle.listing.specs.Listing.{Listing, Piece, Call, Instruction, assign, schedule, branch, jump, wait, fork, end}
 use Rattle.walk.specs.State.{Variable, Node, node, Forest, empty, more, Frame, frame, goTo, next, Running, Turn, Result, withLeft}
-use Rattle.walk.specs.Memory.{writeAt, scheduleAt, addressOf, addressesOf, evaluate}
+use Rattle.walk.specs.Memory.{writeAt, scheduleAt, addressOf, evaluate}
 use Rattle.walk.specs.Walk.{routineAt, instructionAt, instructionOf, newRoutine, newRoutines, enter, Runner, begin, Move, goesTo, sleeps, forks, ends, stops, asking, move, carryOut, execute, step, run, passedWait, wake, resume, visit, visitForest}
 use Rattle.walk.specs.Instant.{dueOfVariables, dueOfNode, dueOfForest}
 use Rattle.walk_halves.proofs.Due.{NotBefore, nothing-due, neither-before}

@@ -14,7 +14,7 @@ use Rattle.words.specs.Words.{isPositive}
 use Rattle.words.specs.Moments.{momentRange}
 use Rattle.listing.specs.Listing.{Listing, Call, Instruction, assign, schedule, branch, jump, wait, fork, end}
 use Rattle.walk.specs.State.{Variable, Node, Forest, empty, more, _⊕_, Running, Turn, Result, _>>=_, withMemory, Frame, frame}
-use Rattle.walk.specs.Memory.{writeAt, scheduleAt, addressOf, addressesOf, evaluate, ownVariables, namedIn}
+use Rattle.walk.specs.Memory.{writeAt, scheduleAt, addressOf, evaluate, ownVariables, namedIn}
 use Rattle.walk.specs.Walk.{routineAt, instructionAt, newRoutine, newRoutines, childCount, enter, sleep, leave, Runner, inTurn, begin, join, Move, goesTo, sleeps, forks, ends, stops, asking, move, carryOut, execute, step, run, passedWait, wake, resume, visit, visitForest}
 use Rattle.walk.specs.Question7.{ownedBy, boundNames, MadeBy, Asleep, waits, joins, LiveChildren, no-more, ended, lives, someAlive}
 use Rattle.walk_laws.proofs.Booleans.{and-left, and-right}

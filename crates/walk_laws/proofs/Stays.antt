@@ -17,7 +17,7 @@ use Rattle.walk.specs.Instant.{Write, Done, dueWrites, dueInForest, applyInputs
 use Rattle.walk.specs.Question7.{allAtRest, LiveChildren, no-more, ended, lives, IsState}
 use Rattle.walk_laws.proofs.Booleans.{and-left, and-right}
 use Rattle.walk_laws.proofs.Results.{IfOk, stopped, answered, holds-of-answer, weaken-if-ok}
-use Rattle.walk_laws.proofs.AtRest.{allSteady, write-steady, replicate-steady, unmarked-at-rest, length-unmarked, LiteralsAreWords, input-steady}
+use Rattle.walk_laws.proofs.AtRest.{allSteady, replicate-steady, unmarked-at-rest, length-unmarked, LiteralsAreWords, input-steady}
 use Rattle.walk_laws.proofs.Shape.{length-dueWrites, due-writes-keep-live, due-writes-keep-children, unmarking-keeps-live, unmarking-keeps-children}
 use Rattle.walk.specs.Calls.{dueBefore}
 use Rattle.walk_laws.proofs.Due.{neither-due-before, due-writes-steady, next-due-after-now}

@@ -1,5 +1,5 @@
 use Rattle.test_stored_answers.proofs.Answering.{other-part, by-due}
-use Rattle.test_stored_calls.specs.declared.reports.Report.{Report}
+use Rattle.test_stored_answers.specs.declared.Report.{Report}
 use Rattle.test_stored_answers.proofs.same_reports.Statement.{statement}
 use Rattle.test_stored_answers.proofs.same_reports.Tie as tie
 

@@ -8,7 +8,7 @@ use lib.ListN.{length, set, take, drop, length-set}
 use lib.Seq.{take-append-seam}
 use Rattle.test_cases.specs.Frame.{wordAt, onward}
 use Rattle.test_cases.proofs.Storing.{put-next}
-use Rattle.test_stored_calls.specs.Pairs.{eachPair, numbersAt, valuesAt, PairsPut}
+use Rattle.test_stored_answers.specs.Pairs.{eachPair, numbersAt, valuesAt, PairsPut}
 
 -- the place of a pair
 unfoldable pub pairPlace : List ℕ → ℕ → ℕ → ℕ

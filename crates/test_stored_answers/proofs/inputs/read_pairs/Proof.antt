@@ -4,11 +4,11 @@ use native.Mathlib.Omega.{arith}
 use denote.Ref.{now}
 use lib.ListN.{length}
 use Rattle.test_cases.specs.Frame.{wordAt}
-use Rattle.test_stored_calls.specs.Pairs.{fitting}
-use Rattle.test_stored_calls.proofs.Pairing.{Reading, begun, turn, ended}
+use Rattle.test_stored_answers.specs.Pairs.{fitting}
+use Rattle.test_stored_answers.proofs.Pairing.{Reading, begun, turn, ended}
 use borrow.Author.Needs.{needs}
-use Rattle.test_stored_calls.proofs.inputs.read_pairs.Statement.{statement}
-use Rattle.test_stored_calls.proofs.inputs.read_pairs.Tie as tie
+use Rattle.test_stored_answers.proofs.inputs.read_pairs.Statement.{statement}
+use Rattle.test_stored_answers.proofs.inputs.read_pairs.Tie as tie
 
 abbrev Inv-loop : tie.InvT-loop
 Inv-loop s from count numbers₀ values₀ at₀ k₀ numbers values at k =

@@ -1,5 +1,5 @@
 // Pairs of a number and a value, as the file has them: a call's inputs, and the outputs that an answer lists.
-ghost use Rattle.test_stored_calls.specs.Pairs.{fitting, PairsPut};
+ghost use Rattle.test_stored_answers.specs.Pairs.{fitting, PairsPut};
 use test_cases::frame::past;
 use test_cases::frame::word_at;
 

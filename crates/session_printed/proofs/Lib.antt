@@ -1,3 +1,1 @@
-pub mod FewListed
 pub mod PiecePrinted
-pub mod Results

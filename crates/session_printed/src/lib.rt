@@ -1,2 +1,2 @@
-// The calls that a session makes on the engine, the start and the instant, each with what is printed of it.
+// The session's calls on the engine, the start and the instant, each with what is printed of it.
 pub mod calls;

@@ -6,22 +6,24 @@ use Prim.Native.Nat.{ℕ, zero, suc, _+_, _-_, _≤_, _<_}
 use native.Mathlib.Omega.{arith}
 use lib.Dec.{ltb}
 use lib.ListN.{length, take}
-use lib.Seq.{length-take-le}
 use borrow.Author.Tests.{ltb-true}
 use Rattle.listing.specs.Bytes.{Bytes}
 use Rattle.listing.specs.Listing.{Listing}
 use Rattle.walk.specs.State.{State}
 use Rattle.walk.specs.Instant.{Write}
 use Rattle.walk.specs.Calls.{Outcome, ask, outcomeNumber, instantFrom, inputsOf}
-use Rattle.walk.specs.Promises.{Result, resultOf}
 use Rattle.walk.specs.Session.{session, sessionAllowance}
-use Rattle.layout.specs.Layout.{layout}
-use Rattle.session_printed.specs.Made.{ResultPrinted, InstantMade, Soon, due-at}
+use Rattle.session_calls.specs.Clock.{Soon, due-at}
+use Rattle.session_calls.specs.Calls.{Goes, goes}
+use Rattle.session_calls.specs.declared.calls.Called as came
+use Rattle.session_calls.specs.declared.calls.Called.the-variants as Came
+use Rattle.session_printed.specs.Made.{CalledPrinted, InstantPrinted}
 use Rattle.session_printed.specs.Made as specs
-use Rattle.session_printed.specs.declared.calls.Clock.{Clock}
+use Rattle.session_calls.specs.declared.clock.Clock.{Clock}
 use Rattle.session_printed.specs.declared.calls.Made.{Made}
 use Rattle.session_printed.specs.declared.calls.Made.the-variants as Made
-use Rattle.session_replay.specs.Standing.{Runs, Stands, opening, reading, Left}
+use Rattle.session_calls.specs.Clock.{Runs}
+use Rattle.session_replay.specs.Standing.{Stands, opening, reading, Left}
 use Rattle.session_replay.specs.After.{stepAfter, EndsWith}
 use Rattle.session_replay.specs.Phases.{Loads, FromOpening, FromStarting, TowardCall, UntilEnd, FromReading, Memories, memories, Does, from-opening, from-starting, from-reading, when-over}
 use Rattle.session_replay.specs.Phases as phases
@@ -32,7 +34,6 @@ use Rattle.session_replay.specs.declared.phase.Phase.the-variants.{Openi
 use Rattle.session_replay.specs.declared.phase.Step.{Step}
 use Rattle.session_replay.specs.declared.phase.Advanced.{Advanced}
 use Rattle.session_replay.specs.declared.phase.Advanced.the-variants.{Went, TooShort}
-use Rattle.session_replay.proofs.Outcomes.{instant-is}
 use Rattle.session_replay.proofs.Moving.{Enough, enough, over-nothing}
 
 -- ── an instant call that went through is later than the present moment ────────────────────────────
@@ -45,22 +46,24 @@ went-later : (l : Listing) (s : State) (t : ℕ) (inputs : List Write) (allowanc
 unfolding instantFrom
 went-later l s t inputs allowance e = ltb-true (s .now) t (asked 9 (ltb (s .now) t) _ (omega arith) e)
 
-went-result : {result : Result} {now t : ℕ} {numbers values before after : List ℕ} {c : Clock} {n : ℕ} → ResultPrinted result now t numbers values before after (Made.Went c n) →
-    (result .number ≡ 0) × (c .now ≡ t)
-went-result (specs.ResultPrinted.went through b at told) = (through, at)
+went-through : {table machine numbers values : List ℕ} {l : Listing} {t : ℕ} {o : Outcome} {c : Clock} {k : ℕ} → Goes table machine numbers values l t o (Came.Went c k) →
+    (outcomeNumber o ≡ 0) × (c .now ≡ t)
+unfolding outcomeNumber
+went-through (goes moved at runs listed) = (refl, at)
 
-module _ (table machine out machine′ out′ : List ℕ) (t-long : 12288 ≤ length table) (m-long : 12288 ≤ length machine)
-    (clock : Clock) (l : Listing) (s : State) (runs : Runs table machine clock l s) where
-  later : (t : ℕ) (inNumbers inValues : List ℕ) (c : Clock) (n : ℕ) → length inNumbers ≡ length inValues →
-      InstantMade (clock .now) t inNumbers inValues table machine out machine′ out′ (Made.Went c n) → (clock .now < t) × (c .now ≡ t)
-  unfolding resultOf
-  later t inNumbers inValues c n e call =
-      let done = went-result (call .prints) in
-      let same = instant-is layout table machine (call .numbers) (call .values) l t-long m-long (call .numbers-long) (call .values-long) (runs .of-table) s t inNumbers inValues
-      sessionAllowance e (runs .of-machine) in
-      let number : outcomeNumber (instantFrom l s t (inputsOf inNumbers inValues) sessionAllowance) ≡ 0 =
-      ap (λ (o : Outcome). outcomeNumber o) (sym same) ∙ (sym (ap (λ (r : Result). r .number) (call .promise .result)) ∙ done .0) in
-      let after = went-later l s t (inputsOf inNumbers inValues) sessionAllowance number in
+called-went : {called : came.Called} {now t : ℕ} {numbers values before after : List ℕ} {c : Clock} {n : ℕ} (P : came.Called → Type 0) → ((k : ℕ) → P (Came.Went c k)) →
+    CalledPrinted called now t numbers values before after (Made.Went c n) → P called
+called-went P h (specs.CalledPrinted.went {listed = k} b) = h k
+
+module _ (table machine out machine′ out′ : List ℕ) (clock : Clock) (l : Listing) (s : State) (runs : Runs table machine clock l s) where
+  later : (t : ℕ) (inNumbers inValues : List ℕ) (c : Clock) (n : ℕ) → InstantPrinted (clock .now) t inNumbers inValues table machine out machine′ out′ (Made.Went c n) →
+      (clock .now < t) × (c .now ≡ t)
+  later t inNumbers inValues c n call =
+      let inputs = inputsOf inNumbers inValues in
+      let o = instantFrom l s t inputs sessionAllowance in
+      let done = called-went (λ (x : came.Called). Goes table machine′ (call .numbers′) (call .values′) l t o x → (outcomeNumber o ≡ 0) × (c .now ≡ t)) (λ k g. went-through g) (call .prints)
+      (call .call .walks l s clock runs) in
+      let after = went-later l s t inputs sessionAllowance (done .0) in
       (omega (arith, runs .present), done .1)
 
 -- ── each step leaves fewer to be made ─────────────────────────────────────────────────────────────
@@ -84,34 +87,33 @@ module _ (step : Step) where
   starting-falls : {table machine out machine′ out′ : List ℕ} → FromStarting table machine out machine′ out′ step → stepsLeft (step .phase) < stepsLeft Starting
   starting-falls d = as-step _ (d .is) _ (after-call (d .made) 0 _ (omega arith) (λ c n e. omega arith))
 
-  module _ (table machine out machine′ out′ : List ℕ) (t-long : 12288 ≤ length table) (m-long : 12288 ≤ length machine)
+  module _ (table machine out machine′ out′ : List ℕ)
       (clock : Clock) (l : Listing) (s : State) (runs : Runs table machine clock l s) (at : ℕ) where
     -- An instant before 2 to the 64, after which the session goes on at an offset.
-    instant-falls : (t : ℕ) (inNumbers inValues : List ℕ) (made : Made) (next : ℕ) → t < 18446744073709551616 → length inNumbers ≡ length inValues →
-        InstantMade (clock .now) t inNumbers inValues table machine out machine′ out′ made → step ≡ stepAfter made next → stepsLeft (step .phase) < stepsLeft (Reading clock at)
-    instant-falls t inNumbers inValues made next fits same call is =
+    instant-falls : (t : ℕ) (inNumbers inValues : List ℕ) (made : Made) (next : ℕ) → t < 18446744073709551616 →
+        InstantPrinted (clock .now) t inNumbers inValues table machine out machine′ out′ made → step ≡ stepAfter made next → stepsLeft (step .phase) < stepsLeft (Reading clock at)
+    instant-falls t inNumbers inValues made next fits call is =
         as-step _ is _
         (after-call made next _ (omega arith)
         (λ c n e.
-        let p = later table machine out machine′ out′ t-long m-long clock l s runs t inNumbers inValues c n same
-        (subst (λ (x : Made). InstantMade (clock .now) t inNumbers inValues table machine out machine′ out′ x) e call) in
+        let p = later table machine out machine′ out′ clock l s runs t inNumbers inValues c n
+        (subst (λ (x : Made). InstantPrinted (clock .now) t inNumbers inValues table machine out machine′ out′ x) e call) in
         let q = p .0 in let r = p .1 in omega arith))
 
-    toward-falls : (time count next : ℕ) (numbers values : List ℕ) → time < 18446744073709551616 → count ≤ 17 → 17 ≤ length numbers → 17 ≤ length values →
+    toward-falls : (time count next : ℕ) (numbers values : List ℕ) → time < 18446744073709551616 →
         TowardCall table machine out clock time (take count numbers) (take count values) at next machine′ out′ step → stepsLeft (step .phase) < stepsLeft (Reading clock at)
-    toward-falls time count next numbers values fits few ns vs (phases.TowardCall.due {m} {made} (due-at due before) call is) = instant-falls m [] [] made at (omega arith) refl call is
-    toward-falls time count next numbers values fits few ns vs (phases.TowardCall.joins {made} soon call is) =
-        let same : length (take count numbers) ≡ length (take count values) = length-take-le count numbers (omega arith) ∙ sym (length-take-le count values (omega arith)) in
-        instant-falls time (take count numbers) (take count values) made next fits same call is
+    toward-falls time count next numbers values fits (phases.TowardCall.due {m} {made} (due-at due before) call is) = instant-falls m [] [] made at (omega arith) call is
+    toward-falls time count next numbers values fits (phases.TowardCall.joins {made} soon call is) =
+        instant-falls time (take count numbers) (take count values) made next fits call is
 
     until-falls : (time : ℕ) (nothingAfter : Bool) → time < 18446744073709551616 → UntilEnd table machine out clock time nothingAfter at machine′ out′ step →
         stepsLeft (step .phase) < stepsLeft (Reading clock at)
-    until-falls time nothingAfter fits (phases.UntilEnd.due {m} {made} (due-at due before) call is) = instant-falls m [] [] made at (omega arith) refl call is
+    until-falls time nothingAfter fits (phases.UntilEnd.due {m} {made} (due-at due before) call is) = instant-falls m [] [] made at (omega arith) call is
     until-falls time nothingAfter fits (phases.UntilEnd.ends soon codes m e) = at-end (e .over) _ (omega arith)
 
     reading-falls : (trace : Bytes) → FromReading trace table machine out clock at machine′ out′ step → stepsLeft (step .phase) < stepsLeft (Reading clock at)
     reading-falls trace (phases.FromReading.past-end past m o s) = as-step _ s _ (omega arith)
-    reading-falls trace (phases.FromReading.call {numbers} {values} {time} {count} {next} is ns vs fits d) = toward-falls time count next numbers values fits (is .few) ns vs d
+    reading-falls trace (phases.FromReading.call {numbers} {values} {time} {count} {next} is fits d) = toward-falls time count next numbers values fits d
     reading-falls trace (phases.FromReading.last {time} {nothingAfter} is fits d) = until-falls time nothingAfter fits d
     reading-falls trace (phases.FromReading.breaks is m e) = at-end (e .over) _ (omega arith)
 
@@ -123,7 +125,7 @@ does-fall : (listing trace : Bytes) (m m′ : Memories) (step : Step) (long : En
 does-fall listing trace m m′ step long _ bytes (from-opening d machine) h on = opening-falls step d
 does-fall listing trace m m′ step long _ bytes (from-starting d table) h on = starting-falls step d
 does-fall listing trace m m′ step long _ bytes (from-reading {clock} {at} d table) (reading {l = l} {s = s} short runs inside e) on =
-    reading-falls step (m .table) (m .machine) (m .out) (m′ .machine) (m′ .out) (long .table-long) (long .machine-long) clock l s runs at trace d
+    reading-falls step (m .table) (m .machine) (m .out) (m′ .machine) (m′ .out) clock l s runs at trace d
 does-fall listing trace m m′ step long _ bytes (when-over same s) h on = never-both on
 
 -- ── a call ────────────────────────────────────────────────────────────────────────────────────────

@@ -1,9 +1,6 @@
-pub mod OneDue
 pub mod Printed
 pub mod FewInputs
 pub mod EndPrinted
-pub mod Lawful
-pub mod Outcomes
 pub mod CallPrinted
 pub mod Promised
 pub mod Playing

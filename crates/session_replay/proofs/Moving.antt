@@ -84,10 +84,10 @@ module _ (listing trace : Bytes) (m m′ : Memories) (step : Step) (long : Enoug
         machine-past = later (m′ .machine) (m .machine) machine;
       }
   does-move _ (from-starting d table) = called-moved Starting
-      (starting-does listing trace (m .table) (m .machine) (m .out) (m′ .machine) (m′ .out) step (long .table-long) (long .machine-long) d)
+      (starting-does listing trace (m .table) (m .machine) (m .out) (m′ .machine) (m′ .out) step d)
       (starting-past listing trace (m .table) (m .machine) (m .out) (m′ .machine) (m′ .out) step d) table
   does-move _ (from-reading {clock} {at} d table) = called-moved (Reading clock at)
-      (reading-does listing trace (m .table) (m .machine) (m .out) (m′ .machine) (m′ .out) step (long .table-long) (long .machine-long) clock at d)
+      (reading-does listing trace (m .table) (m .machine) (m .out) (m′ .machine) (m′ .out) step clock at d)
       (reading-past listing trace (m .table) (m .machine) (m .out) (m′ .machine) (m′ .out) step clock at d) table
   does-move _ (when-over same s) = over-moved same s
 

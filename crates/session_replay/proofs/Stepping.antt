@@ -15,22 +15,23 @@ use Rattle.walk.specs.Trace.{Script, script, lastAt}
 use Rattle.walk.specs.Session.{Played, andThen, played, callFrom, printed, writeLines, endOf, endLine, endCode, play, playAll, sessionAllowance}
 use Rattle.call_conclude.specs.Answers.{dueOf}
 use Rattle.session_trace.specs.Groups.{CallIs}
-use Rattle.session_replay.specs.Standing.{Runs, Stands, starting, reading, over, Left}
-use Rattle.session_printed.specs.Made.{Soon, due-at, none-due}
+use Rattle.session_calls.specs.Clock.{Runs}
+use Rattle.session_replay.specs.Standing.{Stands, starting, reading, over, Left}
+use Rattle.session_calls.specs.Clock.{Soon, due-at, none-due}
 use Rattle.session_replay.specs.After.{stepAfter, EndsWith}
 use Rattle.session_replay.specs.Advancing.{Steps}
-use Rattle.session_printed.specs.declared.calls.Clock.{Clock}
+use Rattle.session_calls.specs.declared.clock.Clock.{Clock}
 use Rattle.session_replay.specs.declared.phase.Phase.{Phase}
 use Rattle.session_replay.specs.declared.phase.Phase.the-variants.{Starting, Reading, Over}
 use Rattle.session_replay.specs.declared.phase.Step.{Step}
 use Rattle.session_printed.specs.declared.calls.Made.{Made}
 use Rattle.session_printed.specs.declared.calls.Made.the-variants.{Ended, Went}
 use Rattle.call_conclude.specs.declared.answers.Due.the-variants.{Never, At}
-use Rattle.session_replay.proofs.Lawful.{lawful, is-state}
+use Rattle.session_calls.proofs.Lawful.{lawful, is-state}
 use Rattle.session_printed.proofs.PiecePrinted.{begins-take, begins-room}
-use Rattle.session_replay.proofs.CallPrinted.{CallPrinted}
+use Rattle.session_replay.proofs.CallPrinted.{CallPrinted, bytesOf}
 use Rattle.session_replay.proofs.CallPrinted as call
-use Rattle.session_replay.proofs.Promised.{bytesOf, StartPrinted, InstantPrinted}
+use Rattle.session_replay.proofs.Promised.{StartShown, InstantShown}
 use Rattle.session_replay.proofs.Playing.{due-toward, call-toward, due-until, end-until}
 
 append-nothing : (xs : Bytes) → xs ++ [] ≡ xs
@@ -64,7 +65,7 @@ module _ (listing trace table machine out : List ℕ) (l : Listing) (p : Played)
   call-left _ bytes (call.went {n} {clock} u runs is) e = record { rest = printed (next u); parts = e ∙ is next; stands = stands clock u runs }
 
 -- The start.
-pub starting-steps : (listing trace table machine machine′ out : List ℕ) (made : Made) → StartPrinted table machine′ out made →
+pub starting-steps : (listing trace table machine machine′ out : List ℕ) (made : Made) → StartShown table machine′ out made →
     Steps listing trace table machine Starting table machine′ out (stepAfter made 0)
 unfolding playAll
 starting-steps listing trace table machine machine′ out made m = record { room = step-room made 0 out (m .room); prints = go }
@@ -77,7 +78,7 @@ starting-steps listing trace table machine machine′ out made m = record { room
 -- From a machine that runs.
 module _ (listing trace table machine machine′ out : List ℕ) (clock : Clock) (at : ℕ) where
   -- An instant that is the first of what the script asks for, and what it asks for then is read at an offset.
-  instant-steps : (t : ℕ) (inputs : List Write) (next : ℕ) (made : Made) → InstantPrinted table machine machine′ out (clock .now) t inputs made → (at ≤ length trace → next ≤ length trace) →
+  instant-steps : (t : ℕ) (inputs : List Write) (next : ℕ) (made : Made) → InstantShown table machine machine′ out (clock .now) t inputs made → (at ≤ length trace → next ≤ length trace) →
       ((l : Listing) (s : State) → Runs table machine clock l s → play l (script (drop at trace)) s ≡ andThen (callFrom l t inputs s) (play l (script (drop next trace)))) →
       Steps listing trace table machine (Reading clock at) table machine′ out (stepAfter made next)
   instant-steps t inputs next made i within first = record { room = step-room made next out (i .room); prints = go }
@@ -90,7 +91,7 @@ module _ (listing trace table machine machine′ out : List ℕ) (clock : Clock)
 
   -- The due instants before a call, and the call.
   module _ (numbers values : List ℕ) (time count next : ℕ) (fits : time < 18446744073709551616) (is : CallIs trace at numbers values time count next) where
-    pub due-call-steps : (m : ℕ) (made : Made) → Soon (dueOf (clock .due)) time (At m) → InstantPrinted table machine machine′ out (clock .now) m [] made →
+    pub due-call-steps : (m : ℕ) (made : Made) → Soon (dueOf (clock .due)) time (At m) → InstantShown table machine machine′ out (clock .now) m [] made →
         Steps listing trace table machine (Reading clock at) table machine′ out (stepAfter made at)
     due-call-steps m made (due-at due before) i =
         instant-steps m [] at made i (λ inside. inside)
@@ -99,7 +100,7 @@ module _ (listing trace table machine machine′ out : List ℕ) (clock : Clock)
         (due-toward l s (lawful runs) (is-state runs) time (is .inputs) (script (drop next trace)) fits m (sym (runs .due) ∙ due) before))
 
     pub call-steps : (made : Made) → Soon (dueOf (clock .due)) time Never →
-        InstantPrinted table machine machine′ out (clock .now) time (inputsOf (take count numbers) (take count values)) made →
+        InstantShown table machine machine′ out (clock .now) time (inputsOf (take count numbers) (take count values)) made →
         Steps listing trace table machine (Reading clock at) table machine′ out (stepAfter made next)
     call-steps made (none-due none) i =
         instant-steps time (inputsOf (take count numbers) (take count values)) next made i (λ inside. is .inside)
@@ -110,7 +111,7 @@ module _ (listing trace table machine machine′ out : List ℕ) (clock : Clock)
 
   -- The due instants up to the last line's time, and the end.
   module _ (time : ℕ) (nothingAfter : Bool) (fits : time < 18446744073709551616) (is : script (drop at trace) ≡ lastAt time nothingAfter) where
-    pub due-end-steps : (m : ℕ) (made : Made) → Soon (dueOf (clock .due)) (suc time) (At m) → InstantPrinted table machine machine′ out (clock .now) m [] made →
+    pub due-end-steps : (m : ℕ) (made : Made) → Soon (dueOf (clock .due)) (suc time) (At m) → InstantShown table machine machine′ out (clock .now) m [] made →
         Steps listing trace table machine (Reading clock at) table machine′ out (stepAfter made at)
     due-end-steps m made (due-at due before) i =
         instant-steps m [] at made i (λ inside. inside)

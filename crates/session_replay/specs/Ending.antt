@@ -7,7 +7,7 @@ use lib.ListN.{length, take}
 use Rattle.words.specs.Moments.{momentRange}
 use Rattle.listing.specs.Bytes.{Bytes}
 use Rattle.walk.specs.Session.{session}
-use Rattle.session_printed.specs.declared.calls.Clock.{Clock}
+use Rattle.session_calls.specs.declared.clock.Clock.{Clock}
 use Rattle.session_replay.specs.Phases.{Memories}
 use Rattle.session_replay.specs.Advancing.{longEnough, Advances}
 use Rattle.session_replay.specs.declared.phase.Phase.{Phase}

@@ -17,11 +17,12 @@ use Rattle.layout.specs.Layout.{layout}
 use Rattle.call_conclude.specs.Answers.{dueOf}
 use Rattle.call_conclude.specs.declared.answers.Due.the-variants.{Never, At}
 use Rattle.session_trace.specs.Groups.{CallIs}
-use Rattle.session_printed.specs.Made.{Soon, StartMade, InstantMade}
+use Rattle.session_calls.specs.Clock.{Soon}
+use Rattle.session_printed.specs.Made.{StartPrinted, InstantPrinted}
 use Rattle.session_replay.specs.After.{stepAfter, EndsWith, silent}
 use Rattle.session_replay.specs.declared.phase.Phase.{Phase}
 use Rattle.session_replay.specs.declared.phase.Phase.the-variants.{Opening, Starting, Reading, Over}
-use Rattle.session_printed.specs.declared.calls.Clock.{Clock}
+use Rattle.session_calls.specs.declared.clock.Clock.{Clock}
 use Rattle.session_replay.specs.declared.phase.Step.{Step}
 use Rattle.session_printed.specs.declared.calls.Made.{Made}
 
@@ -40,20 +41,20 @@ pub data FromOpening (listing trace : Bytes) (table out table′ out′ : List �
 -- The start.
 pub record FromStarting (table machine out machine′ out′ : List ℕ) (step : Step) : Type 0 where
   pub made : Made
-  pub call : StartMade table machine out machine′ out′ made
+  pub call : StartPrinted table machine out machine′ out′ made
   pub is : step ≡ stepAfter made 0
 
 -- "The program makes every due instant between, joining one with inputs of its time": one due before the call that is read at an offset, and the call is read
 -- again; or the call, and the trace goes on at the next offset.
 pub data TowardCall (table machine out : List ℕ) (clock : Clock) (time : ℕ) (inNumbers inValues : List ℕ) (at next : ℕ) (machine′ out′ : List ℕ) (step : Step) : Type 0 where
-  due : {m : ℕ} {made : Made} → Soon (dueOf (clock .due)) time (At m) → InstantMade (clock .now) m [] [] table machine out machine′ out′ made → step ≡ stepAfter made at →
+  due : {m : ℕ} {made : Made} → Soon (dueOf (clock .due)) time (At m) → InstantPrinted (clock .now) m [] [] table machine out machine′ out′ made → step ≡ stepAfter made at →
       TowardCall table machine out clock time inNumbers inValues at next machine′ out′ step
-  joins : {made : Made} → Soon (dueOf (clock .due)) time Never → InstantMade (clock .now) time inNumbers inValues table machine out machine′ out′ made →
+  joins : {made : Made} → Soon (dueOf (clock .due)) time Never → InstantPrinted (clock .now) time inNumbers inValues table machine out machine′ out′ made →
       step ≡ stepAfter made next → TowardCall table machine out clock time inNumbers inValues at next machine′ out′ step
 
 -- "and those due up to Q's time": one of them, and the last line is read again; or the end.
 pub data UntilEnd (table machine out : List ℕ) (clock : Clock) (time : ℕ) (nothingAfter : Bool) (at : ℕ) (machine′ out′ : List ℕ) (step : Step) : Type 0 where
-  due : {m : ℕ} {made : Made} → Soon (dueOf (clock .due)) (suc time) (At m) → InstantMade (clock .now) m [] [] table machine out machine′ out′ made →
+  due : {m : ℕ} {made : Made} → Soon (dueOf (clock .due)) (suc time) (At m) → InstantPrinted (clock .now) m [] [] table machine out machine′ out′ made →
       step ≡ stepAfter made at → UntilEnd table machine out clock time nothingAfter at machine′ out′ step
   ends : {code : ℕ} → Soon (dueOf (clock .due)) (suc time) Never → ((l : Listing) → code ≡ endCode l nothingAfter) → machine′ ≡ machine →
       EndsWith out code (clock .now) out′ step → UntilEnd table machine out clock time nothingAfter at machine′ out′ step
@@ -61,7 +62,7 @@ pub data UntilEnd (table machine out : List ℕ) (clock : Clock) (time : ℕ) (n
 -- What is next in the trace from an offset on. A call's inputs are read into two lists of 17 places, which are local to the step. (A time has 64 bits.)
 pub data FromReading (trace table machine out : List ℕ) (clock : Clock) (at : ℕ) (machine′ out′ : List ℕ) (step : Step) : Type 0 where
   past-end : length trace < at → machine′ ≡ machine → out′ ≡ out → step ≡ silent Over → FromReading trace table machine out clock at machine′ out′ step
-  call : {numbers values : List ℕ} {time count next : ℕ} → CallIs trace at numbers values time count next → 17 ≤ length numbers → 17 ≤ length values → time < momentRange →
+  call : {numbers values : List ℕ} {time count next : ℕ} → CallIs trace at numbers values time count next → time < momentRange →
       TowardCall table machine out clock time (take count numbers) (take count values) at next machine′ out′ step → FromReading trace table machine out clock at machine′ out′ step
   last : {time : ℕ} {nothingAfter : Bool} → script (drop at trace) ≡ lastAt time nothingAfter → time < momentRange →
       UntilEnd table machine out clock time nothingAfter at machine′ out′ step → FromReading trace table machine out clock at machine′ out′ step

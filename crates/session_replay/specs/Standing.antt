@@ -8,23 +8,14 @@ use Rattle.listing.specs.Bytes.{Bytes}
 use Rattle.listing.specs.Limits.{byteLimit}
 use Rattle.listing.specs.Listing.{Listing}
 use Rattle.walk.specs.State.{State}
-use Rattle.walk.specs.Instant.{nextDue}
-use Rattle.walk.specs.Calls.{Words32, running, firstWords}
+use Rattle.walk.specs.Calls.{firstWords}
 use Rattle.walk.specs.Trace.{script}
 use Rattle.walk.specs.Session.{play, playAll, printed, session}
 use Rattle.layout.specs.Layout.{layout}
-use Rattle.call_conclude.specs.Answers.{dueOf}
-use Rattle.session_printed.specs.declared.calls.Clock.{Clock}
+use Rattle.session_calls.specs.Clock.{Runs}
+use Rattle.session_calls.specs.declared.clock.Clock.{Clock}
 use Rattle.session_replay.specs.declared.phase.Phase.{Phase}
 use Rattle.session_replay.specs.declared.phase.Phase.the-variants.{Opening, Starting, Reading, Over}
-
--- The table stands for the listing and the machine for a state, and the clock tells its moment and its next moment due.
-pub record Runs (table machine : List ℕ) (clock : Clock) (l : Listing) (s : State) : Type 0 where
-  pub of-table : layout .readTable (firstWords table) ≡ some l
-  pub of-machine : layout .readMachine l (firstWords machine) ≡ some (running s)
-  pub words : Words32 machine
-  pub present : clock .now ≡ s .now
-  pub due : dueOf (clock .due) ≡ nextDue s
 
 -- "Before loading, a listing over 49,152 bytes has code 3, else a trace over 49,152 code 2": past that both are within it.
 pub record Short (listing trace : Bytes) : Type 0 where

@@ -9,7 +9,7 @@ use crate::phase::Phase;
 use crate::phase::Step;
 use call_load::load;
 use session_print::put_end_line;
-use session_printed::calls::make_start;
+use session_printed::calls::print_start;
 use text_questions::Loaded;
 
 // "listing 49,152 bytes"
@@ -53,6 +53,6 @@ pub fn from_starting(table: &[u32], machine: &mut [u32], out: &mut [u8]) -> Step
     requires { ⌜ (12288 ≤ length (now table)) × (12288 ≤ length (now machine)) × (1100 ≤ length (now out)) ⌝ }
     ensures { λ r. ⌜ FromStarting (now (table .entry)) (now (machine .entry)) (now (out .entry)) (now (machine .exit)) (now (out .exit)) r ⌝ }
 {
-    let made = make_start(table, machine, out);
+    let made = print_start(table, machine, out);
     step_after(made, 0)
 }

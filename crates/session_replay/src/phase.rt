@@ -1,5 +1,5 @@
 // Where a session stands between two of its steps.
-use session_printed::calls::Clock;
+use session_calls::Clock;
 
 pub enum Phase {
     // nothing is done yet

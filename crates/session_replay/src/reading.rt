@@ -11,10 +11,10 @@ use crate::from_phase::end_with;
 use crate::phase::Phase;
 use crate::phase::Step;
 use call_engine::Due;
-use session_printed::calls::Clock;
-use session_printed::calls::due_before;
-use session_printed::calls::due_until;
-use session_printed::calls::make_instant;
+use session_calls::Clock;
+use session_calls::due_before;
+use session_calls::due_until;
+use session_printed::calls::print_instant;
 use session_trace::Next;
 use session_trace::next_call;
 
@@ -46,10 +46,10 @@ fn toward_call(
     let due = clock.due;
     let soon = due_before(due, time);
     let Due::At(m) = soon else {
-        let made = make_instant(table, machine, present, time, numbers, values, count, out);
+        let made = print_instant(table, machine, present, time, numbers, values, count, out);
         return step_after(made, next);
     };
-    let made = make_instant(table, machine, present, m, numbers, values, 0, out);
+    let made = print_instant(table, machine, present, m, numbers, values, 0, out);
     step_after(made, at)
 }
 
@@ -84,7 +84,7 @@ fn until_end(
         let code = end_code(nothing_after);
         return end_with(out, code, present);
     };
-    let made = make_instant(table, machine, present, m, &[], &[], 0, out);
+    let made = print_instant(table, machine, present, m, &[], &[], 0, out);
     step_after(made, at)
 }
 

@@ -67,13 +67,10 @@ same-length-2 c = c .before .out .given
 returns-2 : tie.Need-returns-2
 returns-2 c =
     let past = c .before .before .before .before .before .before .before .before .before .before in
-    let earlier = past .before .before .before .before .before .before .before in
-    let a = earlier .before .before .before .before .before .before .before .args in
+    let a = past .before .before .before .before .before .before .before .before .before .before .before .before .before .before .args in
     let n = past .before .before .before .before .next-call in
     let t = c .before .before .before .before .toward-call in
-    let ns : 17 ≤ length (n .last .1 .1 .0) = omega (arith, n .ensures .numbers-stay .size, earlier .before .inputs .ensures) in
-    let vs : 17 ≤ length (n .last .1 .1 .1 .0) = omega (arith, n .ensures .values-stay .size, earlier .inputs2 .ensures) in
-    read-call (n .ensures) (now (a .table)) (now (a .machine)) (now (a .out)) (a .clock) (t .last .1 .0) (t .last .1 .1 .1 .1 .0) (t .result) _ _ _ (past .next .given .1) ns vs (t .ensures .0) (t .ensures .1)
+    read-call (n .ensures) (now (a .table)) (now (a .machine)) (now (a .out)) (a .clock) (t .last .1 .0) (t .last .1 .1 .1 .1 .0) (t .result) _ _ _ (past .next .given .1) (t .ensures .0) (t .ensures .1)
 
 same-length-3 : tie.Need-same-length-3
 same-length-3 c = c .before .before .before .machine2 .given

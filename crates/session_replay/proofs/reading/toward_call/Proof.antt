@@ -14,8 +14,8 @@ enum-known-soon c = search needs
 enum-told : tie.Need-enum-told
 enum-told c = search needs
 
-make-instant-requires : tie.Need-make-instant-requires
-make-instant-requires c κs = search needs
+print-instant-requires : tie.Need-print-instant-requires
+print-instant-requires c κs = search needs
 
 step-after-requires : tie.Need-step-after-requires
 step-after-requires c κs = search needs
@@ -31,10 +31,10 @@ returns c =
     let past = c .before .before .before .before .before in
     let earlier = past .before .before .before .before .before in
     let f = earlier .before .before .before .before .before .before .fits in
-    (omega arith, phases.TowardCall.joins (rw (past .before .before .before .enum-told .given .1) at (earlier .due-before .ensures)) (past .make-instant .ensures) (c .step-after .ensures))
+    (omega arith, phases.TowardCall.joins (rw (past .before .before .before .enum-told .given .1) at (earlier .due-before .ensures)) (past .print-instant .ensures) (c .step-after .ensures))
 
-make-instant-requires-2 : tie.Need-make-instant-requires-2
-make-instant-requires-2 c κs = search needs
+print-instant-requires-2 : tie.Need-print-instant-requires-2
+print-instant-requires-2 c κs = search needs
 
 step-after-requires-2 : tie.Need-step-after-requires-2
 step-after-requires-2 c κs = search needs
@@ -50,7 +50,7 @@ returns-2 c =
     let past = c .before .before .before .before .before in
     let earlier = past .before .before .before .before .before .before in
     let f = earlier .before .before .before .before .before .before .fits in
-    (omega arith, phases.TowardCall.due (rw (past .before .before .before .before .soon .given .1) at (earlier .due-before .ensures)) (past .make-instant2 .ensures) (c .step-after2 .ensures))
+    (omega arith, phases.TowardCall.due (rw (past .before .before .before .before .soon .given .1) at (earlier .due-before .ensures)) (past .print-instant2 .ensures) (c .step-after2 .ensures))
 
 pub toward-call-spec : {M : Type 1} → statement M
 toward-call-spec =
@@ -59,12 +59,12 @@ toward-call-spec =
     due-before-requires
     enum-known-soon
     enum-told
-    make-instant-requires
+    print-instant-requires
     step-after-requires
     same-length
     same-length-2
     returns
-    make-instant-requires-2
+    print-instant-requires-2
     step-after-requires-2
     same-length-3
     same-length-4

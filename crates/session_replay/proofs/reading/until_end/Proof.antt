@@ -30,14 +30,14 @@ returns c =
     let f = past .before .before .before .before .before .before .fits in
     (omega arith, phases.UntilEnd.ends (rw (past .enum-told .given .1) at (past .before .before .due-until .ensures)) (c .before .before .before .before .end-code .ensures) refl (c .before .before .end-with .ensures))
 
-slice-aggregate-make-instant : tie.Need-slice-aggregate-make-instant
-slice-aggregate-make-instant c = search needs
+slice-aggregate-print-instant : tie.Need-slice-aggregate-print-instant
+slice-aggregate-print-instant c = search needs
 
-slice-aggregate-make-instant-2 : tie.Need-slice-aggregate-make-instant-2
-slice-aggregate-make-instant-2 c = search needs
+slice-aggregate-print-instant-2 : tie.Need-slice-aggregate-print-instant-2
+slice-aggregate-print-instant-2 c = search needs
 
-make-instant-requires : tie.Need-make-instant-requires
-make-instant-requires c κs = search needs
+print-instant-requires : tie.Need-print-instant-requires
+print-instant-requires c κs = search needs
 
 step-after-requires : tie.Need-step-after-requires
 step-after-requires c κs = search needs
@@ -53,7 +53,7 @@ returns-2 c =
     let past = c .before .before .before .before .before in
     let earlier = past .before .before .before .before .before .before in
     let f = earlier .before .before .before .before .before .before .fits in
-    (omega arith, phases.UntilEnd.due (rw (earlier .soon .given .1) at (earlier .before .before .due-until .ensures)) (past .make-instant .ensures) (c .step-after .ensures))
+    (omega arith, phases.UntilEnd.due (rw (earlier .soon .given .1) at (earlier .before .before .due-until .ensures)) (past .print-instant .ensures) (c .step-after .ensures))
 
 pub until-end-spec : {M : Type 1} → statement M
 until-end-spec =
@@ -66,9 +66,9 @@ until-end-spec =
     end-with-requires
     same-length
     returns
-    slice-aggregate-make-instant
-    slice-aggregate-make-instant-2
-    make-instant-requires
+    slice-aggregate-print-instant
+    slice-aggregate-print-instant-2
+    print-instant-requires
     step-after-requires
     same-length-2
     same-length-3

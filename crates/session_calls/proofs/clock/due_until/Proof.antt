@@ -1,9 +1,9 @@
--- `printed_calls::calls::due_until` meets its contract.
+-- `session_calls::clock::due_until` meets its contract.
 use native.Mathlib.Omega.{arith}
-use Rattle.session_printed.proofs.Results.{soon-at, soon-late, soon-never}
+use Rattle.session_calls.proofs.Results.{soon-at, soon-late, soon-never}
 use borrow.Author.Needs.{needs}
-use Rattle.session_printed.proofs.calls.due_until.Statement.{statement}
-use Rattle.session_printed.proofs.calls.due_until.Tie as tie
+use Rattle.session_calls.proofs.clock.due_until.Statement.{statement}
+use Rattle.session_calls.proofs.clock.due_until.Tie as tie
 
 enum-told : tie.Need-enum-told
 enum-told c = search needs

@@ -1,8 +1,8 @@
--- `printed_calls::calls::tell` meets its contract.
-use Rattle.session_printed.proofs.Results.{refused-tells, stopped-tells, done-tells}
+-- `session_calls::calls::tell` meets its contract.
+use Rattle.session_calls.proofs.Results.{refused-tells, stopped-tells, done-tells}
 use borrow.Author.Needs.{needs}
-use Rattle.session_printed.proofs.calls.tell.Statement.{statement}
-use Rattle.session_printed.proofs.calls.tell.Tie as tie
+use Rattle.session_calls.proofs.calls.tell.Statement.{statement}
+use Rattle.session_calls.proofs.calls.tell.Tie as tie
 
 enum-known-answer : tie.Need-enum-known-answer
 enum-known-answer c = search needs

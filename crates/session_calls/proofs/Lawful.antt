@@ -16,8 +16,8 @@ use Rattle.table.specs.Question6.{isTable, readTable}
 use Rattle.table.proofs.Table.{table-meets}
 use Rattle.table.proofs.WalkBounds.{ports-few}
 use Rattle.machine.proofs.MachineWords.{read-is-a-state}
-use Rattle.session_replay.specs.Standing.{Runs}
-use Rattle.session_printed.specs.declared.calls.Clock.{Clock}
+use Rattle.session_calls.specs.Clock.{Runs}
+use Rattle.session_calls.specs.declared.clock.Clock.{Clock}
 use Rattle.call_engine.proofs.Literals.{literals-are-words}
 use Rattle.call_arguments.proofs.TableSize.{first-words32}
 

@@ -1,4 +1,4 @@
--- `comparison::alike` meets its contract.
+-- `call_alike::alike` meets its contract.
 use native.Mathlib.Omega.{arith}
 use mathlib.Core.Path.{sym, _∙_}
 use borrow.Author.Tests.{not-true, not-false}

@@ -1,4 +1,4 @@
--- `comparison::compare` meets its contract.
+-- `call_alike::compare` meets its contract.
 use Rattle.call_alike.specs.Compared.{comparedOf}
 use Rattle.call_alike.proofs.Comparing.{refused-by, compared-by}
 use borrow.Author.Needs.{needs}

@@ -1,4 +1,4 @@
--- `comparison::pair_refusal` meets its contract.
+-- `call_alike::pair_refusal` meets its contract.
 use Rattle.call_alike.proofs.Comparing.{first-is-7, second-is-7, second-decides, first-decides}
 use Rattle.call_alike.proofs.pair_refusal.Statement.{statement}
 use Rattle.call_alike.proofs.pair_refusal.Tie as tie

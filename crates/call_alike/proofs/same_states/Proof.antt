@@ -1,4 +1,4 @@
--- `comparison::same_states` meets its contract.
+-- `call_alike::same_states` meets its contract.
 use mathlib.Core.Path.{sym, _∙_, ap}
 use Rattle.call_alike.proofs.Comparing.{SameFrom, not-alike, alike-by-values}
 use borrow.Author.Needs.{needs}

@@ -1,4 +1,4 @@
--- `comparison::same_values` meets its contract.
+-- `call_alike::same_values` meets its contract.
 use Prim.Native.Nat.{_+_, _*_, _-_, _≤_}
 use mathlib.Core.Path.{_≡_, sym, _∙_}
 use native.Mathlib.Omega.{arith}

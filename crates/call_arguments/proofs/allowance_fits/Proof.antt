@@ -1,4 +1,4 @@
--- `questions::allowance_fits` meets its contract.
+-- `call_arguments::allowance_fits` meets its contract.
 use native.Mathlib.Omega.{arith}
 use Rattle.call_arguments.proofs.Asking.{none-allowed, some-allowed}
 use Rattle.call_arguments.proofs.allowance_fits.Statement.{statement}

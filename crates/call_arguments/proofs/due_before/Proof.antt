@@ -1,4 +1,4 @@
--- `questions::due_before` meets its contract.
+-- `call_arguments::due_before` meets its contract.
 use Rattle.call_arguments.proofs.Asking.{none-due, some-due}
 use Rattle.call_arguments.proofs.due_before.Statement.{statement}
 use Rattle.call_arguments.proofs.due_before.Tie as tie

@@ -1,4 +1,4 @@
--- `questions::environment_size` meets its contract.
+-- `call_arguments::environment_size` meets its contract.
 use native.Mathlib.Omega.{arith}
 use Rattle.call_arguments.proofs.TableSize.{size-of-table, table-few}
 use borrow.Author.Needs.{needs}

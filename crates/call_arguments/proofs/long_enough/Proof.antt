@@ -1,4 +1,4 @@
--- `questions::long_enough` meets its contract.
+-- `call_arguments::long_enough` meets its contract.
 use native.Mathlib.Omega.{arith}
 use Rattle.call_arguments.proofs.Asking.{short-table, short-machine, short-numbers, all-but-values}
 use Rattle.call_arguments.proofs.long_enough.Statement.{statement}

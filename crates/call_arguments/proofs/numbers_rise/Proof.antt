@@ -1,4 +1,4 @@
--- `questions::numbers_rise` meets its contract.
+-- `call_arguments::numbers_rise` meets its contract.
 use Prim.Native.Nat.{_-_, _≤_}
 use mathlib.Core.Path.{_≡_, refl, sym, _∙_}
 use native.Mathlib.Omega.{arith}

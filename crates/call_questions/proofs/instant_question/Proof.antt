@@ -1,4 +1,4 @@
--- `questions::instant_question` meets its contract.
+-- `call_questions::instant_question` meets its contract.
 use mathlib.Core.Path.{sym, _∙_}
 use borrow.Author.Tests.{not-true, not-false}
 use Rattle.call_questions.proofs.Calling.{long, instant-short, instant-unequal, instant-no-table, instant-by-machine}

@@ -1,4 +1,4 @@
--- `questions::machine_question` meets its contract.
+-- `call_questions::machine_question` meets its contract.
 use native.Mathlib.Omega.{arith}
 use mathlib.Core.Path.{sym, ap, _∙_}
 use lib.ListN.{take, length-take}

@@ -1,4 +1,4 @@
--- `questions::machine_refusal` meets its contract.
+-- `call_questions::machine_refusal` meets its contract.
 use mathlib.Core.Path.{sym, ap, _∙_}
 use Rattle.machine_check.specs.Answer.{checkOf}
 use Rattle.call_arguments.proofs.Refusals.{refusal-none, refusal-stopped, refusal-running}

@@ -1,4 +1,4 @@
--- `questions::start_question` meets its contract.
+-- `call_questions::start_question` meets its contract.
 use mathlib.Core.Path.{sym, _∙_}
 use borrow.Author.Tests.{not-true, not-false}
 use Rattle.call_questions.proofs.Calling.{start-short, start-no-table, start-not-allowed, start-passes}

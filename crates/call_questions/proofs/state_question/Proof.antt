@@ -1,4 +1,4 @@
--- `questions::state_question` meets its contract.
+-- `call_questions::state_question` meets its contract.
 use native.Mathlib.Omega.{arith}
 use mathlib.Core.Path.{_≡_, sym, _∙_}
 use mathlib.Core.Bool.{true, false}

@@ -1,10 +1,10 @@
--- `ready::empty` meets its contract.
+-- `engine_ready::empty` meets its contract.
 use mathlib.Core.Path.{refl}
 use Rattle.engine_ready.proofs.empty.Statement.{statement}
 use Rattle.engine_ready.specs.Slots.{falling, slotsOf}
 use Rattle.engine_ready.proofs.empty.Tie as tie
 
--- `ready::empty` meets its contract.
+-- `engine_ready::empty` meets its contract.
 
 returns : tie.Need-returns
 unfolding slotsOf falling

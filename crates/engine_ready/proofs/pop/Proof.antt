@@ -1,4 +1,4 @@
--- `ready::pop` meets its contract.
+-- `engine_ready::pop` meets its contract.
 use mathlib.Core.List.{_∷_}
 use mathlib.Core.Path.{_≡_, sym, ap, _∙_}
 use Prim.Native.Nat.{ℕ, suc, _-_}
@@ -10,7 +10,7 @@ use Rattle.engine_ready.proofs.pop.Statement.{statement}
 use Rattle.engine_ready.specs.Slots.{falling, slotsOf}
 use Rattle.engine_ready.proofs.pop.Tie as tie
 
--- `ready::pop` meets its contract.
+-- `engine_ready::pop` meets its contract.
 
 sub-n : tie.Need-sub-n
 sub-n c = search needs

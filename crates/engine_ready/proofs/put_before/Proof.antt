@@ -1,4 +1,4 @@
--- `ready::put_before` meets its contract: after each turn the last of the new slots, in their order, stand before the others.
+-- `engine_ready::put_before` meets its contract: after each turn the last of the new slots, in their order, stand before the others.
 use mathlib.Core.Path.{_≡_, refl, _∙_}
 use mathlib.Core.List.{_++_}
 use Prim.Native.Nat.{suc, _+_, _-_, _≤_, _<_}

@@ -1,4 +1,4 @@
--- `ready::put_first` meets its contract: after each turn the slots put so far, the last one first, stand before the others.
+-- `engine_ready::put_first` meets its contract: after each turn the slots put so far, the last one first, stand before the others.
 use mathlib.Core.Path.{_≡_, refl}
 use mathlib.Core.List.{_++_}
 use Prim.Native.Nat.{_+_, _-_, _≤_, _<_}

@@ -1,4 +1,4 @@
--- `triggers::entry_of` meets its contract.
+-- `engine_triggers::entry_of` meets its contract.
 use denote.Ref.{now}
 use mathlib.Core.Path.{ap, ap₂, _∙_}
 use Prim.Native.Nat.{ℕ, _+_, _*_}
@@ -8,7 +8,7 @@ use Rattle.table.specs.Decode.{word}
 use Rattle.engine_triggers.proofs.entry_of.Statement.{statement}
 use Rattle.engine_triggers.proofs.entry_of.Tie as tie
 
--- `triggers::entry_of` meets its contract.
+-- `engine_triggers::entry_of` meets its contract.
 
 routine-requires : tie.Need-routine-requires
 routine-requires c κs = search needs

@@ -1,4 +1,4 @@
--- `triggers::list_name` meets its contract.
+-- `engine_triggers::list_name` meets its contract.
 use denote.Ref.{now}
 use mathlib.Core.Path.{refl}
 use Prim.Native.Nat.{_+_, _*_, _<_}
@@ -11,7 +11,7 @@ use Rattle.engine_triggers.proofs.Chaining.{only-triggers, trigger-adde
 use Rattle.engine_triggers.proofs.list_name.Statement.{statement}
 use Rattle.engine_triggers.proofs.list_name.Tie as tie
 
--- `triggers::list_name` meets its contract.
+-- `engine_triggers::list_name` meets its contract.
 
 owner-requires : tie.Need-owner-requires
 owner-requires c κs = search needs

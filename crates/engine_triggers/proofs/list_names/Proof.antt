@@ -1,4 +1,4 @@
--- `triggers::list_names` meets its contract.
+-- `engine_triggers::list_names` meets its contract.
 use denote.Ref.{now}
 use mathlib.Core.List.{List}
 use mathlib.Core.Path.{_≡_, sym, ap, _∙_}
@@ -18,7 +18,7 @@ use Rattle.engine_triggers.specs.Awaited.{FewNames, listsWith}
 use Rattle.engine_triggers.specs.Chains.{Chains, OnlyTriggers}
 use Rattle.engine_triggers.proofs.list_names.Tie as tie
 
--- `triggers::list_names` meets its contract.
+-- `engine_triggers::list_names` meets its contract.
 
 abbrev Inv-loop : tie.InvT-loop
 Inv-loop m₀ t s cells count j₀ m j =

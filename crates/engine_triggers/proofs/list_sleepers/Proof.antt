@@ -1,4 +1,4 @@
--- `triggers::list_sleepers` meets its contract.
+-- `engine_triggers::list_sleepers` meets its contract.
 use denote.Ref.{now}
 use mathlib.Core.Path.{_≡_}
 use Prim.Native.Nat.{_*_, _-_, _≤_}
@@ -15,7 +15,7 @@ use Rattle.engine_triggers.specs.Awaited.{Sleepers, listedBelow}
 use Rattle.engine_triggers.specs.Chains.{Chains, OnlyTriggers}
 use Rattle.engine_triggers.proofs.list_sleepers.Tie as tie
 
--- `triggers::list_sleepers` meets its contract.
+-- `engine_triggers::list_sleepers` meets its contract.
 
 abbrev Inv-loop : tie.InvT-loop
 Inv-loop m₀ t s₀ m s =

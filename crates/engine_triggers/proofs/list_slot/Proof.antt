@@ -1,4 +1,4 @@
--- `triggers::list_slot` meets its contract.
+-- `engine_triggers::list_slot` meets its contract.
 use denote.Ref.{now}
 use mathlib.Core.Bool.{true}
 use mathlib.Core.List.{List}
@@ -16,7 +16,7 @@ use Rattle.engine_triggers.proofs.list_slot.Statement.{statement}
 use Rattle.engine_triggers.specs.Awaited.{awaitedNames, FewNames}
 use Rattle.engine_triggers.proofs.list_slot.Tie as tie
 
--- `triggers::list_slot` meets its contract.
+-- `engine_triggers::list_slot` meets its contract.
 
 asleep-requires : tie.Need-asleep-requires
 asleep-requires c κs = search needs

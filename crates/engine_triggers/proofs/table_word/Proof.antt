@@ -1,4 +1,4 @@
--- `triggers::table_word` meets its contract.
+-- `engine_triggers::table_word` meets its contract.
 use denote.Ref.{now}
 use mathlib.Core.Path.{sym}
 use native.Mathlib.Omega.{arith}
@@ -7,7 +7,7 @@ use borrow.Author.Needs.{needs}
 use Rattle.engine_triggers.proofs.table_word.Statement.{statement}
 use Rattle.engine_triggers.proofs.table_word.Tie as tie
 
--- `triggers::table_word` meets its contract.
+-- `engine_triggers::table_word` meets its contract.
 
 mul-number : tie.Need-mul-number
 mul-number c = search needs

@@ -1,4 +1,4 @@
--- `variables::assign` meets its contract.
+-- `engine_variables::assign` meets its contract.
 use Prim.Native.Nat.{_+_}
 use borrow.Author.Needs.{needs}
 use Rattle.engine_blocks.proofs.InBlocks.{in-block-put-then}
@@ -7,7 +7,7 @@ use Rattle.engine_variables.proofs.assign.Statement.{statement}
 use Rattle.engine_blocks.specs.Changes.{assignedBlock}
 use Rattle.engine_variables.proofs.assign.Tie as tie
 
--- `variables::assign` meets its contract.
+-- `engine_variables::assign` meets its contract.
 
 mul-put-word : tie.Need-mul-put-word
 mul-put-word c = search needs

@@ -1,4 +1,4 @@
--- `variables::due` meets its contract.
+-- `engine_variables::due` meets its contract.
 use denote.Ref.{now}
 use mathlib.Core.Path.{ap₂, sym, _∙_}
 use Prim.Native.Nat.{ℕ, _+_, _*_}
@@ -10,7 +10,7 @@ use Rattle.engine_variables.proofs.due.Statement.{statement}
 use Rattle.engine_blocks.specs.Blocks.{block, variableIn}
 use Rattle.engine_variables.proofs.due.Tie as tie
 
--- `variables::due` meets its contract.
+-- `engine_variables::due` meets its contract.
 
 mul-word-at : tie.Need-mul-word-at
 mul-word-at c = search needs

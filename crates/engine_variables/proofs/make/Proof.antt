@@ -1,4 +1,4 @@
--- `variables::make` meets its contract.
+-- `engine_variables::make` meets its contract.
 use denote.Ref.{now}
 use Prim.Native.Nat.{_+_, _*_}
 use borrow.Author.Needs.{needs}
@@ -8,7 +8,7 @@ use Rattle.engine_blocks.specs.Blocks.{block}
 use Rattle.engine_blocks.specs.Changes.{madeBlock}
 use Rattle.engine_variables.proofs.make.Tie as tie
 
--- `variables::make` meets its contract.
+-- `engine_variables::make` meets its contract.
 
 mul-word-at : tie.Need-mul-word-at
 mul-word-at c = search needs

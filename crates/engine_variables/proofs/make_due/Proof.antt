@@ -1,4 +1,4 @@
--- `variables::make_due` meets its contract.
+-- `engine_variables::make_due` meets its contract.
 use denote.Ref.{now}
 use mathlib.Core.Path.{_≡_, sym, _∙_}
 use Prim.Native.Nat.{_+_, _*_}
@@ -10,7 +10,7 @@ use Rattle.engine_blocks.specs.Blocks.{block, variableIn}
 use Rattle.engine_blocks.specs.Changes.{unmarkedBlock}
 use Rattle.engine_variables.proofs.make_due.Tie as tie
 
--- `variables::make_due` meets its contract.
+-- `engine_variables::make_due` meets its contract.
 
 due-requires : tie.Need-due-requires
 due-requires c κs = search needs

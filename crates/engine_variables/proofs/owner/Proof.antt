@@ -1,4 +1,4 @@
--- `variables::owner` meets its contract.
+-- `engine_variables::owner` meets its contract.
 use denote.Ref.{now}
 use mathlib.Core.Path.{ap, sym, _∙_}
 use Prim.Native.Nat.{ℕ, _≤_, _<_, _/_, _%_}
@@ -9,7 +9,7 @@ use Rattle.engine_variables.proofs.owner.Statement.{statement}
 use Rattle.engine_blocks.specs.Blocks.{ownerAt}
 use Rattle.engine_variables.proofs.owner.Tie as tie
 
--- `variables::owner` meets its contract.
+-- `engine_variables::owner` meets its contract.
 
 add-word-at : tie.Need-add-word-at
 add-word-at c = search needs

@@ -1,4 +1,4 @@
--- `variables::schedule` meets its contract.
+-- `engine_variables::schedule` meets its contract.
 use Prim.Native.Nat.{_+_, _*_, _/_, _%_}
 use borrow.Author.Needs.{needs}
 use Rattle.engine_blocks.proofs.InBlocks.{in-block-put-then}
@@ -7,7 +7,7 @@ use Rattle.engine_variables.proofs.schedule.Statement.{statement}
 use Rattle.engine_blocks.specs.Changes.{scheduledBlock}
 use Rattle.engine_variables.proofs.schedule.Tie as tie
 
--- `variables::schedule` meets its contract.
+-- `engine_variables::schedule` meets its contract.
 
 mul-put-word : tie.Need-mul-put-word
 mul-put-word c = search needs

@@ -1,11 +1,11 @@
--- `variables::unmark` meets its contract.
+-- `engine_variables::unmark` meets its contract.
 use borrow.Author.Needs.{needs}
 use Rattle.engine_variables.proofs.VariableBlocks.{unmark-changes}
 use Rattle.engine_variables.proofs.unmark.Statement.{statement}
 use Rattle.engine_blocks.specs.Changes.{unmarkedBlock}
 use Rattle.engine_variables.proofs.unmark.Tie as tie
 
--- `variables::unmark` meets its contract.
+-- `engine_variables::unmark` meets its contract.
 
 add-put-word : tie.Need-add-put-word
 add-put-word c = search needs

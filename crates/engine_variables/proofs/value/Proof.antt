@@ -1,4 +1,4 @@
--- `variables::value` meets its contract.
+-- `engine_variables::value` meets its contract.
 use denote.Ref.{now}
 use borrow.Author.Needs.{needs}
 use Rattle.walk.specs.State.{Variable}
@@ -7,7 +7,7 @@ use Rattle.engine_variables.proofs.value.Statement.{statement}
 use Rattle.engine_blocks.specs.Blocks.{variableIn}
 use Rattle.engine_variables.proofs.value.Tie as tie
 
--- `variables::value` meets its contract.
+-- `engine_variables::value` meets its contract.
 
 mul-word-at : tie.Need-mul-word-at
 mul-word-at c = search needs

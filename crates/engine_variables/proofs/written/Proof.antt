@@ -1,4 +1,4 @@
--- `variables::written` meets its contract.
+-- `engine_variables::written` meets its contract.
 use denote.Ref.{now}
 use mathlib.Core.Bool.{not}
 use mathlib.Core.Path.{ap, _∙_}
@@ -12,7 +12,7 @@ use Rattle.engine_variables.proofs.written.Statement.{statement}
 use Rattle.engine_blocks.specs.Blocks.{block, variableIn}
 use Rattle.engine_variables.proofs.written.Tie as tie
 
--- `variables::written` meets its contract.
+-- `engine_variables::written` meets its contract.
 
 add-word-at : tie.Need-add-word-at
 add-word-at c = search needs

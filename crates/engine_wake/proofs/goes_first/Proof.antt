@@ -1,4 +1,4 @@
--- `triggers::goes_first` meets its contract.
+-- `engine_wake::goes_first` meets its contract.
 use mathlib.Core.Path.{sym, _∙_}
 use borrow.Author.Needs.{needs}
 use borrow.Author.Tests.{not-true, not-false}

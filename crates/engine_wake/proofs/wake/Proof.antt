@@ -1,4 +1,4 @@
--- `triggers::wake` meets its contract.
+-- `engine_wake::wake` meets its contract.
 use denote.Ref.{now}
 use mathlib.Core.List.{List}
 use mathlib.Core.Path.{_≡_, ap, _∙_}

@@ -1,4 +1,4 @@
--- `triggers::wake_all` meets its contract.
+-- `engine_wake::wake_all` meets its contract.
 use denote.Ref.{now}
 use mathlib.Core.Path.{_≡_, refl, sym, _∙_}
 use Prim.Native.Nat.{_≤_}

@@ -1,4 +1,4 @@
--- `triggers::wake_from` meets its contract.
+-- `engine_wake::wake_from` meets its contract.
 use denote.Ref.{now}
 use mathlib.Core.Path.{_≡_, sym, _∙_}
 use Prim.Native.Nat.{suc, _-_, _/_, _≤_, _<_}
@@ -14,7 +14,7 @@ use Rattle.engine_triggers.specs.Chains.{firstTrigger, nextTrigger, chained, tr
 use Rattle.engine_wake.specs.Wakes.{wakes, triggeredFrom}
 use Rattle.engine_wake.proofs.wake_from.Tie as tie
 
--- `triggers::wake_from` meets its contract.
+-- `engine_wake::wake_from` meets its contract.
 
 abbrev Inv-loop : tie.InvT-loop
 Inv-loop m s index from next₀ woken₀ next woken =

@@ -1,4 +1,4 @@
--- `triggers::wake_one` meets its contract.
+-- `engine_wake::wake_one` meets its contract.
 use denote.Ref.{now}
 use mathlib.Core.Path.{sym, _∙_}
 use Prim.Native.Nat.{_≤_, _<_}
@@ -15,7 +15,7 @@ use Rattle.engine_wake.proofs.Waking.{stays-awake, comes-earlier, is-wo
 use Rattle.engine_wake.proofs.wake_one.Statement.{statement}
 use Rattle.engine_wake.proofs.wake_one.Tie as tie
 
--- `triggers::wake_one` meets its contract.
+-- `engine_wake::wake_one` meets its contract.
 
 asleep-requires : tie.Need-asleep-requires
 asleep-requires c κs = search needs

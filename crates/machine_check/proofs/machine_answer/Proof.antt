@@ -1,4 +1,4 @@
--- `question7::machine_answer` meets its contract.
+-- `machine_check::machine_answer` meets its contract.
 use mathlib.Core.Path.{refl, sym, _∙_}
 use native.Mathlib.Omega.{arith}
 use Rattle.machine_words.proofs.TestLaws.{has-failed, has-passed}

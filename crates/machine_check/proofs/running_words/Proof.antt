@@ -1,4 +1,4 @@
--- `question7::running_words` meets its contract. w is what is known after `words_in_place`.
+-- `machine_check::running_words` meets its contract. w is what is known after `words_in_place`.
 use Prim.Native.Nat.{_+_}
 use mathlib.Core.Path.{_≡_, sym, _∙_}
 use mathlib.Core.Bool.{true, false}

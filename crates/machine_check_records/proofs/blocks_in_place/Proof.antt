@@ -1,4 +1,4 @@
--- `machine_in_place::blocks_in_place` meets its contract.
+-- `machine_check_records::blocks_in_place` meets its contract.
 use denote.Ref.{now}
 use mathlib.Core.Path.{_≡_, sym, _∙_}
 use mathlib.Core.Bool.{true, false}

@@ -1,4 +1,4 @@
--- `machine_in_place::header_in_place` meets its contract.
+-- `machine_check_records::header_in_place` meets its contract.
 use mathlib.Core.Path.{sym, _∙_}
 use borrow.Author.Tests.{le-leb, lt-leb, eq-eqb, ne-eqb, not-true, not-false}
 use Rattle.machine.specs.Words.{headerInPlace}

@@ -1,4 +1,4 @@
--- `machine_in_place::know_places` meets its contract.
+-- `machine_check_records::know_places` meets its contract.
 use Prim.Native.Nat.{_≤_}
 use mathlib.Core.Path.{_≡_, sym, _∙_}
 use mathlib.Core.Bool.{true, false}

@@ -1,4 +1,4 @@
--- `machine_in_place::knows_place` meets its contract.
+-- `machine_check_records::knows_place` meets its contract.
 use borrow.Author.Tests.{lt-ltb, le-ltb}
 use Rattle.machine.specs.Words.{knowsPlace}
 use borrow.Author.Needs.{needs}

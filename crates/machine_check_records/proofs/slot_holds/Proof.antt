@@ -1,4 +1,4 @@
--- `machine_in_place::slot_holds` meets its contract.
+-- `machine_check_records::slot_holds` meets its contract.
 use mathlib.Core.Path.{sym, _∙_}
 use borrow.Author.Tests.{le-leb, lt-leb, eq-eqb, ne-eqb, not-true, not-false}
 use Rattle.machine.specs.Words.{slotHolds}

@@ -1,4 +1,4 @@
--- `machine_in_place::slots_hold` meets its contract.
+-- `machine_check_records::slots_hold` meets its contract.
 use mathlib.Core.Path.{_≡_, refl, sym, _∙_}
 use mathlib.Core.Bool.{true, false}
 use lib.ListN.{length, length-set}

@@ -1,4 +1,4 @@
--- `machine_in_place::stopped_words` meets its contract.
+-- `machine_check_records::stopped_words` meets its contract.
 use Rattle.machine.specs.ReadMachine.{stoppedWords}
 use Rattle.walk.specs.Calls.{isStop}
 use borrow.Author.Tests.{le-leb, lt-leb}

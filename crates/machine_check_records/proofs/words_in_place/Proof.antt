@@ -1,4 +1,4 @@
--- `machine_in_place::words_in_place` meets its contract.
+-- `machine_check_records::words_in_place` meets its contract.
 use mathlib.Core.Path.{_≡_, sym, _∙_}
 use mathlib.Core.Bool.{false}
 use borrow.Author.Tests.{not-true, not-false}

@@ -1,4 +1,4 @@
--- `table_code::head_passes` meets its contract.
+-- `table_check_cells::head_passes` meets its contract.
 use denote.Ref.{now}
 use Prim.Native.Nat.{_+_}
 use native.Mathlib.Omega.{arith}

@@ -1,4 +1,4 @@
--- `table_code::held_after` meets its contract.
+-- `table_check_cells::held_after` meets its contract.
 use denote.Ref.{now}
 use mathlib.Core.Path.{sym, _∙_}
 use native.Mathlib.Omega.{arith}

@@ -1,4 +1,4 @@
--- `table_code::join` meets its contract.
+-- `table_check_cells::join` meets its contract.
 use borrow.Author.Tests.{le-leb, lt-leb}
 use Rattle.table_check_cells.specs.Pass.{joined}
 use native.Mathlib.Omega.{arith}

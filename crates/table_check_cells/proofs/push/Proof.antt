@@ -1,4 +1,4 @@
--- `table_code::push` meets its contract.
+-- `table_check_cells::push` meets its contract.
 use native.Mathlib.Omega.{arith}
 use borrow.Author.Tests.{lt-ltb, le-ltb}
 use Rattle.table_check_cells.specs.Pass.{pushed}

@@ -1,4 +1,4 @@
--- `table_code::counts_pass` meets its contract.
+-- `table_check_code::counts_pass` meets its contract.
 use native.Mathlib.Omega.{arith}
 use borrow.Author.Tests.{eq-eqb, ne-eqb, le-leb, lt-leb}
 use Rattle.table_check_code.proofs.counts_pass.Statement.{statement}

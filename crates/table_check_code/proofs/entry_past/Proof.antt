@@ -1,4 +1,4 @@
--- `table_code::entry_past` meets its contract.
+-- `table_check_code::entry_past` meets its contract.
 use denote.Ref.{now}
 use Prim.Native.Nat.{ℕ, _+_}
 use mathlib.Core.Path.{_≡_, sym}

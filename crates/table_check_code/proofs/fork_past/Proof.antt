@@ -1,4 +1,4 @@
--- `table_code::fork_past` meets its contract.
+-- `table_check_code::fork_past` meets its contract.
 use mathlib.Core.Path.{refl, sym, _∙_}
 use borrow.Author.Needs.{needs}
 use Rattle.table_check_code.proofs.fork_past.Statement.{statement}

@@ -1,4 +1,4 @@
--- `table_code::plain_past` meets its contract.
+-- `table_check_code::plain_past` meets its contract.
 use Prim.Native.Nat.{_+_}
 use mathlib.Core.Path.{_≡_, sym, _∙_}
 use mathlib.Core.Bool.{true}

@@ -1,4 +1,4 @@
--- `session_tests::main` meets its contract. The memories that it lends are long enough.
+-- `test_sessions::main` meets its contract. The memories that it lends are long enough.
 use Rattle.test_sessions.proofs.Steps.{lent-long}
 use borrow.Author.Needs.{needs}
 use Rattle.test_sessions.proofs.main.Statement.{statement}

@@ -1,4 +1,4 @@
--- `session_tests::run_file` meets its contract.
+-- `test_sessions::run_file` meets its contract.
 use mathlib.Core.Path.{_≡_, refl, sym, _∙_}
 use mathlib.Core.Logic.{⊎-elim}
 use native.Mathlib.Omega.{arith}

@@ -1,4 +1,4 @@
--- `conclusion::ending::conclude` meets its contract.
+-- `call_conclude::ending::conclude` meets its contract.
 use Rattle.call_conclude.proofs.Concluded.{concluded-stop, left-within, may-finish, concluded-end}
 use borrow.Author.Needs.{needs}
 use Rattle.call_conclude.proofs.ending.conclude.Statement.{statement}

@@ -1,4 +1,4 @@
--- `conclusion::ending::due_at` meets its contract.
+-- `call_conclude::ending::due_at` meets its contract.
 use Rattle.call_conclude.proofs.Finished.{due-never, due-moment}
 use Rattle.call_conclude.proofs.ending.due_at.Statement.{statement}
 use Rattle.call_conclude.proofs.ending.due_at.Tie as tie

@@ -1,4 +1,4 @@
--- `conclusion::ending::finished` meets its contract.
+-- `call_conclude::ending::finished` meets its contract.
 use native.Mathlib.Omega.{arith}
 use denote.Ref.{now}
 use Prim.Native.Nat.{_+_}

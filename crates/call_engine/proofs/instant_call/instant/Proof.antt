@@ -1,4 +1,4 @@
--- `engine::instant_call::instant` meets its contract.
+-- `call_engine::instant_call::instant` meets its contract.
 use native.Mathlib.Omega.{arith}
 use lib.ListN.{length-take}
 use Rattle.call_engine.proofs.Accepted.{instant-refused, instant-accepted, conclusion-keeps}

@@ -1,4 +1,4 @@
--- `engine::instant_call::instant_work` meets its contract.
+-- `call_engine::instant_call::instant_work` meets its contract.
 use native.Mathlib.Omega.{arith}
 use Prim.Native.Nat.{_<_}
 use mathlib.Core.Path.{refl}

@@ -1,4 +1,4 @@
--- `engine::start_call::start` meets its contract.
+-- `call_engine::start_call::start` meets its contract.
 use native.Mathlib.Omega.{arith}
 use lib.ListN.{length-take}
 use Rattle.call_engine.proofs.Accepted.{start-refused, start-accepted, conclusion-keeps}

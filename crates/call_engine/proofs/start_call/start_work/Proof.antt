@@ -1,4 +1,4 @@
--- `engine::start_call::start_work` meets its contract.
+-- `call_engine::start_call::start_work` meets its contract.
 use denote.Ref.{now}
 use Rattle.call_engine.proofs.Starting.{may-run, may-conclude, start-concludes}
 use borrow.Author.Needs.{needs}

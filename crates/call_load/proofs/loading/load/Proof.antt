@@ -1,4 +1,4 @@
--- `load::load` meets its contract.
+-- `call_load::load` meets its contract.
 use mathlib.Core.Path.{sym, ap, _∙_}
 use denote.Ref.{now}
 use lib.Seq.{length-take-le}

@@ -1,4 +1,4 @@
--- `load::advance` meets its contract.
+-- `call_load::advance` meets its contract.
 use mathlib.Core.Path.{ap}
 use native.Mathlib.Omega.{arith}
 use Rattle.call_load.specs.Writing.{wordsIn}

@@ -1,4 +1,4 @@
--- `load::enter` meets its contract.
+-- `call_load::enter` meets its contract.
 use borrow.Author.Needs.{needs}
 use Rattle.call_load.proofs.progress.enter.Statement.{statement}
 use Rattle.call_load.proofs.progress.enter.Tie as tie

@@ -1,4 +1,4 @@
--- `load::write_next` meets its contract.
+-- `call_load::write_next` meets its contract.
 use native.Mathlib.Omega.{arith}
 use Rattle.call_load.proofs.Beginning as beginning
 use Rattle.call_load.proofs.Turn as turn

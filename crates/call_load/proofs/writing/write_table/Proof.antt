@@ -1,4 +1,4 @@
--- `load::write_table` meets its contract.
+-- `call_load::write_table` meets its contract.
 use denote.Ref.{now}
 use Prim.Native.Nat.{_-_}
 use lib.ListN.{length}

@@ -1,4 +1,4 @@
--- `beginning::queue::flag` meets its contract.
+-- `engine_begin::queue::flag` meets its contract.
 use Rattle.engine_begin.proofs.Queueing.{no-flag, some-flag}
 use Rattle.engine_begin.proofs.queue.flag.Statement.{statement}
 use Rattle.engine_begin.proofs.queue.flag.Tie as tie

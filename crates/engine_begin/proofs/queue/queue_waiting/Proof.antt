@@ -1,4 +1,4 @@
--- `beginning::queue::queue_waiting` meets its contract.
+-- `engine_begin::queue::queue_waiting` meets its contract.
 use mathlib.Core.Path.{_≡_}
 use Prim.Native.Nat.{_≤_, _-_}
 use native.Mathlib.Omega.{arith}

@@ -1,4 +1,4 @@
--- `blocks::memory::clear_words` meets its contract.
+-- `engine_blocks::memory::clear_words` meets its contract.
 use denote.Ref.{now}
 use mathlib.Core.Path.{_≡_}
 use Prim.Native.Nat.{_≤_, _-_}
@@ -12,7 +12,7 @@ use Rattle.engine_blocks.specs.Blocks.{block}
 use Rattle.engine_blocks.specs.Changes.{InBlock, cleared}
 use Rattle.engine_blocks.proofs.memory.clear_words.Tie as tie
 
--- `blocks::memory::clear_words` meets its contract.
+-- `engine_blocks::memory::clear_words` meets its contract.
 
 abbrev Inv-loop : tie.InvT-loop
 Inv-loop m₀ s from to offset₀ m offset =

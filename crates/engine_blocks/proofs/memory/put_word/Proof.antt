@@ -1,11 +1,11 @@
--- `blocks::memory::put_word` meets its contract.
+-- `engine_blocks::memory::put_word` meets its contract.
 use denote.Ref.{now}
 use borrow.Author.Needs.{needs}
 use Rattle.engine_blocks.proofs.InBlocks.{in-block-put}
 use Rattle.engine_blocks.proofs.memory.put_word.Statement.{statement}
 use Rattle.engine_blocks.proofs.memory.put_word.Tie as tie
 
--- `blocks::memory::put_word` meets its contract.
+-- `engine_blocks::memory::put_word` meets its contract.
 
 mul-m : tie.Need-mul-m
 mul-m c = search needs

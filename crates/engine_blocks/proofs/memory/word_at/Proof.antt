@@ -1,4 +1,4 @@
--- `blocks::memory::word_at` meets its contract.
+-- `engine_blocks::memory::word_at` meets its contract.
 use denote.Ref.{now}
 use mathlib.Core.Path.{sym}
 use borrow.Author.Needs.{needs}
@@ -6,7 +6,7 @@ use Rattle.engine_blocks.proofs.InBlocks.{block-word}
 use Rattle.engine_blocks.proofs.memory.word_at.Statement.{statement}
 use Rattle.engine_blocks.proofs.memory.word_at.Tie as tie
 
--- `blocks::memory::word_at` meets its contract.
+-- `engine_blocks::memory::word_at` meets its contract.
 
 mul-result : tie.Need-mul-result
 mul-result c = search needs

@@ -1,4 +1,4 @@
--- `blocks::row::bits` meets its contract.
+-- `engine_blocks::row::bits` meets its contract.
 use denote.Ref.{now}
 use mathlib.Core.Path.{_∙_}
 use borrow.Author.Needs.{needs}
@@ -8,7 +8,7 @@ use Rattle.engine_blocks.proofs.row.bits.Statement.{statement}
 use Rattle.engine_blocks.specs.Blocks.{rowAt}
 use Rattle.engine_blocks.proofs.row.bits.Tie as tie
 
--- `blocks::row::bits` meets its contract.
+-- `engine_blocks::row::bits` meets its contract.
 
 word-at-requires : tie.Need-word-at-requires
 word-at-requires c κs = search needs

@@ -1,10 +1,10 @@
--- `blocks::row::free` meets its contract.
+-- `engine_blocks::row::free` meets its contract.
 use borrow.Author.Needs.{needs}
 use Rattle.engine_blocks.proofs.RowChanges.{free-changes}
 use Rattle.engine_blocks.proofs.row.free.Statement.{statement}
 use Rattle.engine_blocks.proofs.row.free.Tie as tie
 
--- `blocks::row::free` meets its contract.
+-- `engine_blocks::row::free` meets its contract.
 
 clear-words-requires : tie.Need-clear-words-requires
 clear-words-requires c κs = search needs

@@ -1,10 +1,10 @@
--- `blocks::row::set_children` meets its contract.
+-- `engine_blocks::row::set_children` meets its contract.
 use borrow.Author.Needs.{needs}
 use Rattle.engine_blocks.proofs.RowChanges.{children-changes}
 use Rattle.engine_blocks.proofs.row.set_children.Statement.{statement}
 use Rattle.engine_blocks.proofs.row.set_children.Tie as tie
 
--- `blocks::row::set_children` meets its contract.
+-- `engine_blocks::row::set_children` meets its contract.
 
 put-word-requires : tie.Need-put-word-requires
 put-word-requires c κs = search needs

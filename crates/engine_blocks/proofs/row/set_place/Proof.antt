@@ -1,4 +1,4 @@
--- `blocks::row::set_place` meets its contract.
+-- `engine_blocks::row::set_place` meets its contract.
 use borrow.Author.Needs.{needs}
 use Rattle.engine_blocks.proofs.InBlocks.{in-block-put-then}
 use Rattle.engine_blocks.proofs.RowChanges.{place-changes}
@@ -6,7 +6,7 @@ use Rattle.engine_blocks.proofs.row.set_place.Statement.{statement}
 use Rattle.engine_blocks.specs.Changes.{placedBlock}
 use Rattle.engine_blocks.proofs.row.set_place.Tie as tie
 
--- `blocks::row::set_place` meets its contract.
+-- `engine_blocks::row::set_place` meets its contract.
 
 put-word-requires : tie.Need-put-word-requires
 put-word-requires c κs = search needs

@@ -1,4 +1,4 @@
--- `children::fork::fork_children` meets its contract.
+-- `engine_children::fork::fork_children` meets its contract.
 use mathlib.Core.Path.{refl}
 use Prim.Native.Nat.{_-_}
 use native.Mathlib.Omega.{arith}

@@ -1,4 +1,4 @@
--- `children::fork::new_child` meets its contract.
+-- `engine_children::fork::new_child` meets its contract.
 use native.Mathlib.Omega.{arith}
 use denote.Ref.{now}
 use Rattle.engine_children.proofs.OwnNames.{changed-then}

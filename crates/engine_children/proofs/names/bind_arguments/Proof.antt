@@ -1,4 +1,4 @@
--- `children::names::bind_arguments` meets its contract.
+-- `engine_children::names::bind_arguments` meets its contract.
 use Prim.Native.Nat.{_-_}
 use native.Mathlib.Omega.{arith}
 use denote.Ref.{now}

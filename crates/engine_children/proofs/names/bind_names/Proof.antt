@@ -1,4 +1,4 @@
--- `children::names::bind_names` meets its contract.
+-- `engine_children::names::bind_names` meets its contract.
 use native.Mathlib.Omega.{arith}
 use Rattle.engine_children.proofs.OwnNames.{all-names}
 use Rattle.engine_children.proofs.names.bind_names.Statement.{statement}

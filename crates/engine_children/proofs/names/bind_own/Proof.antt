@@ -1,4 +1,4 @@
--- `children::names::bind_own` meets its contract.
+-- `engine_children::names::bind_own` meets its contract.
 use mathlib.Core.Path.{refl}
 use Prim.Native.Nat.{_-_}
 use denote.Ref.{now}

@@ -1,4 +1,4 @@
--- `children::rows::own_count` meets its contract.
+-- `engine_children::rows::own_count` meets its contract.
 use native.Mathlib.Omega.{arith}
 use denote.Ref.{now}
 use Rattle.engine_children.proofs.Priorities.{own-length}

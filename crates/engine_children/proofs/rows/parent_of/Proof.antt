@@ -1,4 +1,4 @@
--- `children::rows::parent_of` meets its contract.
+-- `engine_children::rows::parent_of` meets its contract.
 use mathlib.Core.Path.{refl}
 use native.Mathlib.Omega.{arith}
 use borrow.Author.Needs.{needs}

@@ -1,4 +1,4 @@
--- `children::rows::put_kept` meets its contract.
+-- `engine_children::rows::put_kept` meets its contract.
 use Rattle.engine_blocks.proofs.InBlocks.{in-block-put-then}
 use Rattle.engine_children.specs.NewRow.{keptBlock}
 use borrow.Author.Needs.{needs}

@@ -1,4 +1,4 @@
--- `children::rows::put_working` meets its contract.
+-- `engine_children::rows::put_working` meets its contract.
 use Prim.Native.Nat.{_+_, _*_, _^_}
 use native.Mathlib.Omega.{arith}
 use Rattle.engine_blocks.proofs.InBlocks.{in-block-put-then}

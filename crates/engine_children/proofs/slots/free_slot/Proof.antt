@@ -1,4 +1,4 @@
--- `children::slots::free_slot` meets its contract.
+-- `engine_children::slots::free_slot` meets its contract.
 use mathlib.Core.Path.{_≡_, sym, ap, subst, _∙_}
 use Prim.Native.Nat.{ℕ, _-_, _+_, _≤_}
 use native.Mathlib.Omega.{arith}

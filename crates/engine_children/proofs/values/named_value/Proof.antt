@@ -1,4 +1,4 @@
--- `children::values::named_value` meets its contract.
+-- `engine_children::values::named_value` meets its contract.
 use denote.Ref.{now}
 use Rattle.walk.specs.State.{Variable}
 use Rattle.engine_evaluate.proofs.Names.{names-few, read-by-name}

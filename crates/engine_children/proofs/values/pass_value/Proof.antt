@@ -1,4 +1,4 @@
--- `children::values::pass_value` meets its contract.
+-- `engine_children::values::pass_value` meets its contract.
 use denote.Ref.{now}
 use Rattle.engine_children.proofs.Passing.{reference-passed, value-passed}
 use borrow.Author.Needs.{needs}

@@ -1,4 +1,4 @@
--- `children::values::pass_values` meets its contract.
+-- `engine_children::values::pass_values` meets its contract.
 use Prim.Native.Nat.{_-_}
 use native.Mathlib.Omega.{arith}
 use Rattle.engine_children.proofs.Passing.{Values, values-start, value-there, values-next, values-end}

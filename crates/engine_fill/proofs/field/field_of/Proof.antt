@@ -1,4 +1,4 @@
--- `filling::field::field_of` meets its contract.
+-- `engine_fill::field::field_of` meets its contract.
 use mathlib.Core.Path.{refl, sym, ap, subst, _∙_}
 use Prim.Native.Nat.{ℕ, _+_, _<_, _≤_}
 use native.Mathlib.Omega.{arith}

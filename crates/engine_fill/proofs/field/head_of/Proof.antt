@@ -1,4 +1,4 @@
--- `filling::field::head_of` meets its contract.
+-- `engine_fill::field::head_of` meets its contract.
 use mathlib.Core.Path.{_≡_, refl, sym, ap, subst, _∙_}
 use Prim.Native.Nat.{ℕ, _+_, _≤_, _-_}
 use native.Mathlib.Numerals.{add-one}

@@ -1,4 +1,4 @@
--- `filling::field::wait_mark` meets its contract.
+-- `engine_fill::field::wait_mark` meets its contract.
 use mathlib.Core.Path.{sym}
 use Rattle.engine_blocks.specs.Blocks.{nonzero}
 use Rattle.engine_fill.proofs.Fetching.{marked-wait, unmarked-wait}

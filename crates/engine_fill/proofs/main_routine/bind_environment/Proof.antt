@@ -1,4 +1,4 @@
--- `filling::main_routine::bind_environment` meets its contract.
+-- `engine_fill::main_routine::bind_environment` meets its contract.
 use mathlib.Core.Path.{refl}
 use Prim.Native.Nat.{_-_}
 use denote.Ref.{now}

@@ -1,4 +1,4 @@
--- `filling::main_routine::bind_main` meets its contract.
+-- `engine_fill::main_routine::bind_main` meets its contract.
 use mathlib.Core.Path.{ap, _∙_}
 use mathlib.Core.List.{List, _++_}
 use native.Mathlib.Omega.{arith}

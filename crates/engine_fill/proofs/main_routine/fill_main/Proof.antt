@@ -1,4 +1,4 @@
--- `filling::main_routine::fill_main` meets its contract.
+-- `engine_fill::main_routine::fill_main` meets its contract.
 use mathlib.Core.Path.{sym, ap, subst, _∙_}
 use Prim.Native.Nat.{ℕ, _<_}
 use native.Mathlib.Omega.{arith}

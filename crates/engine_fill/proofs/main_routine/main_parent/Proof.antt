@@ -1,4 +1,4 @@
--- `filling::main_routine::main_parent` meets its contract.
+-- `engine_fill::main_routine::main_parent` meets its contract.
 use mathlib.Core.Path.{refl}
 use native.Mathlib.Omega.{arith}
 use denote.Ref.{now}

@@ -1,4 +1,4 @@
--- `filling::main_routine::main_row` meets its contract.
+-- `engine_fill::main_routine::main_row` meets its contract.
 use native.Mathlib.Omega.{arith}
 use denote.Ref.{now}
 use Rattle.engine_fill.proofs.MainNames.{main-there}

@@ -1,4 +1,4 @@
--- `filling::pass::fill_rows` meets its contract.
+-- `engine_fill::pass::fill_rows` meets its contract.
 use mathlib.Core.Path.{subst}
 use Prim.Native.Nat.{ℕ, _<_, _-_}
 use native.Mathlib.Omega.{arith}

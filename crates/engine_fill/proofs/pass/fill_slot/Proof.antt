@@ -1,4 +1,4 @@
--- `filling::pass::fill_slot` meets its contract.
+-- `engine_fill::pass::fill_slot` meets its contract.
 use Rattle.engine_fill.proofs.Passes.{slot-main, slot-child}
 use borrow.Author.Needs.{needs}
 use Rattle.engine_fill.proofs.pass.fill_slot.Statement.{statement}

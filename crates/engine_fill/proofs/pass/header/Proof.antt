@@ -1,4 +1,4 @@
--- `filling::pass::header` meets its contract.
+-- `engine_fill::pass::header` meets its contract.
 use native.Mathlib.Omega.{arith}
 use borrow.Author.Needs.{needs}
 use Rattle.engine_fill.proofs.pass.header.Statement.{statement}

@@ -1,4 +1,4 @@
--- `filling::row::fill_child` meets its contract.
+-- `engine_fill::row::fill_child` meets its contract.
 use native.Mathlib.Omega.{arith}
 use denote.Ref.{now}
 use Rattle.engine_fill.proofs.ChildFilled.{count-divides, may-fill-row, child-filled}

@@ -1,4 +1,4 @@
--- `filling::row::fill_row` meets its contract.
+-- `engine_fill::row::fill_row` meets its contract.
 use mathlib.Core.Path.{sym, ap, subst, _∙_}
 use Prim.Native.Nat.{ℕ, _<_}
 use native.Mathlib.Omega.{arith}

@@ -1,4 +1,4 @@
--- `finishing::working::clear_block` meets its contract.
+-- `engine_finish::working::clear_block` meets its contract.
 use Rattle.engine_blocks.proofs.InBlocks.{in-block-put-then}
 use Rattle.engine_finish.specs.Ended.{idleBlock}
 use borrow.Author.Needs.{needs}

@@ -1,4 +1,4 @@
--- `run::whole::run_on` meets its contract.
+-- `engine_run::whole::run_on` meets its contract.
 use mathlib.Core.Path.{_∙_}
 use native.Mathlib.Omega.{arith}
 use Rattle.engine_run.proofs.Going.{Going, one-taken, going-begins, may-step-now, going-on, going-ends, going-halts, going-used-up}

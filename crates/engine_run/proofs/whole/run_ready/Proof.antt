@@ -1,4 +1,4 @@
--- `run::whole::run_ready` meets its contract.
+-- `engine_run::whole::run_ready` meets its contract.
 use mathlib.Core.Path.{_∙_}
 use Rattle.engine_run.proofs.FirstReady.{may-pop-first, may-run-first, first-runs, first-ends, first-halts}
 use borrow.Author.Needs.{needs}

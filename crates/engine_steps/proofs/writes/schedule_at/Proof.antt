@@ -1,4 +1,4 @@
--- `steps::writes::schedule_at` meets its contract.
+-- `engine_steps::writes::schedule_at` meets its contract.
 use denote.Ref.{now}
 use mathlib.Core.Path.{_≡_, ap}
 use Prim.Native.Nat.{_+_, suc}

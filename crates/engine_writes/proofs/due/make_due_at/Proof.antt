@@ -1,4 +1,4 @@
--- `instants::due::make_due_at` meets its contract.
+-- `engine_writes::due::make_due_at` meets its contract.
 use denote.Ref.{now}
 use Rattle.engine_writes.proofs.Passing.{due-made}
 use Rattle.engine_writes.proofs.ReachedBlocks.{all-reach, environment-told}

@@ -1,4 +1,4 @@
--- `instants::due::make_due_in` meets its contract.
+-- `engine_writes::due::make_due_in` meets its contract.
 use denote.Ref.{now}
 use mathlib.Core.Path.{_≡_}
 use Prim.Native.Nat.{_≤_, _-_}

@@ -1,4 +1,4 @@
--- `instants::due::make_due_slot` meets its contract.
+-- `engine_writes::due::make_due_slot` meets its contract.
 use denote.Ref.{now}
 use mathlib.Core.Path.{sym, ap, _∙_}
 use Prim.Native.Nat.{ℕ, min}

@@ -1,4 +1,4 @@
--- `instants::due::wake_if_written` meets its contract.
+-- `engine_writes::due::wake_if_written` meets its contract.
 use denote.Ref.{now}
 use borrow.Author.Needs.{needs}
 use Rattle.engine_ready.specs.Slots.{slotsOf}

@@ -1,4 +1,4 @@
--- `instants::inputs::write_inputs` meets its contract.
+-- `engine_writes::inputs::write_inputs` meets its contract.
 use denote.Ref.{now}
 use mathlib.Core.Path.{_≡_}
 use Prim.Native.Nat.{ℕ, _≤_, _-_}

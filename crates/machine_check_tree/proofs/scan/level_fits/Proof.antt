@@ -1,4 +1,4 @@
--- `tree_scan::scan::level_fits` meets its contract.
+-- `machine_check_tree::scan::level_fits` meets its contract.
 use native.Mathlib.Numerals.{add-one}
 use Rattle.machine.specs.Records.{levelFits}
 use borrow.Author.Needs.{needs}

@@ -1,4 +1,4 @@
--- `tree_scan::scan::made_by` meets its contract.
+-- `machine_check_tree::scan::made_by` meets its contract.
 use Prim.Native.Nat.{_<_}
 use mathlib.Core.Path.{_≡_, sym, ap, _∙_}
 use lib.ListN.{getD}

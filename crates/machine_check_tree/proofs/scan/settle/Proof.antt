@@ -1,4 +1,4 @@
--- `tree_scan::scan::settle` meets its contract.
+-- `machine_check_tree::scan::settle` meets its contract.
 use Prim.Native.Nat.{_<_}
 use mathlib.Core.Path.{_≡_, _∙_}
 use native.Mathlib.Omega.{arith}

@@ -1,4 +1,4 @@
--- `tree_scan::scan::step` meets its contract.
+-- `machine_check_tree::scan::step` meets its contract.
 use mathlib.Core.Path.{_≡_, sym, _∙_}
 use lib.ListN.{length}
 use Rattle.walk.specs.Question7.{ownedBy}

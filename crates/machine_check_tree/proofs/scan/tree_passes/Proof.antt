@@ -1,4 +1,4 @@
--- `tree_scan::scan::tree_passes` meets its contract.
+-- `machine_check_tree::scan::tree_passes` meets its contract.
 use Prim.Native.Nat.{_-_, _≤_}
 use mathlib.Core.Path.{refl, sym}
 use native.Mathlib.Omega.{arith}

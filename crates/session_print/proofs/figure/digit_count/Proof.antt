@@ -1,4 +1,4 @@
--- `printing::digit_count` meets its contract.
+-- `session_print::digit_count` meets its contract.
 use mathlib.Core.Path.{refl}
 use native.Mathlib.Omega.{arith}
 use borrow.Author.Needs.{needs}

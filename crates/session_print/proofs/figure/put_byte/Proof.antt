@@ -1,4 +1,4 @@
--- `printing::put_byte` meets its contract.
+-- `session_print::put_byte` meets its contract.
 use mathlib.Core.Path.{sym}
 use lib.Seq.{set-out}
 use borrow.Author.Needs.{needs}

@@ -1,4 +1,4 @@
--- `printing::put_figure` meets its contract.
+-- `session_print::put_figure` meets its contract.
 use mathlib.Core.Path.{ap}
 use native.Mathlib.Omega.{arith}
 use Prim.Native.Nat.{_+_}

@@ -1,4 +1,4 @@
--- `printing::put_signed` meets its contract.
+-- `session_print::put_signed` meets its contract.
 use native.Mathlib.Omega.{arith}
 use Prim.Native.Nat.{_+_}
 use denote.Ref.{now}

@@ -1,4 +1,4 @@
--- `printing::put_write_lines` meets its contract.
+-- `session_print::put_write_lines` meets its contract.
 use mathlib.Core.Path.{ap, sym}
 use native.Mathlib.Omega.{arith}
 use Prim.Native.Nat.{_+_, _*_, _-_}

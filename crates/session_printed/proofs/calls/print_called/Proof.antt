@@ -1,4 +1,4 @@
--- `printed_calls::calls::print_called` meets its contract.
+-- `session_printed::calls::print_called` meets its contract.
 use native.Mathlib.Omega.{arith}
 use Rattle.session_printed.proofs.PiecePrinted.{ends-printed, goes-printed, listed-of}
 use borrow.Author.Needs.{needs}

@@ -1,4 +1,4 @@
--- `printed_calls::calls::print_start` meets its contract.
+-- `session_printed::calls::print_start` meets its contract.
 use native.Mathlib.Omega.{arith}
 use Rattle.session_calls.proofs.FewListed.{called-few}
 use borrow.Author.Needs.{needs}

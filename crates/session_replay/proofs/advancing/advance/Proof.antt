@@ -1,4 +1,4 @@
--- `replay::advancing::advance` meets its contract.
+-- `session_replay::advancing::advance` meets its contract.
 use mathlib.Core.Path.{refl, sym, _∙_}
 use denote.Ref.{now}
 use borrow.Author.Tests.{not-true, not-false}

@@ -1,4 +1,4 @@
--- `replay::advancing::long_enough` meets its contract.
+-- `session_replay::advancing::long_enough` meets its contract.
 use native.Mathlib.Omega.{arith}
 use Prim.Native.Nat.{_≤_, _<_}
 use borrow.Author.Tests.{le-leb, lt-leb}

@@ -1,4 +1,4 @@
--- `replay::advancing::step_on` meets its contract.
+-- `session_replay::advancing::step_on` meets its contract.
 use mathlib.Core.Path.{refl}
 use denote.Ref.{now}
 use Rattle.session_replay.specs.declared.phase.Phase.the-variants.{Opening, Starting, Over}

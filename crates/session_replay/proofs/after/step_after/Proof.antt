@@ -1,4 +1,4 @@
--- `replay::after::step_after` meets its contract.
+-- `session_replay::after::step_after` meets its contract.
 use mathlib.Core.Path.{sym, ap}
 use Rattle.session_printed.specs.declared.calls.Made.{Made}
 use Rattle.session_replay.specs.After.{stepAfter}

@@ -1,4 +1,4 @@
--- `replay::from_phase::end_with` meets its contract.
+-- `session_replay::from_phase::end_with` meets its contract.
 use native.Mathlib.Omega.{arith}
 use Rattle.session_replay.proofs.EndPrinted.{end-printed}
 use borrow.Author.Needs.{needs}

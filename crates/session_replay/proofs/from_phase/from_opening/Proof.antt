@@ -1,4 +1,4 @@
--- `replay::from_phase::from_opening` meets its contract.
+-- `session_replay::from_phase::from_opening` meets its contract.
 use mathlib.Core.Path.{refl}
 use denote.Ref.{now}
 use native.Mathlib.Omega.{arith}

@@ -1,4 +1,4 @@
--- `replay::from_phase::from_starting` meets its contract.
+-- `session_replay::from_phase::from_starting` meets its contract.
 use borrow.Author.Needs.{needs}
 use Rattle.session_replay.proofs.from_phase.from_starting.Statement.{statement}
 use Rattle.session_replay.proofs.from_phase.from_starting.Tie as tie

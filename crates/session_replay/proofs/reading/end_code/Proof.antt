@@ -1,4 +1,4 @@
--- `replay::reading::end_code` meets its contract.
+-- `session_replay::reading::end_code` meets its contract.
 use Rattle.session_replay.proofs.Stepping.{clean-end, unclean-end}
 use Rattle.session_replay.proofs.reading.end_code.Statement.{statement}
 use Rattle.session_replay.proofs.reading.end_code.Tie as tie

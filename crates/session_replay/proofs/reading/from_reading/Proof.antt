@@ -1,4 +1,4 @@
--- `replay::reading::from_reading` meets its contract.
+-- `session_replay::reading::from_reading` meets its contract.
 use mathlib.Core.Path.{refl}
 use Prim.Native.Nat.{_≤_}
 use lib.ListN.{length}
@@ -39,9 +39,8 @@ slice-aggregate-toward-call-2 c = search needs
 
 toward-call-requires : tie.Need-toward-call-requires
 toward-call-requires c κs =
-    let past = c .before .before .before .before .before in
-    let n = past .before .before .before .before .next-call in
-    let few = kept-few (n .ensures) _ _ _ (past .next .given .1) in
+    let n = c .before .before .before .before .before .before .before .before .before .next-call in
+    let few = kept-few (n .ensures) _ _ _ (c .before .before .before .before .before .next .given .1) in
     let ns : 17 ≤ length (n .last .1 .1 .0) = search needs in
     let vs : 17 ≤ length (n .last .1 .1 .1 .0) = search needs in
     (search needs, search needs, omega arith, omega arith, search needs)

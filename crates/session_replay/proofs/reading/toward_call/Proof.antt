@@ -1,4 +1,4 @@
--- `replay::reading::toward_call` meets its contract.
+-- `session_replay::reading::toward_call` meets its contract.
 use native.Mathlib.Omega.{arith}
 use Rattle.session_replay.specs.Phases as phases
 use borrow.Author.Needs.{needs}

@@ -1,4 +1,4 @@
--- `replay::reading::until_end` meets its contract.
+-- `session_replay::reading::until_end` meets its contract.
 use mathlib.Core.Path.{refl}
 use native.Mathlib.Omega.{arith}
 use Rattle.session_replay.specs.Phases as phases

@@ -1,4 +1,4 @@
--- `trace::one_piece` meets its contract.
+-- `session_trace::one_piece` meets its contract.
 use denote.Ref.{now}
 use mathlib.Core.Path.{_≡_, sym, ap, _∙_}
 use lib.ListN.{getD}

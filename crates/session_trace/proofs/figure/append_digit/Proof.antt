@@ -1,4 +1,4 @@
--- `trace::append_digit` meets its contract.
+-- `session_trace::append_digit` meets its contract.
 use native.Mathlib.Omega.{arith}
 use Prim.Native.Nat.{_+_, _*_}
 use borrow.Author.Needs.{needs}

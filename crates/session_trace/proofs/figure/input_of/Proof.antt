@@ -1,4 +1,4 @@
--- `trace::input_of` meets its contract.
+-- `session_trace::input_of` meets its contract.
 use mathlib.Core.Path.{sym, _∙_}
 use native.Mathlib.Omega.{arith}
 use borrow.Author.Needs.{needs}

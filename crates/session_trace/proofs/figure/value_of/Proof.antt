@@ -1,4 +1,4 @@
--- `trace::value_of` meets its contract.
+-- `session_trace::value_of` meets its contract.
 use denote.Ref.{now}
 use Prim.Native.Nat.{_≤_, _<_}
 use mathlib.Core.Path.{sym, _∙_}

@@ -1,4 +1,4 @@
--- `trace::ended` meets its contract.
+-- `session_trace::ended` meets its contract.
 use mathlib.Core.Path.{sym, ap, _∙_}
 use borrow.Author.Needs.{needs}
 use borrow.Author.Tests.{eq-eqb, ne-eqb}

@@ -1,4 +1,4 @@
--- `trace::joining` meets its contract.
+-- `session_trace::joining` meets its contract.
 use denote.Ref.{now}
 use mathlib.Core.Path.{sym, _∙_}
 use borrow.Author.Needs.{needs}

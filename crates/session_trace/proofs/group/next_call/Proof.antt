@@ -1,4 +1,4 @@
--- `trace::next_call` meets its contract.
+-- `session_trace::next_call` meets its contract.
 use denote.Ref.{now}
 use mathlib.Core.Path.{refl, sym, subst, _∙_}
 use Prim.Native.Nat.{_-_}

@@ -1,4 +1,4 @@
--- `trace::put_input` meets its contract.
+-- `session_trace::put_input` meets its contract.
 use denote.Ref.{now}
 use borrow.Author.Needs.{needs}
 use Rattle.session_trace.proofs.Groups as groups

@@ -1,4 +1,4 @@
--- `trace::read_input` meets its contract.
+-- `session_trace::read_input` meets its contract.
 use denote.Ref.{now}
 use mathlib.Core.Path.{sym, _∙_}
 use native.Mathlib.Omega.{arith}

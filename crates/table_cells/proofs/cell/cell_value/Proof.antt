@@ -1,4 +1,4 @@
--- `cells::cell_value` meets its contract.
+-- `table_cells::cell_value` meets its contract.
 use Prim.Native.Nat.{_-_}
 use borrow.Author.Needs.{needs}
 use Rattle.table_cells.proofs.cell.cell_value.Statement.{statement}

@@ -1,4 +1,4 @@
--- `cells::low_word` meets its contract.
+-- `table_cells::low_word` meets its contract.
 use Prim.Native.Nat.{_-_}
 use borrow.Author.Tests.{lt-ltb, le-ltb}
 use borrow.Author.Needs.{needs}

@@ -1,4 +1,4 @@
--- `cells::write_cell` meets its contract.
+-- `table_cells::write_cell` meets its contract.
 use mathlib.Core.Path.{_∙_}
 use Prim.Native.Nat.{_-_}
 use borrow.Author.Needs.{needs}

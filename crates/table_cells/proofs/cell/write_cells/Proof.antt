@@ -1,4 +1,4 @@
--- `cells::write_cells` meets its contract.
+-- `table_cells::write_cells` meets its contract.
 use mathlib.Core.Path.{refl}
 use Prim.Native.Nat.{_-_}
 use native.Mathlib.Omega.{arith}

@@ -1,4 +1,4 @@
--- `cells::put` meets its contract.
+-- `table_cells::put` meets its contract.
 use mathlib.Core.Path.{sym}
 use Prim.Native.Nat.{_-_}
 use lib.Seq.{set-out}

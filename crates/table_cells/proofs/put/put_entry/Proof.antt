@@ -1,4 +1,4 @@
--- `cells::put_entry` meets its contract.
+-- `table_cells::put_entry` meets its contract.
 use denote.Ref.{now}
 use Rattle.table_cells.proofs.Entry as entry
 use borrow.Author.Needs.{needs}

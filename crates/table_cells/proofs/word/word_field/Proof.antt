@@ -1,4 +1,4 @@
--- `cells::word_field` meets its contract.
+-- `table_cells::word_field` meets its contract.
 use denote.Ref.{now}
 use mathlib.Core.Path.{sym, ap, _∙_}
 use Rattle.table_cells.specs.Words.{asWord}

@@ -1,4 +1,4 @@
--- `child_fields::pick::pick` meets its contract.
+-- `table_child_fields::pick::pick` meets its contract.
 use Prim.Native.Nat.{_+_, _-_, _<_}
 use mathlib.Core.Path.{_∙_}
 use native.Mathlib.Omega.{arith}

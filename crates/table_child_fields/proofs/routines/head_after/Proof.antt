@@ -1,4 +1,4 @@
--- `child_fields::routines::head_after` meets its contract.
+-- `table_child_fields::routines::head_after` meets its contract.
 use Prim.Native.Nat.{_+_, _-_, _<_, _≤_}
 use mathlib.Core.Path.{_≡_, refl}
 use native.Mathlib.Omega.{arith}

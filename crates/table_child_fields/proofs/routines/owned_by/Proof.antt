@@ -1,4 +1,4 @@
--- `child_fields::routines::owned_by` meets its contract.
+-- `table_child_fields::routines::owned_by` meets its contract.
 use Prim.Native.Nat.{_-_}
 use mathlib.Core.Logic.{⊎-elim}
 use native.Mathlib.Omega.{arith}

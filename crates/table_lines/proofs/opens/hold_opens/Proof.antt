@@ -1,4 +1,4 @@
--- `openings::hold_opens` meets its contract.
+-- `table_lines::hold_opens` meets its contract.
 use denote.Ref.{now}
 use Rattle.table_lines.proofs.Openings as openings
 use borrow.Author.Needs.{needs}

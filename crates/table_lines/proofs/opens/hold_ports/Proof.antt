@@ -1,4 +1,4 @@
--- `openings::hold_ports` meets its contract.
+-- `table_lines::hold_ports` meets its contract.
 use denote.Ref.{now}
 use Rattle.table_lines.proofs.Openings as openings
 use Rattle.table_lines.proofs.opens.hold_ports.Statement.{statement}

@@ -1,4 +1,4 @@
--- `openings::kind_bit` meets its contract.
+-- `table_lines::kind_bit` meets its contract.
 use native.Mathlib.Omega.{arith}
 use borrow.Author.Tests.{ne-eqb}
 use Rattle.table_lines.proofs.opens.kind_bit.Statement.{statement}

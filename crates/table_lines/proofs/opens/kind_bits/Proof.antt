@@ -1,4 +1,4 @@
--- `openings::kind_bits` meets its contract.
+-- `table_lines::kind_bits` meets its contract.
 use Prim.Native.Nat.{_-_}
 use native.Mathlib.Omega.{arith}
 use Rattle.table_lines.proofs.Openings as openings

@@ -1,4 +1,4 @@
--- `openings::kinds_of` meets its contract.
+-- `table_lines::kinds_of` meets its contract.
 use denote.Ref.{now}
 use native.Mathlib.Omega.{arith}
 use Rattle.table_lines.proofs.Openings as openings

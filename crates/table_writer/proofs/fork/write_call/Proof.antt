@@ -1,4 +1,4 @@
--- `writer::write_call` meets its contract.
+-- `table_writer::write_call` meets its contract.
 use mathlib.Core.Path.{_∙_}
 use native.Mathlib.Omega.{arith}
 use borrow.Author.Needs.{needs}

@@ -1,4 +1,4 @@
--- `writer::write_fork` meets its contract.
+-- `table_writer::write_fork` meets its contract.
 use Prim.Native.Nat.{_-_}
 use native.Mathlib.Omega.{arith}
 use Rattle.table_writer.proofs.Calls as calls

@@ -1,4 +1,4 @@
--- `writer::write_schedule` meets its contract.
+-- `table_writer::write_schedule` meets its contract.
 use denote.Ref.{now}
 use native.Mathlib.Omega.{arith}
 use Rattle.table_writer.proofs.Instructions as written

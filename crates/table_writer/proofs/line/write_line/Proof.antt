@@ -1,4 +1,4 @@
--- `writer::write_line` meets its contract.
+-- `table_writer::write_line` meets its contract.
 use denote.Ref.{now}
 use Rattle.table_writer.proofs.Lines as lines
 use Rattle.table_lines.proofs.Openings as openings

@@ -1,4 +1,4 @@
--- `writer::write_rest` meets its contract.
+-- `table_writer::write_rest` meets its contract.
 use denote.Ref.{now}
 use Rattle.listing.specs.Form.{readByLetter}
 use Rattle.table_lines.proofs.Openings as openings

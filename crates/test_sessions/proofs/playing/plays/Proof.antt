@@ -1,4 +1,4 @@
--- `session_tests::playing::plays` meets its contract. The measure is the number of steps that can still be made.
+-- `test_sessions::playing::plays` meets its contract. The measure is the number of steps that can still be made.
 use mathlib.Core.Path.{sym, _∙_}
 use borrow.Author.Tests.{not-true, not-false}
 use Rattle.session_replay.specs.Phases.{memories}

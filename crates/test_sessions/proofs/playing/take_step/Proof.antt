@@ -1,4 +1,4 @@
--- `session_tests::playing::take_step` meets its contract.
+-- `test_sessions::playing::take_step` meets its contract.
 use Rattle.test_sessions.specs.Playing.{on, failed}
 use Rattle.test_sessions.proofs.Steps.{call-of, not-short, followed, not-followed}
 use borrow.Author.Needs.{needs}

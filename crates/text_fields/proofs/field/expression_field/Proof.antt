@@ -1,4 +1,4 @@
--- `reader::expression_field` meets its contract.
+-- `text_fields::expression_field` meets its contract.
 use denote.Ref.{now}
 use mathlib.Core.Path.{sym, ap, _∙_}
 use mathlib.Core.Bool.{Bool, cond}

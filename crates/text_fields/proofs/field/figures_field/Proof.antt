@@ -1,4 +1,4 @@
--- `reader::figures_field` meets its contract.
+-- `text_fields::figures_field` meets its contract.
 use mathlib.Core.Path.{sym, ap, _∙_}
 use mathlib.Core.Bool.{Bool, cond}
 use Rattle.text_fields.specs.Gather.{figuresBy}

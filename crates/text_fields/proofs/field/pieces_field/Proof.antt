@@ -1,4 +1,4 @@
--- `reader::pieces_field` meets its contract.
+-- `text_fields::pieces_field` meets its contract.
 use Prim.Native.Nat.{_-_}
 use mathlib.Core.Path.{refl, ap, _∙_}
 use native.Mathlib.Omega.{arith}

@@ -1,4 +1,4 @@
--- `reader::gathered` meets its contract.
+-- `text_fields::gathered` meets its contract.
 use Rattle.text_fields.proofs.Gather as gather
 use borrow.Author.Needs.{needs}
 use Rattle.text_fields.proofs.gathering.gathered.Statement.{statement}

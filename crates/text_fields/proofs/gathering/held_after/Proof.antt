@@ -1,4 +1,4 @@
--- `reader::held_after` meets its contract.
+-- `text_fields::held_after` meets its contract.
 use Prim.Native.Nat.{_-_}
 use Rattle.text_fields.proofs.gathering.held_after.Statement.{statement}
 use Rattle.text_fields.proofs.gathering.held_after.Tie as tie

@@ -1,4 +1,4 @@
--- `reader::is_there` meets its contract.
+-- `text_fields::is_there` meets its contract.
 use borrow.Author.Needs.{needs}
 use Rattle.text_fields.proofs.gathering.is_there.Statement.{statement}
 use Rattle.text_fields.proofs.gathering.is_there.Tie as tie

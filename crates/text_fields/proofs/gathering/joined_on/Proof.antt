@@ -1,4 +1,4 @@
--- `reader::joined_on` meets its contract.
+-- `text_fields::joined_on` meets its contract.
 use Prim.Native.Nat.{_-_}
 use borrow.Author.Tests.{le-leb, lt-leb}
 use Rattle.text_fields.proofs.gathering.joined_on.Statement.{statement}

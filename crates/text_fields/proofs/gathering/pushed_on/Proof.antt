@@ -1,4 +1,4 @@
--- `reader::pushed_on` meets its contract.
+-- `text_fields::pushed_on` meets its contract.
 use Prim.Native.Nat.{_-_}
 use native.Mathlib.Omega.{arith}
 use borrow.Author.Tests.{lt-ltb, le-ltb}

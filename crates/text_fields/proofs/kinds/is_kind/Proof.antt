@@ -1,4 +1,4 @@
--- `reader::is_kind` meets its contract.
+-- `text_fields::is_kind` meets its contract.
 use Prim.Native.Nat.{_-_}
 use borrow.Author.Tests.{ne-eqb}
 use Rattle.text_fields.proofs.kinds.is_kind.Statement.{statement}

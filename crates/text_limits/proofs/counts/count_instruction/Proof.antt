@@ -1,4 +1,4 @@
--- `survey::count_instruction` meets its contract.
+-- `text_limits::count_instruction` meets its contract.
 use native.Mathlib.Omega.{arith}
 use Rattle.text_limits.proofs.CountLaws as laws
 use borrow.Author.Needs.{needs}

@@ -1,4 +1,4 @@
--- `survey::count_line` meets its contract.
+-- `text_limits::count_line` meets its contract.
 use Prim.Native.Nat.{_-_}
 use borrow.Author.Tests.{le-leb, lt-leb}
 use borrow.Author.Needs.{needs}

@@ -1,4 +1,4 @@
--- `survey::count_opens` meets its contract.
+-- `text_limits::count_opens` meets its contract.
 use native.Mathlib.Omega.{arith}
 use Rattle.text_limits.proofs.CountLaws as laws
 use borrow.Author.Needs.{needs}

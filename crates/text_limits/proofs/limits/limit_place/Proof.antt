@@ -1,4 +1,4 @@
--- `survey::limit_place` meets its contract.
+-- `text_limits::limit_place` meets its contract.
 use denote.Ref.{now}
 use mathlib.Core.Path.{sym, _∙_}
 use Prim.Native.Nat.{_-_}

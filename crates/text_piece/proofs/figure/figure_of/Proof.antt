@@ -1,4 +1,4 @@
--- `reader::figure_of` meets its contract.
+-- `text_piece::figure_of` meets its contract.
 use denote.Ref.{now}
 use Prim.Native.Nat.{ℕ, suc, _≤_, _<_, _+_, _-_, _*_, min}
 use mathlib.Core.Path.{_≡_, sym, ap, _∙_}

@@ -1,4 +1,4 @@
--- `reader::is_digit` meets its contract.
+-- `text_piece::is_digit` meets its contract.
 use Prim.Native.Nat.{_-_}
 use borrow.Author.Tests.{le-leb, lt-leb}
 use Rattle.text_piece.proofs.figure.is_digit.Statement.{statement}

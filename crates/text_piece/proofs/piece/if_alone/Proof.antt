@@ -1,4 +1,4 @@
--- `reader::if_alone` meets its contract.
+-- `text_piece::if_alone` meets its contract.
 use Prim.Native.Nat.{_-_}
 use borrow.Author.Tests.{eq-eqb, ne-eqb}
 use Rattle.text_piece.proofs.piece.if_alone.Statement.{statement}

@@ -1,4 +1,4 @@
--- `reader::literal_of` meets its contract.
+-- `text_piece::literal_of` meets its contract.
 use denote.Ref.{now}
 use mathlib.Core.Path.{sym, ap, _∙_}
 use Rattle.text_piece.specs.Pieces.{negative, positive}

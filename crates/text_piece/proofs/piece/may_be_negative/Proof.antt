@@ -1,4 +1,4 @@
--- `reader::may_be_negative` meets its contract.
+-- `text_piece::may_be_negative` meets its contract.
 use borrow.Author.Tests.{le-leb, lt-leb}
 use Rattle.text_piece.proofs.piece.may_be_negative.Statement.{statement}
 use Rattle.text_piece.proofs.piece.may_be_negative.Tie as tie

@@ -1,4 +1,4 @@
--- `reader::negative_literal` meets its contract.
+-- `text_piece::negative_literal` meets its contract.
 use mathlib.Core.Path.{sym, _∙_}
 use native.Mathlib.Omega.{arith}
 use Rattle.text_piece.proofs.Pieces.{negative-in}

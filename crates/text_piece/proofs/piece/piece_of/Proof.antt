@@ -1,4 +1,4 @@
--- `reader::piece_of` meets its contract.
+-- `text_piece::piece_of` meets its contract.
 use denote.Ref.{now}
 use Prim.Native.Nat.{_≤_, _<_, _-_}
 use mathlib.Core.Path.{_≡_, sym, _∙_}

@@ -1,4 +1,4 @@
--- `reader::positive_literal` meets its contract.
+-- `text_piece::positive_literal` meets its contract.
 use borrow.Author.Tests.{lt-ltb, le-ltb}
 use borrow.Author.Needs.{needs}
 use Rattle.text_piece.proofs.piece.positive_literal.Statement.{statement}

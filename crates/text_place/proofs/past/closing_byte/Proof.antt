@@ -1,4 +1,4 @@
--- `reader::closing_byte` meets its contract.
+-- `text_place::closing_byte` meets its contract.
 use mathlib.Core.Path.{sym, _∙_}
 use borrow.Author.Tests.{lt-ltb, le-ltb}
 use borrow.Author.Needs.{needs}

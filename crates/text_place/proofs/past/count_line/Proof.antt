@@ -1,4 +1,4 @@
--- `reader::count_line` meets its contract: a walk of its MIR, by hand. The borrow of the place is opened, and its offset and its line are read;
+-- `text_place::count_line` meets its contract: a walk of its MIR, by hand. The borrow of the place is opened, and its offset and its line are read;
 -- `line_past` is called on the slice, the two offsets and the line; the result is written to the place's line, and the borrow is closed at the new place.
 use mathlib.Core.Path.{_≡_, refl, ap}
 use Prim.Native.Nat.{ℕ, _<_, _≤_, _+_, _^_}

@@ -1,4 +1,4 @@
--- `reader::line_past` meets its contract.
+-- `text_place::line_past` meets its contract.
 use denote.Ref.{now}
 use mathlib.Core.Path.{sym, _∙_}
 use native.Mathlib.Omega.{arith}

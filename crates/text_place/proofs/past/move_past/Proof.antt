@@ -1,4 +1,4 @@
--- `reader::move_past` meets its contract: a walk of its MIR, by hand. The borrow of the place is opened and its offset is read; `offset_past` is
+-- `text_place::move_past` meets its contract: a walk of its MIR, by hand. The borrow of the place is opened and its offset is read; `offset_past` is
 -- called on the slice and the offset; the result is written to the place's offset, and the borrow is closed at the new place.
 use mathlib.Core.Path.{_≡_, refl, ap}
 use Prim.Native.Nat.{ℕ, _<_, _≤_, _^_}

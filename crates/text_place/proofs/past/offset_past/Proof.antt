@@ -1,4 +1,4 @@
--- `reader::offset_past` meets its contract.
+-- `text_place::offset_past` meets its contract.
 use borrow.Author.Tests.{lt-ltb, le-ltb}
 use borrow.Author.Needs.{needs}
 use Rattle.text_place.proofs.past.offset_past.Statement.{statement}

@@ -1,4 +1,4 @@
--- `reader::place_past` meets its contract: a walk of its MIR, by hand. The place is copied to a local, which is lent to `move_past` and then to
+-- `text_place::place_past` meets its contract: a walk of its MIR, by hand. The place is copied to a local, which is lent to `move_past` and then to
 -- `count_line`, each time for a lifetime made for the call, and comes back at its last value.
 use mathlib.Core.Path.{_≡_, refl}
 use Prim.Native.Nat.{ℕ, _<_, _≤_, _+_, _^_}

@@ -1,4 +1,4 @@
--- `reader::ends_piece` meets its contract.
+-- `text_place::ends_piece` meets its contract.
 use Prim.Native.Nat.{_-_}
 use borrow.Author.Tests.{ne-eqb}
 use Rattle.text_place.proofs.place.ends_piece.Statement.{statement}

@@ -1,4 +1,4 @@
--- `reader::piece_end` meets its contract.
+-- `text_place::piece_end` meets its contract.
 use denote.Ref.{now}
 use Prim.Native.Nat.{suc, _≤_, _+_, _-_}
 use mathlib.Core.Path.{_≡_, sym, ap, _∙_}

@@ -1,4 +1,4 @@
--- `reader::take_piece` meets its contract.
+-- `text_place::take_piece` meets its contract.
 use denote.Ref.{now}
 use mathlib.Core.Path.{refl}
 use Rattle.text_place.proofs.Passing as passing

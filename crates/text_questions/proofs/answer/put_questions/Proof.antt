@@ -1,4 +1,4 @@
--- `loader::put_questions` meets its contract.
+-- `text_questions::put_questions` meets its contract.
 use denote.Ref.{now}
 use mathlib.Core.Path.{sym, _∙_}
 use borrow.Author.Tests.{not-true, not-false}

@@ -1,4 +1,4 @@
--- `loader::begins_with` meets its contract.
+-- `text_questions::begins_with` meets its contract.
 use Prim.Native.Nat.{_-_}
 use lib.ListN.{length}
 use Rattle.text_questions.proofs.Comparing as laws

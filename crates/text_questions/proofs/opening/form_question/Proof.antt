@@ -1,4 +1,4 @@
--- `loader::form_question` meets its contract.
+-- `text_questions::form_question` meets its contract.
 use mathlib.Core.Path.{sym, _∙_}
 use Rattle.text_questions.proofs.Comparing as laws
 use borrow.Author.Needs.{needs}

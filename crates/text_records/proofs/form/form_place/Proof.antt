@@ -1,4 +1,4 @@
--- `records::form_place` meets its contract.
+-- `text_records::form_place` meets its contract.
 use denote.Ref.{now}
 use mathlib.Core.Path.{_≡_, sym, _∙_}
 use Prim.Native.Nat.{_-_}

@@ -1,4 +1,4 @@
--- `records::may_stand_on` meets its contract.
+-- `text_records::may_stand_on` meets its contract.
 use borrow.Author.Needs.{needs}
 use Rattle.text_records.proofs.line.may_stand_on.Statement.{statement}
 use Rattle.text_records.proofs.line.may_stand_on.Tie as tie

@@ -1,4 +1,4 @@
--- `records::read_line` meets its contract.
+-- `text_records::read_line` meets its contract.
 use denote.Ref.{now}
 use mathlib.Core.Path.{_≡_, sym, ap, _∙_}
 use native.Mathlib.Omega.{arith}

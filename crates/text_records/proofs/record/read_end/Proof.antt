@@ -1,4 +1,4 @@
--- `records::read_end` meets its contract.
+-- `text_records::read_end` meets its contract.
 use Rattle.listing.specs.Listing as L
 use Rattle.text_records.proofs.Chain as chain
 use Rattle.text_records.proofs.Summaries as summaries

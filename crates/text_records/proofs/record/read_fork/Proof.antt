@@ -1,4 +1,4 @@
--- `records::read_fork` meets its contract.
+-- `text_records::read_fork` meets its contract.
 use denote.Ref.{now}
 use mathlib.Core.Path.{refl, sym, _∙_}
 use Prim.Native.Nat.{_≤_}

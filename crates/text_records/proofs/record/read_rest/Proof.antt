@@ -1,4 +1,4 @@
--- `records::read_rest` meets its contract.
+-- `text_records::read_rest` meets its contract.
 use borrow.Author.Tests.{ne-eqb}
 use Rattle.listing.specs.Form.{readByLetter}
 use borrow.Author.Needs.{needs}

@@ -1,4 +1,4 @@
--- `records::read_wait` meets its contract.
+-- `text_records::read_wait` meets its contract.
 use denote.Ref.{now}
 use mathlib.Core.Path.{sym, _∙_}
 use mathlib.Core.List.{_∷_}

@@ -1,4 +1,4 @@
--- `records::call_is_there` meets its contract.
+-- `text_records::call_is_there` meets its contract.
 use denote.Ref.{now}
 use mathlib.Core.Path.{sym, ap, _∙_}
 use Prim.Native.Nat.{_+_}

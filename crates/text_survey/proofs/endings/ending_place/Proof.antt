@@ -1,4 +1,4 @@
--- `survey::ending_place` meets its contract.
+-- `text_survey::ending_place` meets its contract.
 use denote.Ref.{now}
 use mathlib.Core.Path.{sym, ap, _∙_}
 use Prim.Native.Nat.{_-_}

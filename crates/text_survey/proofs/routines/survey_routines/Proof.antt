@@ -1,4 +1,4 @@
--- `survey::survey_routines` meets its contract.
+-- `text_survey::survey_routines` meets its contract.
 use denote.Ref.{now}
 use mathlib.Core.Path.{sym, ap, _∙_}
 use Prim.Native.Nat.{_-_}

@@ -1,4 +1,4 @@
--- `survey::with_line` meets its contract.
+-- `text_survey::with_line` meets its contract.
 use borrow.Author.Needs.{needs}
 use Rattle.text_survey.proofs.routines.with_line.Statement.{statement}
 use Rattle.text_survey.proofs.routines.with_line.Tie as tie

@@ -1,4 +1,4 @@
--- `survey::with_routine` meets its contract.
+-- `text_survey::with_routine` meets its contract.
 use Prim.Native.Nat.{_-_}
 use borrow.Author.Tests.{lt-ltb, le-ltb}
 use borrow.Author.Needs.{needs}

@@ -1,4 +1,4 @@
--- `survey::answers` meets its contract.
+-- `text_survey::answers` meets its contract.
 use borrow.Author.Needs.{needs}
 use Rattle.text_survey.proofs.there.answers.Statement.{statement}
 use Rattle.text_survey.proofs.there.answers.Tie as tie

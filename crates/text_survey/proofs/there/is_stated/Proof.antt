@@ -1,4 +1,4 @@
--- `survey::is_stated` meets its contract.
+-- `text_survey::is_stated` meets its contract.
 use Prim.Native.Nat.{_-_}
 use borrow.Author.Tests.{not-true, not-false}
 use Rattle.text_survey.proofs.StatedLaws as laws

@@ -1,4 +1,4 @@
--- `survey::moved` meets its contract.
+-- `text_survey::moved` meets its contract.
 use Prim.Native.Nat.{_-_}
 use native.Mathlib.Omega.{arith}
 use borrow.Author.Needs.{needs}

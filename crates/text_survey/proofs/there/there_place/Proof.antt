@@ -1,4 +1,4 @@
--- `survey::there_place` meets its contract.
+-- `text_survey::there_place` meets its contract.
 use denote.Ref.{now}
 use mathlib.Core.Path.{_≡_, refl, sym, ap, _∙_}
 use Prim.Native.Nat.{_-_}

@@ -110,8 +110,8 @@ module _ (t w₀ : List ℕ) (moment : ℕ) (dues ns vs : List ℕ) (allowance :
 
     -- what stands in the words is what the walk's instant begins with
     pub begins : (f : Rows → List Variable → List ℕ → ℕ → RowsResult) →
-        f (dueInRows moment (b .filled)) (applyInputs inputs (dueWrites moment (s .environment)))
-        (readyOf listing (dueInRows moment (b .filled)) (applyInputs inputs (dueWrites moment (s .environment)))) (liveInForest (s .tree)) ≡
+        f (dueInRows moment (b .filled)) (applyInputs moment inputs (dueWrites moment (s .environment)))
+        (readyOf listing (dueInRows moment (b .filled)) (applyInputs moment inputs (dueWrites moment (s .environment)))) (liveInForest (s .tree)) ≡
         f (rowsOf w₁) (environmentOf n w₁) (slotsOf ready) live
     begins f = sym (four f (b .rows) (b .environment) (b .ready-slots ∙ ap₂ (readyOf listing) (b .rows) (b .environment)) (L ∙ b .live))
 

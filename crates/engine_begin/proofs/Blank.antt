@@ -48,7 +48,7 @@ blank-word k h = getD-replicate 12288 k 0 0 h
 unfoldable zeroBlock : Block
 zeroBlock k = 0
 
-zero-variable : (i : ℕ) → variableIn zeroBlock i ≡ newVariable 0
+zero-variable : (i : ℕ) → variableIn zeroBlock i ≡ newVariable 0 0
 unfolding variableIn zeroBlock nonzero waitingOf newVariable
 zero-variable i = refl
 
@@ -56,7 +56,7 @@ zero-row : rowAt zeroBlock ≡ freeRow
 unfolding rowAt zeroBlock freeRow bindingsIn variablesIn nonzero tabulateFrom
 zero-row = refl
 
-fresh-variables : (i n : ℕ) (f : ℕ → Variable) → ((k : ℕ) → f k ≡ newVariable 0) → tabulateFrom i n f ≡ replicate n (newVariable 0)
+fresh-variables : (i n : ℕ) (f : ℕ → Variable) → ((k : ℕ) → f k ≡ newVariable 0 0) → tabulateFrom i n f ≡ replicate n (newVariable 0 0)
 unfolding tabulateFrom
 fresh-variables i zero f e = refl
 fresh-variables i (suc n) f e = rw (e i, fresh-variables (suc i) n f e)
@@ -171,7 +171,7 @@ module _ (t : List ℕ) (table : isTable t ≡ true) where
   begun-start m₀ m₁ m₂ u long e small M none live woken =
       let listing = tableListing t in
       let few = table-within-limits t table .ports in
-      let rows = M .rows (newEnvironment listing) (length-replicate (environmentSize listing) (newVariable 0)) ∙
+      let rows = M .rows (newEnvironment listing) (length-replicate (environmentSize listing) (newVariable 0 0)) ∙
       ap (λ (σ : Rows). withRow σ (u .me) (mainRow listing (newEnvironment listing) (u .me))) (blank-rows m₀ m₁ long e) in
       record {
         slot = small;

@@ -108,10 +108,10 @@ module _ {n : ℕ} {m₀ m m′ : List ℕ} {σ : Rows} {environment : List Vari
     outside = outside-then (S .outside) (D .outside);
   }
 
-  inputs-stand : (inputs : List Write) → InputsWritten n inputs m m′ → Stands n m₀ m′ σ (applyInputs inputs environment)
-  inputs-stand inputs W = record {
+  inputs-stand : (moment : ℕ) (inputs : List Write) → InputsWritten n inputs m m′ → Stands n m₀ m′ σ (applyInputs moment inputs environment)
+  inputs-stand moment inputs W = record {
     rows = W .rows ∙ S .rows;
-    outer = W .environment ∙ ap (applyInputs inputs) (S .outer);
+    outer = W .environment moment ∙ ap (applyInputs moment inputs) (S .outer);
     clean = W .clean (S .clean);
     outside = outside-then (S .outside) (W .outside);
   }
@@ -196,8 +196,8 @@ module _ (t m₀ : List ℕ) (table : isTable t ≡ true) (small : Words32 m₀)
 
       -- at the end
       module _ (moment : ℕ) (inputs : List Write) (m₃ m₄ : List ℕ) (made : DueMade n moment m₂ m₃) (W : InputsWritten n inputs m₃ m₄) where
-        abbrev written : Stands n m₀ m₄ (dueInRows moment filled) (applyInputs inputs (dueWrites moment (s .environment)))
-        written = inputs-stand (due-stand listed moment made) inputs W
+        abbrev written : Stands n m₀ m₄ (dueInRows moment filled) (applyInputs moment inputs (dueWrites moment (s .environment)))
+        written = inputs-stand (due-stand listed moment made) moment inputs W
 
         begun-from : (r : ReadyList) → Ordered (rowsOf m₄) (slotsOf r) → ReadySoFar listing n m₄ (slotsOf r) → BegunFrom t m₀ m₄ moment inputs r s
         begun-from r order R =

@@ -47,7 +47,7 @@ pub record BegunFrom (t before after : List ℕ) (moment : ℕ) (inputs : List W
   pub filled : Rows
   pub filled-holds : Holds true (tableListing t) filled (s .environment) s
   pub rows : rowsOf after ≡ dueInRows moment filled
-  pub environment : environmentOf (environmentSize (tableListing t)) after ≡ applyInputs inputs (dueWrites moment (s .environment))
+  pub environment : environmentOf (environmentSize (tableListing t)) after ≡ applyInputs moment inputs (dueWrites moment (s .environment))
   pub lists : (q index : ℕ) → q ≤ 64 → index < 16 → triggersAt after q index ≡ triggersOf (tableListing t) (rowsOf after) (ownerAt q index)
   pub ready-slots : slotsOf ready ≡ readyOf (tableListing t) (rowsOf after) (environmentOf (environmentSize (tableListing t)) after)
   pub order : Ordered (rowsOf after) (slotsOf ready)

@@ -70,9 +70,9 @@ module _ {t m₀ m₁ m₂ m₃ m₄ : List ℕ} {me head i s n callee count bit
     unfolding storeOf withSlot
     child-made =
         record {
-          store = λ k B.
+          store = λ moment k B.
               ap₂ (λ (rows : Rows) (environment : List Variable). record { rows = rows; environment = environment })
-              (rows-in-block (to₄ S) (S .may .slot) ∙ ap (withRow (rowsOf m₀) s) (whole-row S k B)) (environment-stays (to₄ S) (S .may .slot) k);
+              (rows-in-block (to₄ S) (S .may .slot) ∙ ap (withRow (rowsOf m₀) s) (whole-row S moment k B)) (environment-stays (to₄ S) (S .may .slot) k);
           taken = ap (λ (r : Row). r .used) (row-of m₄ s (S .may .slot)) ∙ in-use;
           others = λ r h. ap (λ (rows : Rows). rows r) (rows-in-block (to₄ S) (S .may .slot)) ∙ with-row-other (rowsOf m₀) s (rowAt (block m₄ s)) r h;
           environment = environment-stays (to₄ S) (S .may .slot);

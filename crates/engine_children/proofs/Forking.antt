@@ -72,12 +72,12 @@ pub record Forking (t before : List ℕ) (me cells n : ℕ) (m places : List ℕ
   pub triggers : SameTriggers before m
   pub clean : (k : ℕ) → Clean k before → Clean k m
   pub bound : (k : ℕ) → Bound (storeOf k before) (bindingsOf before me) → Bound (storeOf k m) (bindingsOf m me)
-  pub rows : (k : ℕ) → Bound (storeOf k before) (bindingsOf before me)
-      → rowsWithNew (tableListing t) (rowsOf m) (environmentOf k before) me n (callsAt t head (n - i)) i
-      ≡ rowsWithNew (tableListing t) (rowsOf before) (environmentOf k before) me n (callsAt t cells n) 0
-  pub slots : (k : ℕ) → Bound (storeOf k before) (bindingsOf before me)
-      → take i places ++ newSlots (tableListing t) (rowsOf m) (environmentOf k before) me n (callsAt t head (n - i)) i
-      ≡ newSlots (tableListing t) (rowsOf before) (environmentOf k before) me n (callsAt t cells n) 0
+  pub rows : (moment k : ℕ) → Bound (storeOf k before) (bindingsOf before me)
+      → rowsWithNew (tableListing t) moment (rowsOf m) (environmentOf k before) me n (callsAt t head (n - i)) i
+      ≡ rowsWithNew (tableListing t) moment (rowsOf before) (environmentOf k before) me n (callsAt t cells n) 0
+  pub slots : (moment k : ℕ) → Bound (storeOf k before) (bindingsOf before me)
+      → take i places ++ newSlots (tableListing t) moment (rowsOf m) (environmentOf k before) me n (callsAt t head (n - i)) i
+      ≡ newSlots (tableListing t) moment (rowsOf before) (environmentOf k before) me n (callsAt t cells n) 0
 
 module _ {t before : List ℕ} {me cells n : ℕ} (F : MayFork t before me cells n) where
   pub fork-start : (places : List ℕ) → length places ≡ 8 → Forking t before me cells n before places cells 0
@@ -95,8 +95,8 @@ module _ {t before : List ℕ} {me cells n : ℕ} (F : MayFork t before me cells
         triggers = triggers-start before;
         clean = λ k T. T;
         bound = λ k B. B;
-        rows = λ k B. rw z;
-        slots = λ k B. rw z;
+        rows = λ moment k B. rw z;
+        slots = λ moment k B. rw z;
       }
 
   module _ {m places : List ℕ} {head i : ℕ} (G : Forking t before me cells n m places head i) where
@@ -151,12 +151,12 @@ module _ {t before : List ℕ} {me cells n : ℕ} (F : MayFork t before me cells
             let v : one ((rowsOf after s) .used) ≡ 1 = ap one (C .taken) in
             omega (arith, w, e, u, v, G .room)
 
-        module _ (k : ℕ) (B : Bound (storeOf k before) (bindingsOf before me)) where
-          rows-then : rowsOf after ≡ rowsWithChild (tableListing t) (rowsOf m) (environmentOf k before) me n (callAt t head) i
+        module _ (moment k : ℕ) (B : Bound (storeOf k before) (bindingsOf before me)) where
+          rows-then : rowsOf after ≡ rowsWithChild (tableListing t) moment (rowsOf m) (environmentOf k before) me n (callAt t head) i
           unfolding rowsWithChild storeOf withSlot
           rows-then =
               rw (← is, ← G .environment k)
-              (ap (λ (z : Store). z .rows) (C .store k (G .bound k B)))
+              (ap (λ (z : Store). z .rows) (C .store moment k (G .bound k B)))
 
           bound-then : Bound (storeOf k after) (bindingsOf after me)
           unfolding storeOf
@@ -167,20 +167,20 @@ module _ {t before : List ℕ} {me cells n : ℕ} (F : MayFork t before me cells
           abbrev left : ℕ
           left = n - suc i
 
-          rest-of-rows : rowsWithNew (tableListing t) (rowsOf after) (environmentOf k before) me n (callsAt t (afterCall t head) left) (suc i)
-              ≡ rowsWithNew (tableListing t) (rowsOf before) (environmentOf k before) me n (callsAt t cells n) 0
+          rest-of-rows : rowsWithNew (tableListing t) moment (rowsOf after) (environmentOf k before) me n (callsAt t (afterCall t head) left) (suc i)
+              ≡ rowsWithNew (tableListing t) moment (rowsOf before) (environmentOf k before) me n (callsAt t cells n) 0
           unfolding rowsWithNew callsAt
           rest-of-rows =
               let e : n - i ≡ suc left = omega arith in
-              rw rows-then (rw e at (G .rows k B))
+              rw rows-then (rw e at (G .rows moment k B))
 
-          rest-of-slots : take (suc i) (set places i s) ++ newSlots (tableListing t) (rowsOf after) (environmentOf k before) me n (callsAt t (afterCall t head) left) (suc i)
-              ≡ newSlots (tableListing t) (rowsOf before) (environmentOf k before) me n (callsAt t cells n) 0
+          rest-of-slots : take (suc i) (set places i s) ++ newSlots (tableListing t) moment (rowsOf after) (environmentOf k before) me n (callsAt t (afterCall t head) left) (suc i)
+              ≡ newSlots (tableListing t) moment (rowsOf before) (environmentOf k before) me n (callsAt t cells n) 0
           unfolding newSlots callsAt
           rest-of-slots =
               let e : n - i ≡ suc left = omega arith in
               let l : i < length places = omega (arith, G .size, F .divides .most) in
-              rw (take-suc-set places i s l, moved-over, rows-then, is) (rw e at (G .slots k B))
+              rw (take-suc-set places i s l, moved-over, rows-then, is) (rw e at (G .slots moment k B))
 
         pub fork-next : Forking t before me cells n after (set places i s) (afterCall t head) (i + 1)
         fork-next =
@@ -195,7 +195,7 @@ module _ {t before : List ℕ} {me cells n : ℕ} (F : MayFork t before me cells
               outside = outside-then (G .outside) (C .outside);
               triggers = triggers-then (G .triggers) (C .triggers);
               clean = λ k T. C .clean k (G .clean k T);
-              bound = bound-then;
+              bound = bound-then 0;
               rows = rest-of-rows;
               slots = rest-of-slots;
             })
@@ -207,8 +207,8 @@ module _ {t before : List ℕ} {me cells n : ℕ} (F : MayFork t before me cells
         let z : n - n ≡ 0 = omega arith in
         record {
           count = c;
-          rows = λ k B. rw (e, z) at (G .rows k B);
-          slots = λ k B. rw (p, c) (sym (append-nil (take n places)) ∙ (rw (e, z) at (G .slots k B)));
+          rows = λ moment k B. rw (e, z) at (G .rows moment k B);
+          slots = λ moment k B. rw (p, c) (sym (append-nil (take n places)) ∙ (rw (e, z) at (G .slots moment k B)));
           environment = G .environment;
           outside = G .outside;
           triggers = G .triggers;

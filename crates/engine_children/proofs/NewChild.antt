@@ -94,22 +94,22 @@ module _ {t m₀ m₁ m₂ m₃ m₄ : List ℕ} {me head i s n callee count bit
         variable-same (block m₁ s) (block m₄ s) j (value-word _ (omega arith) (λ x y. omega arith)) (value-word _ (omega arith) (λ x y. omega arith))
         (value-word _ (omega arith) (λ x y. omega arith)) (value-word _ (omega arith) (λ x y. omega arith)) (value-word _ (omega arith) (λ x y. omega arith))
 
-    new-local : (j : ℕ) → own ≤ j → j < own + locals → variableIn (block m₄ s) j ≡ newVariable 0
-    new-local j h l =
+    new-local : (moment j : ℕ) → own ≤ j → j < own + locals → variableIn (block m₄ s) j ≡ newVariable moment 0
+    new-local moment j h l =
         let room = few in
-        fresh-variable (block m₄ s) j 0 (zero-word (8 + j * 6) (omega arith) (omega arith) (λ x y. omega arith) (λ k a e. omega arith))
+        fresh-variable moment (block m₄ s) j 0 (zero-word (8 + j * 6) (omega arith) (omega arith) (λ x y. omega arith) (λ k a e. omega arith))
         (zero-word (9 + j * 6) (omega arith) (omega arith) (λ x y. omega arith) (λ k a e. omega arith))
         (zero-word (10 + j * 6) (omega arith) (omega arith) (λ x y. omega arith) (λ k a e. omega arith))
         (zero-word (11 + j * 6) (omega arith) (omega arith) (λ x y. omega arith) (λ k a e. omega arith))
         (zero-word (128 + j) (omega arith) (omega arith) (λ x y. omega arith) (λ k a e. omega arith))
 
-    module _ (k : ℕ) (B : Bound (storeOf k m₀) (bindingsOf m₀ me)) where
-      own-variables : variablesIn (block m₄ s) (own + locals) ≡ ownVariables (kindsOfBits count bits) (namesAt t (head + 2) count) locals (variableNamed k m₀ me)
+    module _ (moment k : ℕ) (B : Bound (storeOf k m₀) (bindingsOf m₀ me)) where
+      own-variables : variablesIn (block m₄ s) (own + locals) ≡ ownVariables moment (kindsOfBits count bits) (namesAt t (head + 2) count) locals (variableNamed k m₀ me)
       unfolding variablesIn
       own-variables =
           let all : min (own + locals) 16 ≡ own + locals = omega (arith, few) in
-          rw (all, tabulate-tail own locals (variableIn (block m₁ s)) (variableIn (block m₄ s)) (newVariable 0) old-variable new-local)
-          (S .values .variables k B locals)
+          rw (all, tabulate-tail own locals (variableIn (block m₁ s)) (variableIn (block m₄ s)) (newVariable moment 0) old-variable (new-local moment))
+          (S .values .variables moment k B locals)
 
       -- ── the row ─────────────────────────────────────────────────────────────────────────────────
       caller-same : rowsOf m₁ me ≡ rowsOf m₀ me
@@ -134,7 +134,7 @@ module _ {t m₀ m₁ m₂ m₃ m₄ : List ℕ} {me head i s n callee count bit
       bits-is : p .bits ≡ (rowsOf m₀ me) .bits - forkBits n
       bits-is = S .parent .bits ∙ ap (λ (r : Row). r .bits - forkBits n) caller-same
 
-      pub whole-row : rowAt (block m₄ s) ≡ childRow (tableListing t) (callerAt (rowsOf m₀) (environmentOf k m₀) me n) (callAt t head) i s
+      pub whole-row : rowAt (block m₄ s) ≡ childRow (tableListing t) moment (callerAt (rowsOf m₀) (environmentOf k m₀) me n) (callAt t head) i s
       unfolding rowAt childRow callerAt nonzero keptBlock workingBlock putIn
       whole-row =
           let apart : (k : ℕ) → k < 110 → block m₄ s k ≡ stored k = λ k h. word-stored k (λ e. omega arith) (λ x y. omega arith) in

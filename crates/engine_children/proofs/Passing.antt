@@ -30,9 +30,9 @@ use Rattle.engine_children.proofs.CallerNames.{caller-bindings-stay, ca
 use Rattle.walk.specs.Memory.{ownVariables}
 
 -- a variable of which only the value is no 0
-pub fresh-variable : (b : Block) (i v : ℕ) → b (8 + i * 6) ≡ v → b (9 + i * 6) ≡ 0 → b (10 + i * 6) ≡ 0 → b (11 + i * 6) ≡ 0 → b (128 + i) ≡ 0 → variableIn b i ≡ newVariable v
+pub fresh-variable : (moment : ℕ) (b : Block) (i v : ℕ) → b (8 + i * 6) ≡ v → b (9 + i * 6) ≡ 0 → b (10 + i * 6) ≡ 0 → b (11 + i * 6) ≡ 0 → b (128 + i) ≡ 0 → variableIn b i ≡ newVariable moment v
 unfolding variableIn newVariable nonzero waitingOf
-fresh-variable b i v p q x y z = rw (p, q, x, y, z)
+fresh-variable moment b i v p q x y z = rw (p, q, x, y, z)
 
 -- a slot with no variables
 pub no-variables : (words : List ℕ) (s : ℕ) → s < 64 → block words s 4 ≡ 0 → (rowsOf words s) .own ≡ []
@@ -45,9 +45,9 @@ pub record Values (t before : List ℕ) (me s at count bits : ℕ) (m : List ℕ
   pub others : (k : ℕ) → ((i : ℕ) → i < own → k ≡ 8 + i * 6 → ⊥) → block m s k ≡ block before s k
   pub within : j ≤ count
   pub few : own ≤ j
-  pub variables : (n : ℕ) → Bound (storeOf n before) (bindingsOf before me) → (locals : ℕ)
-      → tabulateFrom 0 own (variableIn (block m s)) ++ ownVariables (kindsOfBits (count - j) rest) (namesAt t (at + 2 * j) (count - j)) locals (variableNamed n before me)
-      ≡ ownVariables (kindsOfBits count bits) (namesAt t at count) locals (variableNamed n before me)
+  pub variables : (moment n : ℕ) → Bound (storeOf n before) (bindingsOf before me) → (locals : ℕ)
+      → tabulateFrom 0 own (variableIn (block m s)) ++ ownVariables moment (kindsOfBits (count - j) rest) (namesAt t (at + 2 * j) (count - j)) locals (variableNamed n before me)
+      ≡ ownVariables moment (kindsOfBits count bits) (namesAt t at count) locals (variableNamed n before me)
 
 module _ {t before : List ℕ} {me s at count bits : ℕ} (M : MayPass t before me s at count 0) where
   pub values-start : Values t before me s at count bits before 0 bits 0
@@ -55,7 +55,7 @@ module _ {t before : List ℕ} {me s at count bits : ℕ} (M : MayPass t before 
   values-start =
       let e : at + 2 * 0 ≡ at = omega arith in
       let z : count - 0 ≡ count = omega arith in
-      record { inBlock = in-block-start before s; others = λ k h. refl; within = omega arith; few = omega arith; variables = λ n B locals. rw (e, z) }
+      record { inBlock = in-block-start before s; others = λ k h. refl; within = omega arith; few = omega arith; variables = λ moment n B locals. rw (e, z) }
 
   module _ {m : List ℕ} {j rest own : ℕ} (Vs : Values t before me s at count bits m j rest own) where
     -- the number of its variables is not stored yet
@@ -72,29 +72,29 @@ module _ {t before : List ℕ} {me s at count bits : ℕ} (M : MayPass t before 
       abbrev left : ℕ
       left = count - suc j
 
-      module _ (n : ℕ) (B : Bound (storeOf n before) (bindingsOf before me)) (locals : ℕ) where
+      module _ (moment n : ℕ) (B : Bound (storeOf n before) (bindingsOf before me)) (locals : ℕ) where
         abbrev whole : List Variable
-        whole = ownVariables (kindsOfBits count bits) (namesAt t at count) locals (variableNamed n before me)
+        whole = ownVariables moment (kindsOfBits count bits) (namesAt t at count) locals (variableNamed n before me)
 
         abbrev remaining : List Variable
-        remaining = ownVariables (kindsOfBits left (rest / 2)) (namesAt t (at + 2 * suc j) left) locals (variableNamed n before me)
+        remaining = ownVariables moment (kindsOfBits left (rest / 2)) (namesAt t (at + 2 * suc j) left) locals (variableNamed n before me)
 
-        split : tabulateFrom 0 own (variableIn (block m s)) ++ ownVariables (cond (eqb (rest % 2) 1) byReference byValue ∷ kindsOfBits left (rest / 2))
+        split : tabulateFrom 0 own (variableIn (block m s)) ++ ownVariables moment (cond (eqb (rest % 2) 1) byReference byValue ∷ kindsOfBits left (rest / 2))
             (nameAt t (at + 2 * j) ∷ namesAt t (at + 2 * suc j) left) locals (variableNamed n before me) ≡ whole
         unfolding kindsOfBits cellsAt
         split =
             let e : count - j ≡ suc left = omega arith in
             let f : (at + 2 * j) + 2 ≡ at + 2 * suc j = omega arith in
-            rw (e, f) at (Vs .variables n B locals)
+            rw (e, f) at (Vs .variables moment n B locals)
 
         -- the words of the variable that comes next are 0, all but its value
         zero-word : (k : ℕ) → k < 144 → ((i : ℕ) → i < suc own → k ≡ 8 + i * 6 → ⊥) → block after s k ≡ 0
         zero-word k l h = P .others k (h own (omega arith)) ∙ Vs .others k (λ i x. h i (omega arith)) ∙ M .blank k l
 
-        next-variable : (rest % 2 ≡ 1 → ⊥) → variableIn (block after s) own ≡ newVariable ((variableNamed n before me (nameAt t (at + 2 * j))) .value)
+        next-variable : (rest % 2 ≡ 1 → ⊥) → variableIn (block after s) own ≡ newVariable moment ((variableNamed n before me (nameAt t (at + 2 * j))) .value)
         next-variable v =
             let room : own < 16 = omega (arith, M .binds .few, Vs .few) in
-            fresh-variable (block after s) own _
+            fresh-variable moment (block after s) own _
             (P .value v .1 n (caller-bound-stays (Vs .inBlock) (M .binds .slot) (M .binds .apart) none-yet n B)
             ∙ ap (λ (x : Variable). x .value) (caller-names-stay (Vs .inBlock) (M .binds .slot) (M .binds .apart) none-yet n (nameAt t (at + 2 * j))))
             (zero-word (9 + own * 6) (omega arith) (λ i h e. omega arith)) (zero-word (10 + own * 6) (omega arith) (λ i h e. omega arith))
@@ -113,7 +113,7 @@ module _ {t before : List ℕ} {me s at count bits : ℕ} (M : MayPass t before 
             rw (
               P .value v .0,
               add-one own,
-              tabulate-next own (variableIn (block m s)) (variableIn (block after s)) (newVariable ((variableNamed n before me (nameAt t (at + 2 * j))) .value)) old-variable (next-variable v),
+              tabulate-next own (variableIn (block m s)) (variableIn (block after s)) (newVariable moment ((variableNamed n before me (nameAt t (at + 2 * j))) .value)) old-variable (next-variable v),
               moved-over,
             )
             (rw (ne-eqb (rest % 2) 1 v) at split)
@@ -136,7 +136,7 @@ module _ {t before : List ℕ} {me s at count bits : ℕ} (M : MayPass t before 
             others = others-then (ℕ-discrete (rest % 2) 1);
             within = omega arith;
             few = few-then (ℕ-discrete (rest % 2) 1);
-            variables = λ n B locals. by-kind n B locals (ℕ-discrete (rest % 2) 1);
+            variables = λ moment n B locals. by-kind moment n B locals (ℕ-discrete (rest % 2) 1);
           })
 
   pub values-end : {m : List ℕ} {j rest own : ℕ} → Values t before me s at count bits m j rest own → count ≤ j → ValuesPassed t before me s at count bits m own
@@ -148,7 +148,7 @@ module _ {t before : List ℕ} {me s at count bits : ℕ} (M : MayPass t before 
         inBlock = Vs .inBlock;
         others = Vs .others;
         few = rw e at (Vs .few);
-        variables = λ n B locals. rw (e, z) at (Vs .variables n B locals);
+        variables = λ moment n B locals. rw (e, z) at (Vs .variables moment n B locals);
       }
 
 -- ── one argument ──────────────────────────────────────────────────────────────────────────────────

@@ -37,10 +37,10 @@ pub record MayFork (t m : List ℕ) (me cells n : ℕ) : Type 0 where
 -- All children exist, in the slots r, if the caller's names lead to variables that are there; nothing else changed.
 pub record MakesChildren (t before : List ℕ) (me cells n : ℕ) (after : List ℕ) (r : NewSlots) : Type 0 where
   pub count : r .count ≡ n
-  pub rows : (k : ℕ) → Bound (storeOf k before) (bindingsOf before me)
-      → rowsOf after ≡ rowsWithNew (tableListing t) (rowsOf before) (environmentOf k before) me n (callsAt t cells n) 0
-  pub slots : (k : ℕ) → Bound (storeOf k before) (bindingsOf before me)
-      → slotsIn r ≡ newSlots (tableListing t) (rowsOf before) (environmentOf k before) me n (callsAt t cells n) 0
+  pub rows : (moment k : ℕ) → Bound (storeOf k before) (bindingsOf before me)
+      → rowsOf after ≡ rowsWithNew (tableListing t) moment (rowsOf before) (environmentOf k before) me n (callsAt t cells n) 0
+  pub slots : (moment k : ℕ) → Bound (storeOf k before) (bindingsOf before me)
+      → slotsIn r ≡ newSlots (tableListing t) moment (rowsOf before) (environmentOf k before) me n (callsAt t cells n) 0
   pub environment : (k : ℕ) → environmentOf k after ≡ environmentOf k before
   pub outside : SameOutside before after
   pub triggers : SameTriggers before after

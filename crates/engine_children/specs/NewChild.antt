@@ -31,8 +31,8 @@ pub record MayMake (t m : List ℕ) (me head i s n : ℕ) : Type 0 where
 
 -- Slot s has the child's whole row, if the caller's names lead to variables that are there; nothing else changed.
 pub record MakesChild (t before : List ℕ) (me head i s n : ℕ) (after : List ℕ) : Type 0 where
-  pub store : (k : ℕ) → Bound (storeOf k before) (bindingsOf before me) → storeOf k after
-      ≡ withSlot s (λ (r : Row). childRow (tableListing t) (callerAt (rowsOf before) (environmentOf k before) me n) (callAt t head) i s) (storeOf k before)
+  pub store : (moment k : ℕ) → Bound (storeOf k before) (bindingsOf before me) → storeOf k after
+      ≡ withSlot s (λ (r : Row). childRow (tableListing t) moment (callerAt (rowsOf before) (environmentOf k before) me n) (callAt t head) i s) (storeOf k before)
   pub taken : (rowsOf after s) .used ≡ true
   pub others : (r : ℕ) → (r ≡ s → ⊥) → rowsOf after r ≡ rowsOf before r
   pub environment : (k : ℕ) → environmentOf k after ≡ environmentOf k before

@@ -23,9 +23,9 @@ pub record ValuesPassed (t before : List ℕ) (me s at count bits : ℕ) (after 
   pub inBlock : InBlock s before after (block after s)
   pub others : (k : ℕ) → ((i : ℕ) → i < own → k ≡ 8 + i * 6 → ⊥) → block after s k ≡ block before s k
   pub few : own ≤ count
-  pub variables : (n : ℕ) → Bound (storeOf n before) (bindingsOf before me) → (locals : ℕ)
-      → tabulateFrom 0 own (variableIn (block after s)) ++ replicate locals (newVariable 0)
-      ≡ ownVariables (kindsOfBits count bits) (namesAt t at count) locals (variableNamed n before me)
+  pub variables : (moment n : ℕ) → Bound (storeOf n before) (bindingsOf before me) → (locals : ℕ)
+      → tabulateFrom 0 own (variableIn (block after s)) ++ replicate locals (newVariable moment 0)
+      ≡ ownVariables moment (kindsOfBits count bits) (namesAt t at count) locals (variableNamed n before me)
 
 -- One value, if the argument is by value: as much of the above for the argument named `name`.
 pub record ValuePassed (before : List ℕ) (me s name bit own : ℕ) (after : List ℕ) (r : ℕ) : Type 0 where

@@ -84,7 +84,7 @@ module _ {t m values : List ℕ} {me a count : ℕ} (asked : MayCome t m me a va
 module _ {t m before after : List ℕ} {me a count r : ℕ} where
   pub past-literal : word t a ≡ 0 → Pushed before count (word t (a + 1)) after r → Past t m me a before count after r
   unfolding countAfter evaluatePiece
-  past-literal e p = record { size = p .size; counted = rw (literal-at t a e) (p .counted); values = record { equal = λ n bound. rw (literal-at t a e) (p .values) } }
+  past-literal e p = record { size = p .size; counted = rw (literal-at t a e) (p .counted); values = λ moment. record { equal = λ n bound. rw (literal-at t a e) (p .values) } }
 
   pub past-value : {v : ℕ} → word t a ≡ 1 → FromNames m me (λ names. (names (word t (a + 1))) .value) v → Pushed before count v after r → Past t m me a before count after r
   unfolding countAfter evaluatePiece
@@ -92,7 +92,7 @@ module _ {t m before after : List ℕ} {me a count r : ℕ} where
       record {
         size = p .size;
         counted = rw (value-at t a e) (p .counted);
-        values = record { equal = λ n bound. rw (value-at t a e) (p .values ∙ ap (λ (v : ℕ). v ∷ held before count) (f .equal n bound)) };
+        values = λ moment. record { equal = λ n bound. rw (value-at t a e) (p .values ∙ ap (λ (v : ℕ). v ∷ held before count) (f .equal n bound)) };
       }
 
   pub past-mark : {v : ℕ} → word t a ≡ 2 → FromNames m me (λ names. bit ((names (word t (a + 1))) .written)) v → Pushed before count v after r → Past t m me a before count after r
@@ -101,7 +101,7 @@ module _ {t m before after : List ℕ} {me a count r : ℕ} where
       record {
         size = p .size;
         counted = rw (mark-at t a e) (p .counted);
-        values = record { equal = λ n bound. rw (mark-at t a e) (p .values ∙ ap (λ (v : ℕ). v ∷ held before count) (f .equal n bound)) };
+        values = λ moment. record { equal = λ n bound. rw (mark-at t a e) (p .values ∙ ap (λ (v : ℕ). v ∷ held before count) (f .equal n bound)) };
       }
 
   pub past-sign : IsSign (word t a) → Operated before count (word t a) after r → Past t m me a before count after r
@@ -110,7 +110,7 @@ module _ {t m before after : List ℕ} {me a count r : ℕ} where
       record {
         size = o .size;
         counted = rw (sign-at t a none) (o .counted ∙ counts (eqb (word t a) 3) (eqb (word t a) 4) (eqb (word t a) 5));
-        values = record { equal = λ n bound. rw (sign-at t a none) (o .values ∙ joins _ (eqb (word t a) 3) (eqb (word t a) 4) (eqb (word t a) 5)) };
+        values = λ moment. record { equal = λ n bound. rw (sign-at t a none) (o .values ∙ joins moment _ (eqb (word t a) 3) (eqb (word t a) 4) (eqb (word t a) 5)) };
       }
     where
       counts : (first second third : Bool) → count - 1 ≡ countAfter count (signs first second third)
@@ -119,10 +119,10 @@ module _ {t m before after : List ℕ} {me a count r : ℕ} where
       counts false false true = refl
       counts false false false = refl
 
-      joins : (names : ℕ → Variable) (first second third : Bool) →
+      joins : (moment : ℕ) (names : ℕ → Variable) (first second third : Bool) →
           operate (λ x y. cond first (wrappingAdd x y) (cond second (wrappingSubtract x y) (cond third (wrappingMultiply x y) (bit (signedLess x y))))) (held before count)
-          ≡ evaluatePiece names (signs first second third) (held before count)
-      joins names true second third = refl
-      joins names false true third = refl
-      joins names false false true = refl
-      joins names false false false = refl
+          ≡ evaluatePiece moment names (signs first second third) (held before count)
+      joins moment names true second third = refl
+      joins moment names false true third = refl
+      joins moment names false false true = refl
+      joins moment names false false false = refl

@@ -16,6 +16,7 @@ use Rattle.engine_blocks.specs.Store.{storeOf}
 use Rattle.engine_evaluate.specs.Bound.{Bound, bindingsOf, variableNamed, FromNames}
 use Rattle.engine_evaluate.specs.Values.{held, mayCome, countAfter}
 use Rattle.engine_evaluate.specs.Evaluable.{Evaluable, MayCome, Past}
+use Rattle.engine_evaluate.specs.Evaluable.{Evaluates}
 
 -- ── the pieces from one on ───────────────────────────────────────────────────────
 form-split : (count : ℕ) (p : Piece) (rest : List Piece) → leavesOneFrom count (p ∷ rest) ≡ mayCome count p && leavesOneFrom (countAfter count p) rest
@@ -55,13 +56,13 @@ pub record Before (t m : List ℕ) (me cells pieces : ℕ) (values : List ℕ) (
   pub most : count ≤ 8
   pub form : leavesOneFrom count (piecesAt t at left) ≡ true
   pub names : all (pieceIsThere (length (bindingsOf m me))) (piecesAt t at left) ≡ true
-  pub value : (n : ℕ) → Bound (storeOf n m) (bindingsOf m me)
-      → top (evaluatePieces (variableNamed n m me) (piecesAt t at left) (held values count)) ≡ evaluateBy (variableNamed n m me) (piecesAt t cells pieces)
+  pub value : (moment n : ℕ) → Bound (storeOf n m) (bindingsOf m me)
+      → top (evaluatePieces moment (variableNamed n m me) (piecesAt t at left) (held values count)) ≡ evaluateBy moment (variableNamed n m me) (piecesAt t cells pieces)
 
 module _ {t m : List ℕ} {me cells pieces : ℕ} where
   pub first-turn : (values : List ℕ) → length values ≡ 8 → Evaluable t m me cells pieces → Before t m me cells pieces values 0 cells pieces
   unfolding held evaluateBy
-  first-turn values size evaluable = record { place = refl; places = size; most = omega arith; form = evaluable .form; names = evaluable .names; value = λ n bound. refl }
+  first-turn values size evaluable = record { place = refl; places = size; most = omega arith; form = evaluable .form; names = evaluable .names; value = λ moment n bound. refl }
 
   module _ {values : List ℕ} {count at left : ℕ} (so-far : Before t m me cells pieces values count at left) where
     module _ (some : 0 < left) where
@@ -85,12 +86,12 @@ module _ {t m : List ℕ} {me cells pieces : ℕ} where
             most = rw (past .counted) (count-most count (pieceAt t at) (split .0) (so-far .most));
             form = rw (past .counted) (split .1);
             names = there .1;
-            value = λ n bound. ap (λ (h : List ℕ). top (evaluatePieces (variableNamed n m me) (piecesAt t (at + 2) (left - 1)) h)) (past .values .equal n bound)
-                ∙ (rw (first-piece t at left some) at (so-far .value n bound));
+            value = λ moment n bound. ap (λ (h : List ℕ). top (evaluatePieces moment (variableNamed n m me) (piecesAt t (at + 2) (left - 1)) h)) (past .values moment .equal n bound)
+                ∙ (rw (first-piece t at left some) at (so-far .value moment n bound));
           }
 
-    pub last-turn : left ≡ 0 → FromNames m me (λ names. evaluateBy names (piecesAt t cells pieces)) (getD values 0 0)
+    pub last-turn : left ≡ 0 → Evaluates m me (piecesAt t cells pieces) (getD values 0 0)
     unfolding leavesOneFrom evaluatePieces cellsAt held top
-    last-turn z =
+    last-turn z = λ moment.
         let one : count ≡ 1 = eqb-true count 1 (rw z at (so-far .form)) in
-        record { equal = λ n bound. sym (ap (λ (k : ℕ). top (held values k)) one) ∙ (rw z at (so-far .value n bound)) }
+        record { equal = λ n bound. sym (ap (λ (k : ℕ). top (held values k)) one) ∙ (rw z at (so-far .value moment n bound)) }

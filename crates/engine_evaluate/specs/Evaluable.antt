@@ -11,7 +11,8 @@ use Rattle.listing.specs.Questions.{pieceIsThere}
 use Rattle.table.specs.Decode.{pieceAt, piecesAt}
 use Rattle.engine_evaluate.specs.Bound.{bindingsOf, FromNames}
 use Rattle.engine_evaluate.specs.Values.{held, mayCome, countAfter}
-use Rattle.walk.specs.Memory.{evaluatePiece}
+use Rattle.walk.specs.Memory.{evaluatePiece, evaluateBy}
+use Rattle.listing.specs.Listing.{Piece}
 
 -- These cells hold an expression in its form, and its names are names of the routine.
 pub record Evaluable (t m : List ℕ) (me cells pieces : ℕ) : Type 0 where
@@ -35,4 +36,8 @@ pub record MayCome (t m : List ℕ) (me a : ℕ) (values : List ℕ) (count : �
 pub record Past (t m : List ℕ) (me a : ℕ) (before : List ℕ) (count : ℕ) (after : List ℕ) (r : ℕ) : Type 0 where
   pub size : length after ≡ 8
   pub counted : r ≡ countAfter count (pieceAt t a)
-  pub values : FromNames m me (λ names. evaluatePiece names (pieceAt t a) (held before count)) (held after r)
+  pub values : (moment : ℕ) → FromNames m me (λ names. evaluatePiece moment names (pieceAt t a) (held before count)) (held after r)
+
+-- r is the expression's value, at any moment.
+abbrev pub Evaluates : List ℕ → ℕ → List Piece → ℕ → Type 0
+Evaluates m me e r = (moment : ℕ) → FromNames m me (λ names. evaluateBy moment names e) r

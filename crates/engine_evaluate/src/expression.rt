@@ -5,8 +5,7 @@ ghost use Rattle.machine.specs.Words.{HasMachine};
 ghost use Rattle.words.specs.Words.{bit};
 ghost use Rattle.table.specs.Decode.{piecesAt};
 ghost use Rattle.engine_evaluate.specs.Bound.{bindingsOf, FromNames};
-ghost use Rattle.engine_evaluate.specs.Evaluable.{Evaluable, MayCome, Past};
-ghost use Rattle.walk.specs.Memory.{evaluateBy};
+ghost use Rattle.engine_evaluate.specs.Evaluable.{Evaluable, MayCome, Past, Evaluates};
 use crate::stack::operate;
 use crate::stack::push;
 use engine_variables::owner;
@@ -56,7 +55,7 @@ fn piece(t: &[u32], m: &[u32], me: usize, at: usize, values: &mut [u32; 8], coun
 // The value of the `pieces` pieces whose cells stand from word `cells` of the table on.
 pub fn evaluate(t: &[u32], m: &[u32], me: usize, cells: usize, pieces: usize) -> u32
     requires { ⌜ Evaluable (now t) (now m) me cells pieces ⌝ }
-    ensures { λ r. ⌜ FromNames (now (m .entry)) me (λ names. evaluateBy names (piecesAt (now (t .entry)) cells pieces)) r ⌝ }
+    ensures { λ r. ⌜ Evaluates (now (m .entry)) me (piecesAt (now (t .entry)) cells pieces) r ⌝ }
 {
     let mut values: [u32; 8] = [0; 8];
     let mut count: usize = 0;

@@ -49,7 +49,7 @@ module _ (k locals s : ℕ) where
 
 -- arguments by reference own nothing
 no-values : (kinds : List Kind) (arguments : List ℕ) (locals : ℕ) (name : ℕ → Variable) → all isByReference kinds ≡ true
-    → ownVariables kinds arguments locals name ≡ replicate locals (newVariable 0)
+    → ownVariables 0 kinds arguments locals name ≡ replicate locals (newVariable 0 0)
 unfolding ownVariables all
 no-values [] arguments locals name r = refl
 no-values (byReference ∷ ks) [] locals name r = no-values ks [] locals name r
@@ -75,7 +75,7 @@ module _ (t : List ℕ) (table : isTable t ≡ true) where
       (ports-bound k locals s ((routineAt (tableListing t) 0) .kinds) k 0 (O .count ∙ ports-counted O) references (omega arith))
 
   pub main-owns : (arguments : List ℕ) (name : ℕ → Variable)
-      → ownVariables ((routineAt (tableListing t) 0) .kinds) arguments ((routineAt (tableListing t) 0) .locals) name ≡ replicate ((routineAt (tableListing t) 0) .locals) (newVariable 0)
+      → ownVariables 0 ((routineAt (tableListing t) 0) .kinds) arguments ((routineAt (tableListing t) 0) .locals) name ≡ replicate ((routineAt (tableListing t) 0) .locals) (newVariable 0 0)
   main-owns arguments name = no-values ((routineAt (tableListing t) 0) .kinds) arguments ((routineAt (tableListing t) 0) .locals) name references
 
   ports-few : environmentSize (tableListing t) ≤ 16

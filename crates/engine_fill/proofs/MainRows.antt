@@ -112,14 +112,14 @@ module _ (b : Block) (locals : ℕ) (few : locals ≤ 16) where
         free = λ e. absurd (first-in-use e);
       }
 
-  locals-fresh : variablesIn begun locals ≡ replicate locals (newVariable 0)
+  locals-fresh : variablesIn begun locals ≡ replicate locals (newVariable 0 0)
   unfolding variablesIn tabulateFrom
   locals-fresh =
       let all : min locals 16 ≡ locals = omega arith in
       let z : 0 + locals ≡ locals = omega arith in
-      rw all (subst (λ (n : ℕ). tabulateFrom 0 n (variableIn begun) ≡ replicate locals (newVariable 0)) z
-      (tabulate-tail 0 locals (variableIn begun) (variableIn begun) (newVariable 0) (λ k h. refl) (λ k h l.
-      fresh-variable begun k 0 (zero-word (8 + k * 6) (omega arith) (omega arith)) (zero-word (9 + k * 6) (omega arith) (omega arith))
+      rw all (subst (λ (n : ℕ). tabulateFrom 0 n (variableIn begun) ≡ replicate locals (newVariable 0 0)) z
+      (tabulate-tail 0 locals (variableIn begun) (variableIn begun) (newVariable 0 0) (λ k h. refl) (λ k h l.
+      fresh-variable 0 begun k 0 (zero-word (8 + k * 6) (omega arith) (omega arith)) (zero-word (9 + k * 6) (omega arith) (omega arith))
       (zero-word (10 + k * 6) (omega arith) (omega arith)) (zero-word (11 + k * 6) (omega arith) (omega arith)) (zero-word (128 + k) (omega arith) (omega arith)))))
 
   begun-used : (rowAt begun) .used ≡ true
@@ -138,13 +138,13 @@ module _ (b : Block) (locals : ℕ) (few : locals ≤ 16) where
   unfolding rowAt keptBlock putIn cleared
   begun-place = refl
 
-  begun-own : (rowAt begun) .own ≡ replicate locals (newVariable 0)
+  begun-own : (rowAt begun) .own ≡ replicate locals (newVariable 0 0)
   unfolding rowAt
   begun-own = ap (variablesIn begun) number-word ∙ locals-fresh
 
 -- main's row, from its kept part
 main-working : (t : List ℕ) (table : isTable t ≡ true) (s : ℕ) (q : Parent) (x : Row) (environment : List Variable) → MainParent t q → x .used ≡ true → x .level ≡ 0 → x .child ≡ 0
-    → x .place ≡ 0 → x .own ≡ replicate ((routineAt (tableListing t) 0) .locals) (newVariable 0) → length environment ≡ environmentSize (tableListing t)
+    → x .place ≡ 0 → x .own ≡ replicate ((routineAt (tableListing t) 0) .locals) (newVariable 0 0) → length environment ≡ environmentSize (tableListing t)
     → workingRow x q 0 false 0 (mainBindings t s) ≡ mainRow (tableListing t) environment s
 unfolding workingRow mainRow childRow environmentCaller mainCall
 main-working t table s q x environment P u v w z o e =
@@ -172,7 +172,7 @@ module _ {t m₀ m₁ m₂ m₃ m₄ : List ℕ} {s count bits locals size : ℕ
         R₂ .row ∙ (ap (λ (x : Row). workingRow x q 0 false 0 (mainBindings t s)) (row-of m₂ s slot ∙ ap rowAt begun-block)
         ∙ main-working t table s q (rowAt (keptBlock (cleared 0 144 (block m₀ s)) 0 0 locals)) environment P (begun-used (block m₀ s) locals few) (begun-level (block m₀ s) locals few)
         (begun-child (block m₀ s) locals few) (begun-place (block m₀ s) locals few)
-        (begun-own (block m₀ s) locals few ∙ ap (λ (n : ℕ). replicate n (newVariable 0)) (sym (O .own))) e)
+        (begun-own (block m₀ s) locals few ∙ ap (λ (n : ℕ). replicate n (newVariable 0 0)) (sym (O .own))) e)
 
     trigger-word : (k : ℕ) → 144 ≤ k → block m₄ s k ≡ block m₀ s k
     unfolding keptBlock

@@ -61,7 +61,7 @@ module _ {t a b c : List ℕ} {u : Running} {cells n : ℕ} {new : NewSlots}
   bound-now = bound-kept n q (may .variables) (may .bound)
 
   slots-small : (k : ℕ) → getD (slotsIn new) k 0 < 64
-  slots-small k = rw (f .slots (may .variables) bound-now) (new-small (tableListing t) (environmentOf (may .variables) b) (u .me) n (rowsOf b) (callsAt t cells n) 0 k)
+  slots-small k = rw (f .slots 0 (may .variables) bound-now) (new-small (tableListing t) 0 (environmentOf (may .variables) b) (u .me) n (rowsOf b) (callsAt t cells n) 0 k)
 
   -- The new slots can be put before the others.
   pub may-put : u .live + n ≤ 64 → ((u .ready) .count + new .count ≤ 64) × (new .count ≤ 8)
@@ -81,8 +81,8 @@ module _ {t a b c : List ℕ} {u : Running} {cells n : ℕ} {new : NewSlots}
           slots = rw ready (slots-join (slots-each (slotsIn new) slots-small) (may .pops .slots));
           woken = rw woken (may .pops .woken);
           sleepers = λ s h.
-              let rows = f .rows (may .variables) bound-now in
-              let old = new-sleepers (tableListing t) (environmentOf (may .variables) b) (u .me) n (rowsOf b) (callsAt t cells n) 0 s
+              let rows = f .rows 0 (may .variables) bound-now in
+              let old = new-sleepers (tableListing t) 0 (environmentOf (may .variables) b) (u .me) n (rowsOf b) (callsAt t cells n) 0 s
               (sym (ap (λ (x : Rows). (x s) .asleep) rows) ∙ h) in
               let slept = sym (field-kept n q (λ (r : Row). r .asleep) (λ r. refl) s) ∙ old .0 in
               let place : (rowsOf c s) .place ≡ (rowsOf a s) .place =
@@ -102,13 +102,13 @@ module _ {t a b c : List ℕ} {u : Running} {cells n : ℕ} {new : NewSlots}
               let cs = callsAt t cells n in
               let counted : rowsOf b ≡ withRow (rowsOf a) (u .me) (withChildren (rowsOf a (u .me)) n) = rows-changed (λ x. withChildren x n) q in
               let same : environmentOf k b ≡ environmentOf k a = environment-kept (λ x. withChildren x n) q k in
-              let rows : rowsOf c ≡ rowsWithNew listing (withRow (rowsOf a) (u .me) (withChildren (rowsOf a (u .me)) n)) (environmentOf k a) (u .me) n cs 0 =
-              f .rows k bound ∙ ap (λ (x : Rows). rowsWithNew listing x (environmentOf k b) (u .me) n cs 0) counted
-              ∙ ap (λ (x : List Variable). rowsWithNew listing (withRow (rowsOf a) (u .me) (withChildren (rowsOf a (u .me)) n)) x (u .me) n cs 0) same in
-              let slots : slotsIn new ≡ newSlots listing (withRow (rowsOf a) (u .me) (withChildren (rowsOf a (u .me)) n)) (environmentOf k a) (u .me) n cs 0 =
-              f .slots k bound ∙ ap (λ (x : Rows). newSlots listing x (environmentOf k b) (u .me) n cs 0) counted
-              ∙ ap (λ (x : List Variable). newSlots listing (withRow (rowsOf a) (u .me) (withChildren (rowsOf a (u .me)) n)) x (u .me) n cs 0) same in
-              let first : slotsOf (v .ready) ≡ newSlots listing (withRow (rowsOf a) (u .me) (withChildren (rowsOf a (u .me)) n)) (environmentOf k a) (u .me) n cs 0 ++ slotsOf (u .ready) =
+              let rows : rowsOf c ≡ rowsWithNew listing moment (withRow (rowsOf a) (u .me) (withChildren (rowsOf a (u .me)) n)) (environmentOf k a) (u .me) n cs 0 =
+              f .rows moment k bound ∙ ap (λ (x : Rows). rowsWithNew listing moment x (environmentOf k b) (u .me) n cs 0) counted
+              ∙ ap (λ (x : List Variable). rowsWithNew listing moment (withRow (rowsOf a) (u .me) (withChildren (rowsOf a (u .me)) n)) x (u .me) n cs 0) same in
+              let slots : slotsIn new ≡ newSlots listing moment (withRow (rowsOf a) (u .me) (withChildren (rowsOf a (u .me)) n)) (environmentOf k a) (u .me) n cs 0 =
+              f .slots moment k bound ∙ ap (λ (x : Rows). newSlots listing moment x (environmentOf k b) (u .me) n cs 0) counted
+              ∙ ap (λ (x : List Variable). newSlots listing moment (withRow (rowsOf a) (u .me) (withChildren (rowsOf a (u .me)) n)) x (u .me) n cs 0) same in
+              let first : slotsOf (v .ready) ≡ newSlots listing moment (withRow (rowsOf a) (u .me) (withChildren (rowsOf a (u .me)) n)) (environmentOf k a) (u .me) n cs 0 ++ slotsOf (u .ready) =
               ready ∙ ap (λ (l : List ℕ). l ++ slotsOf (u .ready)) slots in
               let environment : environmentOf k c ≡ environmentOf k a = f .environment k ∙ same in
               rw (count-calls t n cells, le-leb (u .live + n) 64 room, le-leb ((rowsOf a (u .me)) .level) 9 level)

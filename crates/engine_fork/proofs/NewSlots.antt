@@ -29,28 +29,28 @@ free-small rows (suc n) = go ((rows (63 - n)) .used) (free-small rows n)
     go true l = l
     go false l = omega arith
 
-module _ (listing : Listing) (environment : List Variable) (me n : ℕ) where
-  pub new-small : (rows : Rows) (cs : List Call) (i k : ℕ) → getD (newSlots listing rows environment me n cs i) k 0 < 64
+module _ (listing : Listing) (now : ℕ) (environment : List Variable) (me n : ℕ) where
+  pub new-small : (rows : Rows) (cs : List Call) (i k : ℕ) → getD (newSlots listing now rows environment me n cs i) k 0 < 64
   unfolding newSlots
   new-small rows [] i k = omega arith
   new-small rows (c ∷ cs) i zero = free-small rows 64
-  new-small rows (c ∷ cs) i (suc k) = new-small (rowsWithChild listing rows environment me n c i) cs (suc i) k
+  new-small rows (c ∷ cs) i (suc k) = new-small (rowsWithChild listing now rows environment me n c i) cs (suc i) k
 
   -- A sleeper among the rows with new children slept before, at its place.
-  pub new-sleepers : (rows : Rows) (cs : List Call) (i s : ℕ) → (rowsWithNew listing rows environment me n cs i s) .asleep ≡ true
-      → ((rows s) .asleep ≡ true) × ((rowsWithNew listing rows environment me n cs i s) .place ≡ (rows s) .place)
+  pub new-sleepers : (rows : Rows) (cs : List Call) (i s : ℕ) → (rowsWithNew listing now rows environment me n cs i s) .asleep ≡ true
+      → ((rows s) .asleep ≡ true) × ((rowsWithNew listing now rows environment me n cs i s) .place ≡ (rows s) .place)
   unfolding rowsWithNew rowsWithChild childRow
   new-sleepers rows [] i s h = (h, refl)
-  new-sleepers rows (c ∷ cs) i s h = go (new-sleepers (rowsWithChild listing rows environment me n c i) cs (suc i) s h) (ℕ-discrete s (freeSlot rows 64))
+  new-sleepers rows (c ∷ cs) i s h = go (new-sleepers (rowsWithChild listing now rows environment me n c i) cs (suc i) s h) (ℕ-discrete s (freeSlot rows 64))
     where
       f : ℕ
       f = freeSlot rows 64
 
       made : Row
-      made = childRow listing (callerAt rows environment me n) c i f
+      made = childRow listing now (callerAt rows environment me n) c i f
 
-      go : ((rowsWithChild listing rows environment me n c i s) .asleep ≡ true) × ((rowsWithNew listing rows environment me n (c ∷ cs) i s) .place ≡ (rowsWithChild listing rows environment me n c i s) .place)
-          → Dec (s ≡ f) → ((rows s) .asleep ≡ true) × ((rowsWithNew listing rows environment me n (c ∷ cs) i s) .place ≡ (rows s) .place)
+      go : ((rowsWithChild listing now rows environment me n c i s) .asleep ≡ true) × ((rowsWithNew listing now rows environment me n (c ∷ cs) i s) .place ≡ (rowsWithChild listing now rows environment me n c i s) .place)
+          → Dec (s ≡ f) → ((rows s) .asleep ≡ true) × ((rowsWithNew listing now rows environment me n (c ∷ cs) i s) .place ≡ (rows s) .place)
       go deep (yes e) =
           let new : withRow rows f made s ≡ made = ap (withRow rows f made) e ∙ with-row-same rows f made in
           let no-sleep : made .asleep ≡ true = sym (ap (λ (r : Row). r .asleep) new) ∙ deep .0 in

@@ -86,7 +86,7 @@ module _ (listing : Listing) (now : ℕ) where
       (k l woken : ℕ) → instructionAt listing r place ≡ assign n e →
       rest listing now (goes (frame level r place ns b) ∷ ts) d ds (record { memory = m; left = suc k; live = l; woken = woken }) ≡ rest listing now
       (goes (frame level r (suc place) ns b) ∷ ts) d ds (record {
-        memory = writeAt m (addressOf ns n) (evaluate m ns e);
+        memory = writeAt now m (addressOf ns n) (evaluate now m ns e);
         left = k;
         live = l;
         woken = woken;
@@ -115,7 +115,7 @@ module _ (listing : Listing) (now : ℕ) where
   pub rest-F : (level r place : ℕ) (ns : List ℕ) (b : ℕ) (cs : List Call) (ts : List Task) (d : Forest) (ds : List Forest) (m : List Variable)
       (k l woken : ℕ) → instructionAt listing r place ≡ fork cs → leb (l + childCount cs) 64 ≡ true → leb level 9 ≡ true →
       rest listing now (goes (frame level r place ns b) ∷ ts) d ds (record { memory = m; left = suc k; live = l; woken = woken }) ≡
-      rest listing now (news (newRoutines listing m ns cs) (suc level) (back (frame level r place ns b) ∷ ts)) empty (d ∷ ds) (record {
+      rest listing now (news (newRoutines listing now m ns cs) (suc level) (back (frame level r place ns b) ∷ ts)) empty (d ∷ ds) (record {
         memory = m;
         left = k;
         live = l + childCount cs;
@@ -124,7 +124,7 @@ module _ (listing : Listing) (now : ℕ) where
   unfolding rest run step execute move carryOut asking resume outer beyond _⊕_
   rest-F level r place ns b cs ts d ds m k l woken h x y = rw (h, x, y)
       (then-assoc _ _ _ ∙
-      sym (rest-news k (newRoutines listing m ns cs) (suc level) (back (frame level r place ns b) ∷ ts) empty (d ∷ ds) _ (le-refl k) ∙
+      sym (rest-news k (newRoutines listing now m ns cs) (suc level) (back (frame level r place ns b) ∷ ts) empty (d ∷ ds) _ (le-refl k) ∙
       then-same k _ _ refl (inTurn-within _ (begin-within _ (run-within listing now k) (suc level)) _ _) λ a wa.
       rw (
         h,

@@ -26,9 +26,9 @@ use Rattle.engine_rows.proofs.Holds.{Holds}
 
 pub ready-any-order : {listing : Listing} {σ : Rows} {environment : List Variable} (s : State) (t : ℕ) (inputs : List Write) (ss : List ℕ) →
     Holds true listing σ environment s → IsState listing s →
-    ((q : ℕ) → In q ss → wakesNow listing (dueInRows t σ) (applyInputs inputs (dueWrites t environment)) q ≡ true) →
-    ((q : ℕ) → wakesNow listing (dueInRows t σ) (applyInputs inputs (dueWrites t environment)) q ≡ true → In q ss) →
-    insertAll (dueInRows t σ) ss [] ≡ readyOf listing (dueInRows t σ) (applyInputs inputs (dueWrites t environment))
+    ((q : ℕ) → In q ss → wakesNow listing (dueInRows t σ) (applyInputs t inputs (dueWrites t environment)) q ≡ true) →
+    ((q : ℕ) → wakesNow listing (dueInRows t σ) (applyInputs t inputs (dueWrites t environment)) q ≡ true → In q ss) →
+    insertAll (dueInRows t σ) ss [] ≡ readyOf listing (dueInRows t σ) (applyInputs t inputs (dueWrites t environment))
 ready-any-order {listing} {σ} {environment} s t inputs ss H I sound full =
     any-order listing σ′ environment′ 0 4294967296 tree′ ss range rests held brief known sound full ∙
     sym (readyOf-is-ready listing σ′ environment′ 0 4294967296 tree′ range rests held brief known)
@@ -37,13 +37,13 @@ ready-any-order {listing} {σ} {environment} s t inputs ss H I sound full =
     σ′ = dueInRows t σ
 
     environment′ : List Variable
-    environment′ = applyInputs inputs (dueWrites t environment)
+    environment′ = applyInputs t inputs (dueWrites t environment)
 
     tree′ : Tree
     tree′ = changed (dueWrites t) (H .tree)
 
     len : length environment′ ≡ length environment
-    len = inputs-length inputs (dueWrites t environment) ∙ due-length t environment
+    len = inputs-length t inputs (dueWrites t environment) ∙ due-length t environment
 
     range : Range 0 4294967296 tree′
     range = changed-range (dueWrites t) (due-length t) (H .range)

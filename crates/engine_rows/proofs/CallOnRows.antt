@@ -40,7 +40,7 @@ module _ (listing : Listing) (T : TableFits listing) where
       (t : ℕ) (inputs : List Write) (allowance : ℕ) →
       SameOutcome listing t allowance (instant listing s t inputs allowance)
       (instantOnRows listing t (dueInRows t (filledRows listing σ (s .environment) latest slots))
-      (applyInputs inputs (dueWrites t (s .environment))) (liveInForest (s .tree)) allowance)
+      (applyInputs t inputs (dueWrites t (s .environment))) (liveInForest (s .tree)) allowance)
   instant-call s state σ slots latest K t inputs allowance =
       instant-on-rows listing T s state (filledRows listing σ (s .environment) latest slots) (s .environment) (pass-holds s state σ slots latest K) t
       inputs allowance

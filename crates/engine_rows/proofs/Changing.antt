@@ -75,10 +75,10 @@ unfolding unmarked
 unmarked-length [] = refl
 unmarked-length (x ∷ xs) = ap suc (unmarked-length xs)
 
-pub inputs-length : (ws : List Write) (xs : List Variable) → length (applyInputs ws xs) ≡ length xs
+pub inputs-length : (t : ℕ) (ws : List Write) (xs : List Variable) → length (applyInputs t ws xs) ≡ length xs
 unfolding applyInputs inputAt
-inputs-length [] xs = refl
-inputs-length (w ∷ ws) xs = inputs-length ws (inputAt xs (w .number) (w .value)) ∙ length-set xs (w .number) _
+inputs-length t [] xs = refl
+inputs-length t (w ∷ ws) xs = inputs-length t ws (inputAt t xs (w .number) (w .value)) ∙ length-set xs (w .number) _
 
 -- ── what stays ──────────────────────────────────────────────────────────────────────────────────
 module _ (g : List Variable → List Variable) (same : (xs : List Variable) → length (g xs) ≡ length xs) where

@@ -49,8 +49,8 @@ module _ (s b : ℕ) (P : List Entry) (ns : List ℕ) (near : (x : ℕ) → x < 
       bind-same ks xs loc (suc i) r)
 
 module _ (rd : ℕ → Variable) (m : List Variable) (ns : List ℕ) (same : (n : ℕ) → rd n ≡ variableAt m (addressOf ns n)) where
-  pub own-same : (ks : List Kind) (xs : List ℕ) (loc : ℕ) → ownVariables ks xs loc (namedIn m ns) ≡ ownVariables ks xs loc rd
-  own-same ks xs loc = sym (ap (λ (name : ℕ → Variable). ownVariables ks xs loc name) (fun-ext same))
+  pub own-same : (now : ℕ) (ks : List Kind) (xs : List ℕ) (loc : ℕ) → ownVariables now ks xs loc (namedIn m ns) ≡ ownVariables now ks xs loc rd
+  own-same now ks xs loc = sym (ap (λ (name : ℕ → Variable). ownVariables now ks xs loc name) (fun-ext same))
 
 unfoldable pub callerOn : List Entry → List Variable → List ℕ → ℕ → ℕ → (ℕ → Variable) → Caller
 callerOn P m ns low b name = record {
@@ -63,20 +63,20 @@ callerOn P m ns low b name = record {
   name = name;
 }
 
-pub child-row : (listing : Listing) (m : List Variable) (ns : List ℕ) (c : Call) (i s low b : ℕ) (P : List Entry) (rd : ℕ → Variable) →
+pub child-row : (listing : Listing) (now : ℕ) (m : List Variable) (ns : List ℕ) (c : Call) (i s low b : ℕ) (P : List Entry) (rd : ℕ → Variable) →
     ((n : ℕ) → rd n ≡ variableAt m (addressOf ns n)) → ((x : ℕ) → x < length ns → addressOf ns x < length m) →
     Passed (length ns) ((routineAt listing (c .callee)) .kinds) (c .arguments) →
-    childRow listing (callerOn P m ns low b rd) c i s ≡ rowFor false P (length m) 0 (newChild listing m ns c i s low b)
+    childRow listing now (callerOn P m ns low b rd) c i s ≡ rowFor false P (length m) 0 (newChild listing now m ns c i s low b)
 unfolding childRow callerOn rowFor newChild
-child-row listing m ns c i s low d P rd same near fit =
+child-row listing now m ns c i s low d P rd same near fit =
     let q = routineAt listing (c .callee) in
     let b : childBindings (q .kinds) (c .arguments) (q .locals) (ownersAt P ns) s 0 ≡ ownersAt (record { slot = s; base = length m } ∷ P)
     (bindNames (q .kinds) (addressesOf ns (c .arguments)) (q .locals) (length m)) =
     sym (bind-same s (length m) P ns near (q .kinds) (c .arguments) (q .locals) 0 fit) ∙
     ap (λ z. ownersAt (record { slot = s; base = length m } ∷ P) (bindNames (q .kinds) (addressesOf ns (c .arguments)) (q .locals) z))
     (add-zero (length m)) in
-    let o : ownVariables (q .kinds) (c .arguments) (q .locals) rd ≡ ownVariables (q .kinds) (c .arguments) (q .locals) (namedIn m ns) =
-    sym (own-same rd m ns same (q .kinds) (c .arguments) (q .locals)) in
+    let o : ownVariables now (q .kinds) (c .arguments) (q .locals) rd ≡ ownVariables now (q .kinds) (c .arguments) (q .locals) (namedIn m ns) =
+    sym (own-same rd m ns same now (q .kinds) (c .arguments) (q .locals)) in
     rw (b, o)
 
 -- ── free slots by a count ───────────────────────────────────────────────────────────────────────

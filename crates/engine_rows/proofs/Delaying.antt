@@ -118,12 +118,12 @@ module _ (listing : Listing) (now : ℕ) (triggers : Owner → List ℕ) (hi : �
     pub reads : (w : ℕ) → named σ environment ((σ me) .bindings) w ≡ variableAt m (addressOf ns w)
     reads w = ap (λ z. named σ environment z w) bindings-are ∙ read-bound σ environment 0 (f ∷ fs) small (R .held) ns w
 
-    pub evaluates : (e : List Piece) → evaluateBy (named σ environment ((σ me) .bindings)) e ≡ evaluate m ns e
-    evaluates e = evaluateBy-same (named σ environment ((σ me) .bindings)) m ns reads e
+    pub evaluates : (e : List Piece) → evaluateBy now (named σ environment ((σ me) .bindings)) e ≡ evaluate now m ns e
+    evaluates e = evaluateBy-same (named σ environment ((σ me) .bindings)) m ns reads now e
 
     -- a test: the engine's own value decides
     pub runs-U : (e : List Piece) (k : ℕ) → instructionAt listing ((f .self) .routine) ((f .self) .place) ≡ branch e k →
-        let place = branchPlace (eqb (evaluateBy (named σ environment ((σ me) .bindings)) e) 0) k (suc ((f .self) .place)) in
+        let place = branchPlace (eqb (evaluateBy now (named σ environment ((σ me) .bindings)) e) 0) k (suc ((f .self) .place)) in
         Runs listing now triggers hi (withRow σ me (atPlace (σ me) place)) environment q j l woken
         (focus (placed (f .self) place) (f .done) (f .todo)) fs whole
     unfolding focus placed readyUp
@@ -139,12 +139,12 @@ module _ (listing : Listing) (now : ℕ) (triggers : Owner → List ℕ) (hi : �
           rests = R .rests;
           paused = R .paused;
           begun = refl;
-          same = R .same ∙ move-U listing now environment j l woken f fs e k (eqb (evaluateBy (named σ environment ((σ me) .bindings)) e) 0) i
+          same = R .same ∙ move-U listing now environment j l woken f fs e k (eqb (evaluateBy now (named σ environment ((σ me) .bindings)) e) 0) i
               (ap (λ z. eqb z 0) (sym (evaluates e)));
         }
       where
         place : ℕ
-        place = branchPlace (eqb (evaluateBy (named σ environment ((σ me) .bindings)) e) 0) k (suc ((f .self) .place))
+        place = branchPlace (eqb (evaluateBy now (named σ environment ((σ me) .bindings)) e) 0) k (suc ((f .self) .place))
 
         c : Calmer σ (withRow σ me (atPlace (σ me) place))
         c = calmer-withRow σ me (atPlace (σ me) place) (atPlace-asleep (σ me) place)
@@ -155,16 +155,16 @@ module _ (listing : Listing) (now : ℕ) (triggers : Owner → List ℕ) (hi : �
         target = ownerOf ((σ me) .bindings) n
 
         abbrev waiting : ℕ
-        waiting = evaluateBy (named σ environment ((σ me) .bindings)) d
+        waiting = evaluateBy now (named σ environment ((σ me) .bindings)) d
 
         abbrev put-in : Variable
-        put-in = scheduledOn (variableOf σ environment target) (now + waiting) (evaluateBy (named σ environment ((σ me) .bindings)) e)
+        put-in = scheduledOn (variableOf σ environment target) (now + waiting) (evaluateBy now (named σ environment ((σ me) .bindings)) e)
 
         abbrev a : ℕ
         a = addressOf ns n
 
         abbrev v : Variable
-        v = scheduledOn (variableAt m a) (now + evaluate m ns d) (evaluate m ns e)
+        v = scheduledOn (variableAt m a) (now + evaluate now m ns d) (evaluate now m ns e)
 
         abbrev rows-A : Rows
         rows-A = withRow (rowsWith σ target put-in) me (atPlace (rowsWith σ target put-in me) (suc ((f .self) .place)))
@@ -184,8 +184,8 @@ module _ (listing : Listing) (now : ℕ) (triggers : Owner → List ℕ) (hi : �
 
         v-is : put-in ≡ v
         unfolding named
-        v-is = ap₂ (λ o t. scheduledOn o (now + t) (evaluateBy (named σ environment ((σ me) .bindings)) e)) (reads n) (evaluates d) ∙
-            ap (scheduledOn (variableAt m a) (now + evaluate m ns d)) (evaluates e)
+        v-is = ap₂ (λ o t. scheduledOn o (now + t) (evaluateBy now (named σ environment ((σ me) .bindings)) e)) (reads n) (evaluates d) ∙
+            ap (scheduledOn (variableAt m a) (now + evaluate now m ns d)) (evaluates e)
 
         held₁ : HeldUp (rowsWith σ target put-in) (set environment a v) 0 (g ∷ fs′)
         unfolding setUp focus

@@ -27,8 +27,8 @@ pub instant-reaches : (listing : Listing) (t : ℕ) (triggers : Owner → List �
     (σ : Rows) (environment : List Variable) → Holds true listing σ environment s → (inputs : List Write) (allowance : ℕ) →
     Triggers listing (dueInRows t σ) triggers →
     (σ′ : Rows) (environment′ : List Variable) (ready′ : List ℕ) (live′ woken′ me′ : ℕ) →
-    ((go : RowsRunner) → nextReady go allowance (dueInRows t σ) (applyInputs inputs (dueWrites t environment))
-    (readyOf listing (dueInRows t σ) (applyInputs inputs (dueWrites t environment))) (liveInForest (s .tree)) 0 ≡ go σ′ environment′ ready′ live′
+    ((go : RowsRunner) → nextReady go allowance (dueInRows t σ) (applyInputs t inputs (dueWrites t environment))
+    (readyOf listing (dueInRows t σ) (applyInputs t inputs (dueWrites t environment))) (liveInForest (s .tree)) 0 ≡ go σ′ environment′ ready′ live′
     woken′ me′) →
     Reached listing t triggers T allowance σ′ environment′ ready′ live′ woken′ me′
 instant-reaches listing t triggers T s I σ environment H inputs allowance tr σ′ environment′ ready′ live′ woken′ me′ e =
@@ -43,7 +43,7 @@ pub start-reaches : (listing : Listing) (T : TableFits listing) (s : ℕ) → s 
 unfolding focus placed newChild
 start-reaches listing T s small allowance =
     record {
-      frame = focus (placed (newChild listing (newEnvironment listing) (environmentNames listing) (mainCall listing) 0 s 0 32) 0) nil nil;
+      frame = focus (placed (newChild listing 0 (newEnvironment listing) (environmentNames listing) (mainCall listing) 0 s 0 32) 0) nil nil;
       frames = [];
       whole = startTurn listing allowance;
       runs = main-runs listing T s small allowance;

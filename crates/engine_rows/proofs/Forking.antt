@@ -111,7 +111,7 @@ module _ (listing : Listing) (now : ℕ) (triggers : Owner →
   me = (f .self) .slot
 
   abbrev young : Tree
-  young = newChildren listing (memoryOf environment (f ∷ fs)) ((f .self) .names) cs ss 0 ((f .self) .low) b
+  young = newChildren listing now (memoryOf environment (f ∷ fs)) ((f .self) .names) cs ss 0 ((f .self) .low) b
 
   abbrev rows₁ : Rows
   rows₁ = withRow σ me (withChildren (σ me) (rootCount young))
@@ -153,7 +153,7 @@ module _ (listing : Listing) (now : ℕ) (triggers : Owner →
       last = rw (zero-add (childCount cs)) (omega arith)
 
       range₁ : Range ((f .self) .low) ((f .self) .low + width (f .self)) young
-      range₁ = range-high _ last (rw start at (newChildren-range listing (memoryOf environment (f ∷ fs)) ((f .self) .names) cs ss 0 ((f .self) .low) b
+      range₁ = range-high _ last (rw start at (newChildren-range listing now (memoryOf environment (f ∷ fs)) ((f .self) .names) cs ss 0 ((f .self) .low) b
           sm))
 
       H : Head σ environment 0 f fs

@@ -121,13 +121,13 @@ module _ (listing : Listing) (t : ℕ) (triggers : Owner → List ℕ) (T : Tabl
   abbrev pub visitAt : (s : State) (σ : Rows) (environment : List Variable) → Holds true listing σ environment s → List Write → ℕ → Result Turn
   visitAt s σ environment H inputs allowance =
       visitForest listing t (erase (changed (dueWrites t) (H .tree))) 0
-      (record { memory = applyInputs inputs (dueWrites t environment); left = allowance; live = liveInForest (s .tree); woken = 0 })
+      (record { memory = applyInputs t inputs (dueWrites t environment); left = allowance; live = liveInForest (s .tree); woken = 0 })
 
   pub instant-meets : {G : RowsResult → Type 0} {go : RowsRunner} (s : State) → IsState listing s → (σ : Rows) (environment : List Variable)
       (H : Holds true listing σ environment s) (inputs : List Write) (allowance : ℕ) →
       Goal listing t triggers 4294967296 T allowance (visitAt s σ environment H inputs allowance) G go → Triggers listing (dueInRows t σ) triggers →
-      G (nextReady go allowance (dueInRows t σ) (applyInputs inputs (dueWrites t environment))
-      (readyOf listing (dueInRows t σ) (applyInputs inputs (dueWrites t environment))) (liveInForest (s .tree)) 0)
+      G (nextReady go allowance (dueInRows t σ) (applyInputs t inputs (dueWrites t environment))
+      (readyOf listing (dueInRows t σ) (applyInputs t inputs (dueWrites t environment))) (liveInForest (s .tree)) 0)
   instant-meets s I σ environment H inputs allowance D tr =
       visit-alike σ′ environment′ allowance (liveInForest (s .tree)) tree′ D tr
       (changed-range (dueWrites t) (due-length t) (H .range)) rests
@@ -142,13 +142,13 @@ module _ (listing : Listing) (t : ℕ) (triggers : Owner → List ℕ) (T : Tabl
       σ′ = dueInRows t σ
 
       environment′ : List Variable
-      environment′ = applyInputs inputs (dueWrites t environment)
+      environment′ = applyInputs t inputs (dueWrites t environment)
 
       tree′ : Tree
       tree′ = changed (dueWrites t) (H .tree)
 
       len : length environment′ ≡ length environment
-      len = inputs-length inputs (dueWrites t environment) ∙ due-length t environment
+      len = inputs-length t inputs (dueWrites t environment) ∙ due-length t environment
 
       slots : slotsOf tree′ ≡ slotsOf (H .tree)
       slots = changed-slots (dueWrites t) (due-length t) (H .tree)
@@ -168,8 +168,8 @@ module _ (listing : Listing) (t : ℕ) (triggers : Owner → List ℕ) (T : Tabl
   pub instant-same : (s : State) → IsState listing s → (σ : Rows) (environment : List Variable) → Holds true listing σ environment s →
       (inputs : List Write) (allowance : ℕ) → Triggers listing (dueInRows t σ) triggers →
       SameOutcome listing t allowance (instant listing s t inputs allowance)
-      (nextReady (runRows listing t triggers allowance) allowance (dueInRows t σ) (applyInputs inputs (dueWrites t environment))
-      (readyOf listing (dueInRows t σ) (applyInputs inputs (dueWrites t environment))) (liveInForest (s .tree)) 0)
+      (nextReady (runRows listing t triggers allowance) allowance (dueInRows t σ) (applyInputs t inputs (dueWrites t environment))
+      (readyOf listing (dueInRows t σ) (applyInputs t inputs (dueWrites t environment))) (liveInForest (s .tree)) 0)
   unfolding instant
   instant-same s I σ environment H inputs allowance tr =
       subst (λ r. SameOutcome listing t allowance r result) same-walk
@@ -179,7 +179,7 @@ module _ (listing : Listing) (t : ℕ) (triggers : Owner → List ℕ) (T : Tabl
       σ′ = dueInRows t σ
 
       environment′ : List Variable
-      environment′ = applyInputs inputs (dueWrites t environment)
+      environment′ = applyInputs t inputs (dueWrites t environment)
 
       tree′ : Tree
       tree′ = changed (dueWrites t) (H .tree)
@@ -194,7 +194,7 @@ module _ (listing : Listing) (t : ℕ) (triggers : Owner → List ℕ) (T : Tabl
       alike = instant-meets s I σ environment H inputs allowance (run-meets listing t triggers 4294967296 T allowance visited) tr
 
       same-visit : visited ≡ visitForest listing t (dueInForest (s .tree) t) 0 (record {
-        memory = applyInputs inputs (dueWrites t (s .environment));
+        memory = applyInputs t inputs (dueWrites t (s .environment));
         left = allowance;
         live = liveInForest (dueInForest (s .tree) t);
         woken = 0;
@@ -203,7 +203,7 @@ module _ (listing : Listing) (t : ℕ) (triggers : Owner → List ℕ) (T : Tabl
           ap₂ (λ f l. visitForest listing t f 0 (record { memory = environment′; left = allowance; live = l; woken = 0 })) (changed-due t (H .tree) ∙
           ap (λ f. dueInForest f t) (H .tree-is)) (sym (due-live t (s .tree))) ∙
           ap (λ e. visitForest listing t (dueInForest (s .tree) t) 0 (record {
-            memory = applyInputs inputs (dueWrites t e);
+            memory = applyInputs t inputs (dueWrites t e);
             left = allowance;
             live = liveInForest (dueInForest (s .tree) t);
             woken = 0;
@@ -211,7 +211,7 @@ module _ (listing : Listing) (t : ℕ) (triggers : Owner → List ℕ) (T : Tabl
 
       same-walk : (visited >>= finish listing t allowance) ≡ (visitForest listing t (dueInForest (s .tree) t) 0
           (record {
-            memory = applyInputs inputs (dueWrites t (s .environment));
+            memory = applyInputs t inputs (dueWrites t (s .environment));
             left = allowance;
             live = liveInForest (dueInForest (s .tree) t);
             woken = 0;
@@ -222,7 +222,7 @@ module _ (listing : Listing) (t : ℕ) (triggers : Owner → List ℕ) (T : Tabl
 pub instant-on-rows : (listing : Listing) → TableFits listing → (s : State) → IsState listing s → (σ : Rows) (environment : List Variable) →
     Holds true listing σ environment s → (t : ℕ) (inputs : List Write) (allowance : ℕ) →
     SameOutcome listing t allowance (instant listing s t inputs allowance)
-    (instantOnRows listing t (dueInRows t σ) (applyInputs inputs (dueWrites t environment)) (liveInForest (s .tree)) allowance)
+    (instantOnRows listing t (dueInRows t σ) (applyInputs t inputs (dueWrites t environment)) (liveInForest (s .tree)) allowance)
 unfolding instantOnRows
 instant-on-rows listing T s I σ environment H t inputs allowance =
     instant-same listing t (triggersOf listing (dueInRows t σ)) T s I σ environment H inputs allowance

@@ -31,9 +31,9 @@ unfoldable pressedAfter : RowsResult → RowsResult
 pressedAfter (halts k) = halts k
 pressedAfter (ends rows environment left live woken) =
     instantOnRows listingB 10 (dueInRows 10 (filledRows listingB (unmarkedRows rows) (unmarked environment) (λ n. 64) (walkingOrder rows)))
-    (applyInputs (record { number = 0; value = 3 } ∷ []) (dueWrites 10 (unmarked environment))) live 100
+    (applyInputs 10 (record { number = 0; value = 3 } ∷ []) (dueWrites 10 (unmarked environment))) live 100
 
-started : seenOf (startOnRows listingB 7 100) ≡ ended (newVariable 0 ∷ newVariable 0 ∷ []) 3 3 0
+started : seenOf (startOnRows listingB 7 100) ≡ ended (newVariable 0 0 ∷ newVariable 0 0 ∷ []) 3 3 0
 unfolding seenOf startOnRows newEnvironment mainRow environmentCaller environmentBindings runRows executeRows forkRows rowsWithNew newSlots
     rowsWithChild callerAt childRow childBindings ownVariables ownBindings freeSlot freeElse forkBits nextReady orHalt firstPlace
     countIf withRow chooseRow withChildren atPlace withOwn noRows freeRow named ownerOf variableOf variableAt instructionAt routineAt

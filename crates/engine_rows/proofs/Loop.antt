@@ -80,11 +80,11 @@ module _ (listing : Listing) (now : ℕ) (triggers : Owner → List ℕ) (hi : �
 
     good-U : (e : List Piece) (k : ℕ) → instructionAt listing ((f .self) .routine) ((f .self) .place) ≡ branch e k →
         G (go
-        (withRow σ me (atPlace (σ me) (branchPlace (eqb (evaluateBy (named σ environment ((σ me) .bindings)) e) 0) k (suc ((f .self) .place)))))
+        (withRow σ me (atPlace (σ me) (branchPlace (eqb (evaluateBy now (named σ environment ((σ me) .bindings)) e) 0) k (suc ((f .self) .place)))))
         environment q l woken me)
     unfolding focus placed
     good-U e k i =
-        let place = branchPlace (eqb (evaluateBy (named σ environment ((σ me) .bindings)) e) 0) k (suc ((f .self) .place)) in
+        let place = branchPlace (eqb (evaluateBy now (named σ environment ((σ me) .bindings)) e) 0) k (suc ((f .self) .place)) in
         D .deep (withRow σ me (atPlace (σ me) place)) environment q l woken (focus (placed (f .self) place) (f .done) (f .todo)) fs
         (runs-U listing now triggers hi σ environment q j l woken f fs whole R small e k i)
         (sound-placed listing now triggers hi T σ _ environment l place f fs
@@ -136,7 +136,7 @@ module _ (listing : Listing) (now : ℕ) (triggers : Owner → List ℕ) (hi : �
 
     good-S : (n : ℕ) (e : List Piece) → instructionAt listing ((f .self) .routine) ((f .self) .place) ≡ assign n e →
         let o = ownerOf ((σ me) .bindings) n in
-        let v = writtenTo (variableOf σ environment o) (evaluateBy (named σ environment ((σ me) .bindings)) e) in
+        let v = writtenTo now (variableOf σ environment o) (evaluateBy now (named σ environment ((σ me) .bindings)) e) in
         G (go
         (withRow (rowsWith σ o v) me (atPlace (rowsWith σ o v me) (suc ((f .self) .place)))) (environmentWith o environment v)
         (insertAll σ (triggered σ ((σ me) .low) (triggers o)) q) l woken me)
@@ -145,15 +145,15 @@ module _ (listing : Listing) (now : ℕ) (triggers : Owner → List ℕ) (hi : �
         let isName : n < length ((f .self) .names) = omega (arith, fine .many, T .sets ((f .self) .routine) ((f .self) .place) n e i) in
         let near : addressOf ((f .self) .names) n < length (memoryOf environment fs) + length ((f .self) .own) = fine .near n isName in
         D .deep _ _ _ l woken _ _ (runs-S listing now triggers hi n e R i isName small (omega (arith, near, fine .short, fine .high)))
-        (sound-set (ownerOf ((σ me) .bindings) n) (writtenTo (variableOf σ environment (ownerOf ((σ me) .bindings) n))
-        (evaluateBy (named σ environment ((σ me) .bindings)) e)) (addressOf ((f .self) .names) n)
-        (writtenTo (variableAt (memoryOf environment (f ∷ fs)) (addressOf ((f .self) .names) n))
-        (evaluate (memoryOf environment (f ∷ fs)) ((f .self) .names) e)))
+        (sound-set (ownerOf ((σ me) .bindings) n) (writtenTo now (variableOf σ environment (ownerOf ((σ me) .bindings) n))
+        (evaluateBy now (named σ environment ((σ me) .bindings)) e)) (addressOf ((f .self) .names) n)
+        (writtenTo now (variableAt (memoryOf environment (f ∷ fs)) (addressOf ((f .self) .names) n))
+        (evaluate now (memoryOf environment (f ∷ fs)) ((f .self) .names) e)))
 
     good-A : (n : ℕ) (d e : List Piece) → instructionAt listing ((f .self) .routine) ((f .self) .place) ≡ schedule n d e →
         let o = ownerOf ((σ me) .bindings) n in
-        let t = evaluateBy (named σ environment ((σ me) .bindings)) d in
-        let v = scheduledOn (variableOf σ environment o) (now + t) (evaluateBy (named σ environment ((σ me) .bindings)) e) in
+        let t = evaluateBy now (named σ environment ((σ me) .bindings)) d in
+        let v = scheduledOn (variableOf σ environment o) (now + t) (evaluateBy now (named σ environment ((σ me) .bindings)) e) in
         G (orHalt (isPositive t) 16
         (orHalt (ltb (now + t) 18446744073709551616) 17 (go
         (withRow (rowsWith σ o v) me (atPlace (rowsWith σ o v me) (suc ((f .self) .place)))) (environmentWith o environment v) q l woken me)))
@@ -161,16 +161,16 @@ module _ (listing : Listing) (now : ℕ) (triggers : Owner → List ℕ) (hi : �
     good-A n d e i = cases (isPositive t) (ltb (now + t) 18446744073709551616) refl refl
       where
         t : ℕ
-        t = evaluateBy (named σ environment ((σ me) .bindings)) d
+        t = evaluateBy now (named σ environment ((σ me) .bindings)) d
 
-        te : t ≡ evaluate (memoryOf environment (f ∷ fs)) ((f .self) .names) d
+        te : t ≡ evaluate now (memoryOf environment (f ∷ fs)) ((f .self) .names) d
         te = evaluates listing now triggers hi σ environment q j l woken f fs whole R small d
 
         o : Owner
         o = ownerOf ((σ me) .bindings) n
 
         v : Variable
-        v = scheduledOn (variableOf σ environment o) (now + t) (evaluateBy (named σ environment ((σ me) .bindings)) e)
+        v = scheduledOn (variableOf σ environment o) (now + t) (evaluateBy now (named σ environment ((σ me) .bindings)) e)
 
         isName : n < length ((f .self) .names)
         isName = omega (arith, fine .many, T .delays ((f .self) .routine) ((f .self) .place) n d e i)
@@ -185,8 +185,8 @@ module _ (listing : Listing) (now : ℕ) (triggers : Owner → List ℕ) (hi : �
         cases true true p r =
             D .deep _ _ _ l woken _ _ (runs-A listing now triggers hi σ environment q j l woken f fs whole R small n d e i isName p r)
             (sound-set o v (addressOf ((f .self) .names) n) (scheduledOn (variableAt (memoryOf environment (f ∷ fs)) (addressOf ((f .self) .names) n))
-            (now + evaluate (memoryOf environment (f ∷ fs)) ((f .self) .names) d)
-            (evaluate (memoryOf environment (f ∷ fs)) ((f .self) .names) e)))
+            (now + evaluate now (memoryOf environment (f ∷ fs)) ((f .self) .names) d)
+            (evaluate now (memoryOf environment (f ∷ fs)) ((f .self) .names) e)))
 
     good-E : instructionAt listing ((f .self) .routine) ((f .self) .place) ≡ end →
         G (endRows (eqb ((σ me) .level) 0) go j (withRow σ me freeRow) environment
@@ -216,12 +216,12 @@ module _ (listing : Listing) (now : ℕ) (triggers : Owner → List ℕ) (hi : �
     fork-steady : (cs : List Call) (ss : List ℕ) (b : ℕ) → b ≡ (f .self) .bits - forkBits (childCount cs) →
         instructionAt listing ((f .self) .routine) ((f .self) .place) ≡ fork cs → length fs ≤ 9 → CallsFit listing (length ((f .self) .names)) cs →
         Steady listing (aboveUp listing (f ∷ fs)) (length (f ∷ fs)) (length (memoryOf environment (f ∷ fs)))
-        (newChildren listing (memoryOf environment (f ∷ fs)) ((f .self) .names) cs ss 0 ((f .self) .low) b)
+        (newChildren listing now (memoryOf environment (f ∷ fs)) ((f .self) .names) cs ss 0 ((f .self) .low) b)
     unfolding aboveUp memoryOf
     fork-steady cs ss b e i shallow called =
-        subst (λ z. Steady listing z (suc (length fs)) (length m) (newChildren listing m ((f .self) .names) cs ss 0 ((f .self) .low) b))
+        subst (λ z. Steady listing z (suc (length fs)) (length m) (newChildren listing now m ((f .self) .names) cs ss 0 ((f .self) .low) b))
         (sym above-is)
-        (steady-children listing T u m (suc (length fs)) (omega (arith, fork-bits-are-at-most-three (childCount cs), fine .deep, shallow, e)) near short (omega arith)
+        (steady-children listing T now u m (suc (length fs)) (omega (arith, fork-bits-are-at-most-three (childCount cs), fine .deep, shallow, e)) near short (omega arith)
         cs ss 0 refl called)
       where
         m : List Variable
@@ -244,7 +244,7 @@ module _ (listing : Listing) (now : ℕ) (triggers : Owner → List ℕ) (hi : �
     same-outcome K a a′ b b′ p₁ p₂ g = rw (p₁, p₂) g
 
     fork-as-walk : (cs : List Call) → instructionAt listing ((f .self) .routine) ((f .self) .place) ≡ fork cs → leb (l + childCount cs) 64 ≡ true →
-        leb (length fs) 9 ≡ true → G (forkRows listing go j σ environment q l woken
+        leb (length fs) 9 ≡ true → G (forkRows listing now go j σ environment q l woken
         me cs)
     unfolding forkRows rowFor pathOf memoryOf parentSlot plug _⋈_ focus hole hole-in withChildren
     fork-as-walk cs i p r =
@@ -327,13 +327,13 @@ module _ (listing : Listing) (now : ℕ) (triggers : Owner → List ℕ) (hi : �
         reads-are τ e k = read-bound τ environment (childCount cs) (f ∷ fs) small (up-keep τ 0 hi nil (R .range) held-c (λ s us a. e s us)) ns k
 
         ss : List ℕ
-        ss = newSlots listing σc environment me (childCount cs) cs 0
+        ss = newSlots listing now σc environment me (childCount cs) cs 0
 
         young : Tree
-        young = newChildren listing m ns cs ss 0 ((f .self) .low) b
+        young = newChildren listing now m ns cs ss 0 ((f .self) .low) b
 
-        TK : Taken listing m ns P environment me (childCount cs) ((f .self) .low) b σc sits caller-is reads-are near σc cs 0
-        TK = taken listing m ns P environment me (childCount cs) ((f .self) .low) b σc sits caller-is reads-are near cs σc 0 called (λ s us. refl)
+        TK : Taken listing now m ns P environment me (childCount cs) ((f .self) .low) b σc sits caller-is reads-are near σc cs 0
+        TK = taken listing now m ns P environment me (childCount cs) ((f .self) .low) b σc sits caller-is reads-are near cs σc 0 called (λ s us. refl)
             room
 
         rows-eq : withRow σ me (withChildren (σ me) (rootCount young)) ≡ σc
@@ -344,13 +344,13 @@ module _ (listing : Listing) (now : ℕ) (triggers : Owner → List ℕ) (hi : �
 
     good-F : (cs : List Call) → instructionAt listing ((f .self) .routine) ((f .self) .place) ≡ fork cs →
         G (orHalt (leb (l + childCount cs) 64) 14
-        (orHalt (leb ((σ me) .level) 9) 15 (forkRows listing go j σ environment q l woken me cs)))
+        (orHalt (leb ((σ me) .level) 9) 15 (forkRows listing now go j σ environment q l woken me cs)))
     unfolding orHalt
     good-F cs i = cases (leb (l + childCount cs) 64) (leb ((σ me) .level) 9) refl refl
       where
         cases : (x y : Bool) → leb (l + childCount cs) 64 ≡ x → leb ((σ me) .level) 9 ≡ y →
             G (orHalt x 14
-            (orHalt y 15 (forkRows listing go j σ environment q l woken me cs)))
+            (orHalt y 15 (forkRows listing now go j σ environment q l woken me cs)))
         cases false y p r = D .stops (R .same ∙ stop-14 listing now environment j l woken f fs cs i p)
         cases true false p r = D .stops (R .same ∙ stop-15 listing now environment j l woken f fs cs i p (ap (λ z. leb z 9) (sym level-is) ∙ r))
         cases true true p r = fork-as-walk cs i p (ap (λ z. leb z 9) (sym level-is) ∙ r)

@@ -53,11 +53,11 @@ unfolding dones setUp
 dones-set environment [] a v = refl
 dones-set environment (f ∷ fs) a v = rw (dones-set environment fs a v)
 
-newChildren-tasks : (listing : Listing) (m : List Variable) (ns : List ℕ) (cs : List Call) (ss : List ℕ) (i low b level : ℕ) (ts : List Task) →
-    tasks level (newChildren listing m ns cs ss i low b) ts ≡ news (erase (newChildren listing m ns cs ss i low b)) level ts
+newChildren-tasks : (listing : Listing) (now : ℕ) (m : List Variable) (ns : List ℕ) (cs : List Call) (ss : List ℕ) (i low b level : ℕ) (ts : List Task) →
+    tasks level (newChildren listing now m ns cs ss i low b) ts ≡ news (erase (newChildren listing now m ns cs ss i low b)) level ts
 unfolding tasks first news newChildren erase newChild
-newChildren-tasks listing m ns [] ss i low b level ts = refl
-newChildren-tasks listing m ns (c ∷ cs) ss i low b level ts = rw (newChildren-tasks listing m ns cs (laterSlots ss) (suc i) low b level ts)
+newChildren-tasks listing now m ns [] ss i low b level ts = refl
+newChildren-tasks listing now m ns (c ∷ cs) ss i low b level ts = rw (newChildren-tasks listing now m ns cs (laterSlots ss) (suc i) low b level ts)
 
 module _ (listing : Listing) (now : ℕ) where
   pub wakes : (environment : List Variable) (j l woken : ℕ) (fs : List Frame) (done : Tree) (x : Record) (todo : Tree) (ws : List ℕ) →
@@ -79,7 +79,7 @@ module _ (listing : Listing) (now : ℕ) where
       instructionAt listing ((f .self) .routine) ((f .self) .place) ≡ assign n e →
       let m = memoryOf environment (f ∷ fs) in
       let a = addressOf ((f .self) .names) n in
-      let v = writtenTo (variableAt m a) (evaluate m ((f .self) .names) e) in
+      let v = writtenTo now (variableAt m a) (evaluate now m ((f .self) .names) e) in
       goingOn listing now environment (suc j) l woken f fs ≡ goingOn listing now (set environment a v) j l woken
       (focus (placed (recordWithOwn (f .self) (setFrom (length (memoryOf environment fs)) ((f .self) .own) a v)) (suc ((f .self) .place)))
       (f .done) (f .todo)) (setUp environment fs a v)
@@ -98,8 +98,8 @@ module _ (listing : Listing) (now : ℕ) where
       instructionAt listing ((f .self) .routine) ((f .self) .place) ≡ schedule n d e →
       let m = memoryOf environment (f ∷ fs) in
       let a = addressOf ((f .self) .names) n in
-      let k = evaluate m ((f .self) .names) d in
-      let v = scheduledOn (variableAt m a) (now + k) (evaluate m ((f .self) .names) e) in
+      let k = evaluate now m ((f .self) .names) d in
+      let v = scheduledOn (variableAt m a) (now + k) (evaluate now m ((f .self) .names) e) in
       isPositive k ≡ true → ltb (now + k) 18446744073709551616 ≡ true →
       goingOn listing now environment (suc j) l woken f fs ≡ goingOn listing now (set environment a v) j l woken
       (focus (placed (recordWithOwn (f .self) (setFrom (length (memoryOf environment fs)) ((f .self) .own) a v)) (suc ((f .self) .place)))
@@ -119,7 +119,7 @@ module _ (listing : Listing) (now : ℕ) where
 
   pub move-U : (environment : List Variable) (j l woken : ℕ) (f : Frame) (fs : List Frame) (e : List Piece) (k : ℕ) (z : Bool) →
       instructionAt listing ((f .self) .routine) ((f .self) .place) ≡ branch e k →
-      eqb (evaluate (memoryOf environment (f ∷ fs)) ((f .self) .names) e) 0 ≡ z →
+      eqb (evaluate now (memoryOf environment (f ∷ fs)) ((f .self) .names) e) 0 ≡ z →
       goingOn listing now environment (suc j) l woken f fs ≡ goingOn listing now environment j l woken
       (focus (placed (f .self) (branchPlace z k (suc ((f .self) .place)))) (f .done) (f .todo)) fs
   unfolding goingOn rest run step execute move carryOut placed focus memoryOf branchPlace
@@ -135,14 +135,14 @@ module _ (listing : Listing) (now : ℕ) where
   -- the stops
   pub stop-16 : (environment : List Variable) (j l woken : ℕ) (f : Frame) (fs : List Frame) (n : ℕ) (d e : List Piece) →
       instructionAt listing ((f .self) .routine) ((f .self) .place) ≡ schedule n d e →
-      isPositive (evaluate (memoryOf environment (f ∷ fs)) ((f .self) .names) d) ≡ false → goingOn listing now environment (suc j) l woken f fs ≡ stop 16
+      isPositive (evaluate now (memoryOf environment (f ∷ fs)) ((f .self) .names) d) ≡ false → goingOn listing now environment (suc j) l woken f fs ≡ stop 16
   unfolding goingOn rest run step execute move carryOut asking memoryOf _>>=_
   stop-16 environment j l woken f fs n d e i p = rw (i, p)
 
   pub stop-17 : (environment : List Variable) (j l woken : ℕ) (f : Frame) (fs : List Frame) (n : ℕ) (d e : List Piece) →
       instructionAt listing ((f .self) .routine) ((f .self) .place) ≡ schedule n d e →
-      isPositive (evaluate (memoryOf environment (f ∷ fs)) ((f .self) .names) d) ≡ true →
-      ltb (now + evaluate (memoryOf environment (f ∷ fs)) ((f .self) .names) d) 18446744073709551616 ≡ false →
+      isPositive (evaluate now (memoryOf environment (f ∷ fs)) ((f .self) .names) d) ≡ true →
+      ltb (now + evaluate now (memoryOf environment (f ∷ fs)) ((f .self) .names) d) 18446744073709551616 ≡ false →
       goingOn listing now environment (suc j) l woken f fs ≡ stop 17
   unfolding goingOn rest run step execute move carryOut asking memoryOf _>>=_
   stop-17 environment j l woken f fs n d e i p q = rw (i, p, q)
@@ -200,14 +200,14 @@ module _ (listing : Listing) (now : ℕ) where
   pub move-F : (environment : List Variable) (j l woken : ℕ) (f : Frame) (fs : List Frame) (cs : List Call) (ss : List ℕ) (b : ℕ) →
       instructionAt listing ((f .self) .routine) ((f .self) .place) ≡ fork cs → leb (l + childCount cs) 64 ≡ true → leb (length fs) 9 ≡ true →
       goingOn listing now environment (suc j) l woken f fs ≡ between listing now environment j (l + childCount cs) woken (f ∷ fs) nil
-      (newChildren listing (memoryOf environment (f ∷ fs)) ((f .self) .names) cs ss 0 ((f .self) .low) b)
+      (newChildren listing now (memoryOf environment (f ∷ fs)) ((f .self) .names) cs ss 0 ((f .self) .low) b)
   unfolding goingOn between up dones memoryOf erase
   move-F environment j l woken f fs cs ss b i x y =
       rest-F listing now (length fs) ((f .self) .routine) ((f .self) .place) ((f .self) .names) (length (memoryOf environment fs)) cs
       (tasks (length fs) (f .todo) (up environment fs)) (erase (f .done)) (dones fs) (memoryOf environment fs ++ (f .self) .own) j l woken i x y ∙
       rw (
-        ← newChildren-erase listing (memoryOf environment fs ++ (f .self) .own) ((f .self) .names) cs ss 0 ((f .self) .low) b,
-        newChildren-tasks listing (memoryOf environment fs ++ (f .self) .own) ((f .self) .names) cs ss 0 ((f .self) .low) b (suc (length fs))
+        ← newChildren-erase listing now (memoryOf environment fs ++ (f .self) .own) ((f .self) .names) cs ss 0 ((f .self) .low) b,
+        newChildren-tasks listing now (memoryOf environment fs ++ (f .self) .own) ((f .self) .names) cs ss 0 ((f .self) .low) b (suc (length fs))
             (back (frameOn environment (f .self) fs) ∷ tasks (length fs)
             (f .todo) (up environment fs)),
       )

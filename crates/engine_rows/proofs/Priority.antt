@@ -192,9 +192,9 @@ unfoldable pub laterSlots : List ℕ → List ℕ
 laterSlots [] = []
 laterSlots (s ∷ ss) = ss
 
--- the child that field number i makes in slot s; its parent's lowest priority is `low`, its own bits `b`
-unfoldable pub newChild : Listing → List Variable → List ℕ → Call → ℕ → ℕ → ℕ → ℕ → Record
-newChild listing m ns c i s low b =
+-- the child that field number i makes in slot s at `now`; its parent's lowest priority is `low`, its own bits `b`
+unfoldable pub newChild : Listing → ℕ → List Variable → List ℕ → Call → ℕ → ℕ → ℕ → ℕ → Record
+newChild listing now m ns c i s low b =
     let q = routineAt listing (c .callee) in
     let xs = addressesOf ns (c .arguments) in
     record {
@@ -206,19 +206,19 @@ newChild listing m ns c i s low b =
       routine = c .callee;
       place = 0;
       names = bindNames (q .kinds) xs (q .locals) (length m);
-      own = ownVariables (q .kinds) (c .arguments) (q .locals) (namedIn m ns);
+      own = ownVariables now (q .kinds) (c .arguments) (q .locals) (namedIn m ns);
     }
 
-unfoldable pub newChildren : Listing → List Variable → List ℕ → List Call → List ℕ → ℕ → ℕ → ℕ → Tree
-newChildren listing m ns [] ss i low b = nil
-newChildren listing m ns (c ∷ cs) ss i low b = put (newChild listing m ns c i (top ss) low b) nil
-    (newChildren listing m ns cs (laterSlots ss) (suc i) low b)
+unfoldable pub newChildren : Listing → ℕ → List Variable → List ℕ → List Call → List ℕ → ℕ → ℕ → ℕ → Tree
+newChildren listing now m ns [] ss i low b = nil
+newChildren listing now m ns (c ∷ cs) ss i low b = put (newChild listing now m ns c i (top ss) low b) nil
+    (newChildren listing now m ns cs (laterSlots ss) (suc i) low b)
 
-pub newChildren-erase : (listing : Listing) (m : List Variable) (ns : List ℕ) (cs : List Call) (ss : List ℕ) (i low b : ℕ) →
-    erase (newChildren listing m ns cs ss i low b) ≡ newRoutines listing m ns cs
+pub newChildren-erase : (listing : Listing) (now : ℕ) (m : List Variable) (ns : List ℕ) (cs : List Call) (ss : List ℕ) (i low b : ℕ) →
+    erase (newChildren listing now m ns cs ss i low b) ≡ newRoutines listing now m ns cs
 unfolding newChildren erase newRoutines newRoutine newChild
-newChildren-erase listing m ns [] ss i low b = refl
-newChildren-erase listing m ns (c ∷ cs) ss i low b = rw (newChildren-erase listing m ns cs (laterSlots ss) (suc i) low b)
+newChildren-erase listing now m ns [] ss i low b = refl
+newChildren-erase listing now m ns (c ∷ cs) ss i low b = rw (newChildren-erase listing now m ns cs (laterSlots ss) (suc i) low b)
 
 pub data Small : List ℕ → Type 0 where
   small-nil : Small []
@@ -238,14 +238,14 @@ pub pow-pos : (k : ℕ) → 0 < 2 ^ k
 pow-pos zero = omega arith
 pow-pos (suc k) = rw (pow-succ' 2 k) (let d : 0 < 2 ^ k = pow-pos k in omega arith)
 
-pub newChildren-range : (listing : Listing) (m : List Variable) (ns : List ℕ) (cs : List Call) (ss : List ℕ) (i low b : ℕ) → Small ss →
-    Range (low + i * 2 ^ b) (low + (i + childCount cs) * 2 ^ b) (newChildren listing m ns cs ss i low b)
+pub newChildren-range : (listing : Listing) (now : ℕ) (m : List Variable) (ns : List ℕ) (cs : List Call) (ss : List ℕ) (i low b : ℕ) → Small ss →
+    Range (low + i * 2 ^ b) (low + (i + childCount cs) * 2 ^ b) (newChildren listing now m ns cs ss i low b)
 unfolding newChildren newChild childCount
-newChildren-range listing m ns [] ss i low b q = let e : i + 0 ≡ i = omega arith in rw e (range-nil (le-refl _))
-newChildren-range listing m ns (c ∷ cs) ss i low b q =
+newChildren-range listing now m ns [] ss i low b q = let e : i + 0 ≡ i = omega arith in rw e (range-nil (le-refl _))
+newChildren-range listing now m ns (c ∷ cs) ss i low b q =
     let n : low + i * 2 ^ b ≤ low + i * 2 ^ b + 2 ^ b = omega arith in
     range-put (le-refl _) (pow-pos b) (top-small ss q) (range-nil n)
-    (rw (next, last) at (newChildren-range listing m ns cs (laterSlots ss) (suc i) low b (laterSlots-small ss q)))
+    (rw (next, last) at (newChildren-range listing now m ns cs (laterSlots ss) (suc i) low b (laterSlots-small ss q)))
   where
     next : low + suc i * 2 ^ b ≡ low + i * 2 ^ b + 2 ^ b
     next = omega (arith, suc-mul i (2 ^ b))

@@ -19,9 +19,9 @@ use Rattle.engine_rows.proofs.Held.{Entry, ownerAt, ownersAt, pickOwner
 -- ── expressions by a reader of names ────────────────────────────────────────────────────────────
 
 module _ (rd : ℕ → Variable) (m : List Variable) (ns : List ℕ) (same : (n : ℕ) → rd n ≡ variableAt m (addressOf ns n)) where
-  pub evaluateBy-same : (e : List Piece) → evaluateBy rd e ≡ evaluate m ns e
+  pub evaluateBy-same : (now : ℕ) (e : List Piece) → evaluateBy now rd e ≡ evaluate now m ns e
   unfolding evaluate
-  evaluateBy-same e = ap (λ (name : ℕ → Variable). evaluateBy name e) (fun-ext same)
+  evaluateBy-same now e = ap (λ (name : ℕ → Variable). evaluateBy now name e) (fun-ext same)
 
 -- ── reading by a binding ────────────────────────────────────────────────────────────────────────
 

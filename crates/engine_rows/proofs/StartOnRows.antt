@@ -82,7 +82,7 @@ module _ (listing : Listing) (T : TableFits listing) where
 
   module _ (environment : List Variable) (size : length environment ≡ environmentSize listing) where
     abbrev pub mainRecord : ℕ → Record
-    mainRecord s = newChild listing environment (environmentNames listing) (mainCall listing) 0 s 0 32
+    mainRecord s = newChild listing 0 environment (environmentNames listing) (mainCall listing) 0 s 0 32
 
     pub environment-near : (n : ℕ) → n < length (environmentNames listing) → addressOf (environmentNames listing) n < length environment
     unfolding environmentNames
@@ -92,7 +92,7 @@ module _ (listing : Listing) (T : TableFits listing) where
     pub main-row : (s : ℕ) → mainRow listing environment s ≡ rowFor false [] (length environment) 0 (mainRecord s)
     unfolding mainRow environmentCaller callerOn parentSlot environmentNames mainCall
     main-row s =
-        ap (λ z. childRow listing (record {
+        ap (λ z. childRow listing 0 (record {
           slot = 64;
           level = 0;
           base = length environment;
@@ -101,7 +101,7 @@ module _ (listing : Listing) (T : TableFits listing) where
           bindings = z;
           name = λ n. variableAt environment n;
         }) (mainCall listing) 0 s) (environment-owners (environmentSize listing) 0) ∙
-        child-row listing environment (environmentNames listing) (mainCall listing) 0 s 0 32 [] (λ n. variableAt environment n) names environment-near
+        child-row listing 0 environment (environmentNames listing) (mainCall listing) 0 s 0 32 [] (λ n. variableAt environment n) names environment-near
         main-passed
       where
         names : (n : ℕ) → variableAt environment n ≡ variableAt environment (addressOf (environmentNames listing) n)
@@ -110,7 +110,7 @@ module _ (listing : Listing) (T : TableFits listing) where
 
     pub main-steady : (s : ℕ) → SteadyRecord listing (aboveMain listing) 0 (length environment) (mainRecord s)
     unfolding aboveMain childCount mainCall
-    main-steady s = steady-child listing T (aboveMain listing) environment 0 (omega arith) environment-near (omega (arith, size, environment-small))
+    main-steady s = steady-child listing T 0 (aboveMain listing) environment 0 (omega arith) environment-near (omega (arith, size, environment-small))
         (omega arith) (mainCall listing) 0 s refl (omega arith) main-passed
 
 -- all priorities are main's
@@ -142,10 +142,10 @@ module _ (listing : Listing) (T : TableFits listing) (s : ℕ) (small : s < 64) 
 
   size : length environment ≡ environmentSize listing
   unfolding newEnvironment
-  size = length-replicate (environmentSize listing) (newVariable 0)
+  size = length-replicate (environmentSize listing) (newVariable 0 0)
 
   abbrev main : Record
-  main = newChild listing environment (environmentNames listing) (mainCall listing) 0 s 0 32
+  main = newChild listing 0 environment (environmentNames listing) (mainCall listing) 0 s 0 32
 
   row-used : (mainRow listing environment s) .used ≡ true
   unfolding mainRow childRow

@@ -216,16 +216,16 @@ module _ (listing : Listing) where
     there = omega (arith, d .there);
   }
 
-  module _ (T : TableFits listing) (u : Above) (m : List Variable) (level : ℕ) (deep : 32 ≤ u .bits + 3 * level) (near : (n : ℕ) →
+  module _ (T : TableFits listing) (now : ℕ) (u : Above) (m : List Variable) (level : ℕ) (deep : 32 ≤ u .bits + 3 * level) (near : (n : ℕ) →
       n < length (u .names) → addressOf (u .names) n < length m) (short : length m + 16 ≤ 16 * (level + 2)) (high : level ≤ 10) where
     pub steady-child : (c : Call) (i s : ℕ) → getD (u .calls) i noCall ≡ c → i < childCount (u .calls) →
         Passed (length (u .names)) ((routineAt listing (c .callee)) .kinds) (c .arguments) →
-        SteadyRecord listing u level (length m) (newChild listing m (u .names) c i s (u .low) (u .bits))
+        SteadyRecord listing u level (length m) (newChild listing now m (u .names) c i s (u .low) (u .bits))
     unfolding newChild nameCount boundNames ownedBy
     steady-child c i s e h g =
         let q = routineAt listing (c .callee) in
-        let ol : length (ownVariables (q .kinds) (c .arguments) (q .locals) (namedIn m (u .names))) ≡ ownedCount (q .kinds) (q .locals) =
-        length-own (q .kinds) (c .arguments) (q .locals) (namedIn m (u .names)) in
+        let ol : length (ownVariables now (q .kinds) (c .arguments) (q .locals) (namedIn m (u .names))) ≡ ownedCount (q .kinds) (q .locals) =
+        length-own now (q .kinds) (c .arguments) (q .locals) (namedIn m (u .names)) in
         let of : ownedCount (q .kinds) (q .locals) ≤ length (q .kinds) + q .locals = owned-few (q .kinds) (q .locals) in
         let fw : length (q .kinds) + q .locals ≤ 16 = T .few (c .callee) in
         record {
@@ -243,7 +243,7 @@ module _ (listing : Listing) where
         }
 
     pub steady-children : (cs : List Call) (ss : List ℕ) (i : ℕ) → drop i (u .calls) ≡ cs → CallsFit listing (length (u .names)) cs →
-        Steady listing u level (length m) (newChildren listing m (u .names) cs ss i (u .low) (u .bits))
+        Steady listing u level (length m) (newChildren listing now m (u .names) cs ss i (u .low) (u .bits))
     unfolding newChildren
     steady-children _ ss i e calls-nil = steady-nil
     steady-children _ ss i e (calls-put {c = c} {cs = cs} g r) =

@@ -65,7 +65,7 @@ module _ (listing : Listing) (now : ℕ) (triggers : Owner → List ℕ) (hi : �
     target = ownerOf ((σ me) .bindings) n
 
     abbrev put-in : Variable
-    put-in = writtenTo (variableOf σ environment target) (evaluateBy (named σ environment ((σ me) .bindings)) e)
+    put-in = writtenTo now (variableOf σ environment target) (evaluateBy now (named σ environment ((σ me) .bindings)) e)
 
     abbrev rows-S : Rows
     rows-S = withRow (rowsWith σ target put-in) me (atPlace (rowsWith σ target put-in me) (suc ((f .self) .place)))
@@ -82,15 +82,15 @@ module _ (listing : Listing) (now : ℕ) (triggers : Owner → List ℕ) (hi : �
     a = addressOf ((f .self) .names) n
 
     abbrev v : Variable
-    v = writtenTo (variableAt (memoryOf environment (f ∷ fs)) a) (evaluate (memoryOf environment (f ∷ fs)) ((f .self) .names) e)
+    v = writtenTo now (variableAt (memoryOf environment (f ∷ fs)) a) (evaluate now (memoryOf environment (f ∷ fs)) ((f .self) .names) e)
 
     target-is : target ≡ ownerAt (pathOf environment (f ∷ fs)) a
     target-is = ap (λ z. ownerOf z n) bindings-are ∙ bound-owner (pathOf environment (f ∷ fs)) ((f .self) .names) n isName
 
     v-is : put-in ≡ v
     unfolding named
-    v-is = ap₂ writtenTo (reads n) (evaluateBy-same (named σ environment ((σ me) .bindings)) (memoryOf environment (f ∷ fs)) ((f .self) .names) reads
-        e)
+    v-is = ap₂ (writtenTo now) (reads n) (evaluateBy-same (named σ environment ((σ me) .bindings)) (memoryOf environment (f ∷ fs)) ((f .self) .names) reads
+        now e)
 
     abbrev fs′ : List Frame
     fs′ = setUp environment fs a v

@@ -99,23 +99,23 @@ keeps-then : (σ₀ σ : Rows) (s : ℕ) (r : Row) → Keeps σ₀ σ → (σ s)
 keeps-then σ₀ σ s r k h n u =
     withRow-other σ s r n (λ e. let z : true ≡ false = sym u ∙ ap (λ y. y .used) (sym (k n u)) ∙ ap (λ y. (σ y) .used) e ∙ h in bool-not z) ∙ k n u
 
-module _ (listing : Listing) (m : List Variable) (ns : List ℕ) (P : List Entry) (environment : List Variable) (me n low b : ℕ) (σ₀ : Rows)
+module _ (listing : Listing) (now : ℕ) (m : List Variable) (ns : List ℕ) (P : List Entry) (environment : List Variable) (me n low b : ℕ) (σ₀ : Rows)
     (sits : (σ₀ me) .used ≡ true)
     (caller : (σ : Rows) → σ me ≡ σ₀ me → callerAt σ environment me n ≡ callerOn P m ns low b (named σ environment (ownersAt P ns)))
     (reads : (σ : Rows) → Keeps σ₀ σ → (k : ℕ) → named σ environment (ownersAt P ns) k ≡ variableAt m (addressOf ns k))
     (near : (x : ℕ) → x < length ns → addressOf ns x < length m) where
   abbrev tree-of : Rows → List Call → ℕ → Tree
-  tree-of σ cs i = newChildren listing m ns cs (newSlots listing σ environment me n cs i) i low b
+  tree-of σ cs i = newChildren listing now m ns cs (newSlots listing now σ environment me n cs i) i low b
 
   pub record Taken (σ : Rows) (cs : List Call) (i : ℕ) : Type 0 where
     pub fresh : FreeFor P (length m) σ (tree-of σ cs i)
-    pub rows : rowsWithNew listing σ environment me n cs i ≡ allocated σ P (length m) (tree-of σ cs i)
-    pub slots : newSlots listing σ environment me n cs i ≡ rootSlots (tree-of σ cs i)
-    pub small : Small (newSlots listing σ environment me n cs i)
-    pub used : usedBelow (rowsWithNew listing σ environment me n cs i) 64 ≡ usedBelow σ 64 + childCount cs
+    pub rows : rowsWithNew listing now σ environment me n cs i ≡ allocated σ P (length m) (tree-of σ cs i)
+    pub slots : newSlots listing now σ environment me n cs i ≡ rootSlots (tree-of σ cs i)
+    pub small : Small (newSlots listing now σ environment me n cs i)
+    pub used : usedBelow (rowsWithNew listing now σ environment me n cs i) 64 ≡ usedBelow σ 64 + childCount cs
     pub counted : rootCount (tree-of σ cs i) ≡ childCount cs
 
-  childRow-used : (k : Caller) (c : Call) (i s : ℕ) → (childRow listing k c i s) .used ≡ true
+  childRow-used : (k : Caller) (c : Call) (i s : ℕ) → (childRow listing now k c i s) .used ≡ true
   unfolding childRow
   childRow-used k c i s = refl
 
@@ -124,11 +124,11 @@ module _ (listing : Listing) (m : List Variable) (ns : List ℕ) (P : List Entry
   taken _ σ i calls-nil k h = record { fresh = free-for-nil; rows = refl; slots = refl; small = small-nil; used = omega arith; counted = refl }
   taken _ σ i (calls-put {c = c} {cs = cs} g r) k h =
       let s = freeSlot σ 64 in
-      let x = newChild listing m ns c i s low b in
-      let row = childRow listing (callerAt σ environment me n) c i s in
+      let x = newChild listing now m ns c i s low b in
+      let row = childRow listing now (callerAt σ environment me n) c i s in
       let e : row ≡ rowFor false P (length m) 0 x =
-      ap (λ z. childRow listing z c i s) (caller σ (k me sits)) ∙
-      child-row listing m ns c i s low b P (named σ environment (ownersAt P ns)) (reads σ k) near g in
+      ap (λ z. childRow listing now z c i s) (caller σ (k me sits)) ∙
+      child-row listing now m ns c i s low b P (named σ environment (ownersAt P ns)) (reads σ k) near g in
       let free = freeSlot-free σ (omega arith) in
       let u : usedBelow (withRow σ s row) 64 + one ((σ s) .used) ≡ usedBelow σ 64 + one (row .used) = used-withRow σ s row 64 (free .1) in
       let u₁ : one ((σ s) .used) ≡ 0 = ap one (free .0) in

@@ -62,10 +62,10 @@ module _ (listing : Listing) where
 
   -- Main's row in slot s.
   unfoldable pub mainRow : List Variable → ℕ → Row
-  mainRow environment s = childRow listing (environmentCaller environment) (mainCall listing) 0 s
+  mainRow environment s = childRow listing 0 (environmentCaller environment) (mainCall listing) 0 s
 
   unfoldable pub newEnvironment : List Variable
-  newEnvironment = replicate (environmentSize listing) (newVariable 0)
+  newEnvironment = replicate (environmentSize listing) (newVariable 0 0)
 
   -- "The start is the instant 0, with main newly called and no inputs": no rows but main's, in slot s, which runs at once.
   unfoldable pub startOnRows : ℕ → ℕ → RowsResult

@@ -105,8 +105,8 @@ callerAt rows environment me n =
       name = named rows environment (r .bindings);
     }
 
-module _ (listing : Listing) where
-  -- The whole row of the routine that child field c, number i, makes in slot s.
+module _ (listing : Listing) (now : ℕ) where
+  -- The whole row of the routine that child field c, number i, makes in slot s at `now`.
   unfoldable pub childRow : Caller → Call → ℕ → ℕ → Row
   childRow caller c i s =
       let called = routineAt listing (c .callee) in
@@ -123,7 +123,7 @@ module _ (listing : Listing) where
         routine = c .callee;
         place = 0;
         bindings = childBindings (called .kinds) (c .arguments) (called .locals) (caller .bindings) s 0;
-        own = ownVariables (called .kinds) (c .arguments) (called .locals) (caller .name);
+        own = ownVariables now (called .kinds) (c .arguments) (called .locals) (caller .name);
       }
 
   -- The rows with one new child of `me`, one of n, in the lowest free slot.
@@ -148,24 +148,24 @@ module _ (listing : Listing) where
 
   -- ── one instruction, and the run ────────────────────────────────────────────────────────────────
   -- `now` is the instant's moment, `triggers` its trigger lists.
-  module _ (now : ℕ) (triggers : Owner → List ℕ) where
+  module _ (triggers : Owner → List ℕ) where
     unfoldable pub executeRows : RowsRunner → ℕ → Instruction → Rows → List Variable → List ℕ → ℕ → ℕ → ℕ → RowsResult
     executeRows go left (assign n e) rows environment ready live woken me =
         let r = rows me in
         let o = ownerOf (r .bindings) n in
-        let x = writtenTo (variableOf rows environment o) (evaluateBy (named rows environment (r .bindings)) e) in
+        let x = writtenTo now (variableOf rows environment o) (evaluateBy now (named rows environment (r .bindings)) e) in
         go (withRow (rowsWith rows o x) me (atPlace (rowsWith rows o x me) (suc (r .place)))) (environmentWith o environment x)
         (insertAll rows (triggered rows (r .low) (triggers o)) ready) live woken me
     executeRows go left (schedule n d e) rows environment ready live woken me =
         let r = rows me in
         let o = ownerOf (r .bindings) n in
-        let delay = evaluateBy (named rows environment (r .bindings)) d in
-        let x = scheduledOn (variableOf rows environment o) (now + delay) (evaluateBy (named rows environment (r .bindings)) e) in
+        let delay = evaluateBy now (named rows environment (r .bindings)) d in
+        let x = scheduledOn (variableOf rows environment o) (now + delay) (evaluateBy now (named rows environment (r .bindings)) e) in
         orHalt (isPositive delay) 16 (orHalt (ltb (now + delay) momentRange) 17
         (go (withRow (rowsWith rows o x) me (atPlace (rowsWith rows o x me) (suc (r .place)))) (environmentWith o environment x) ready live woken me))
     executeRows go left (branch e k) rows environment ready live woken me =
         let r = rows me in
-        go (withRow rows me (atPlace r (branchPlace (eqb (evaluateBy (named rows environment (r .bindings)) e) 0) k (suc (r .place))))) environment
+        go (withRow rows me (atPlace r (branchPlace (eqb (evaluateBy now (named rows environment (r .bindings)) e) 0) k (suc (r .place))))) environment
         ready live woken me
     executeRows go left (jump k) rows environment ready live woken me = go (withRow rows me (atPlace (rows me) k)) environment ready live woken me
     executeRows go left (wait ns) rows environment ready live woken me = nextReady go left rows environment ready live woken

@@ -53,16 +53,16 @@ module _ (t : List ℕ) (moment : ℕ) (triggers : Owner → List ℕ) (left : �
   assign-kept n e next =
       go-kept t left woken _ _ _ live woken me
       (changed-placed (ownerOf ((σ me) .bindings) n)
-      (writtenTo (variableOf σ environment (ownerOf ((σ me) .bindings) n)) (evaluateBy (named σ environment ((σ me) .bindings)) e)) next) (omega arith)
+      (writtenTo moment (variableOf σ environment (ownerOf ((σ me) .bindings) n)) (evaluateBy moment (named σ environment ((σ me) .bindings)) e)) next) (omega arith)
 
   schedule-kept : (n : ℕ) (d e : List Piece) → GoesBehind → KeptAt (schedule n d e)
   unfolding executeRows
   schedule-kept n d e next =
-      let delay = evaluateBy (named σ environment ((σ me) .bindings)) d in
+      let delay = evaluateBy moment (named σ environment ((σ me) .bindings)) d in
       halt-kept t left woken (isPositive delay) 16 _ (halt-kept t left woken (ltb (moment + delay) 18446744073709551616) 17 _
       (go-kept t left woken _ _ q live woken me
       (changed-placed (ownerOf ((σ me) .bindings) n)
-      (scheduledOn (variableOf σ environment (ownerOf ((σ me) .bindings) n)) (moment + delay) (evaluateBy (named σ environment ((σ me) .bindings)) e)) next) (omega arith)))
+      (scheduledOn (variableOf σ environment (ownerOf ((σ me) .bindings) n)) (moment + delay) (evaluateBy moment (named σ environment ((σ me) .bindings)) e)) next) (omega arith)))
 
   moved-kept : (place : ℕ) → place < sizeOf t ((σ me) .routine) →
       KeptBy t left woken (saying left (withRow σ me (atPlace (σ me) place)) environment q live woken me)
@@ -76,7 +76,7 @@ module _ (t : List ℕ) (moment : ℕ) (triggers : Owner → List ℕ) (left : �
 
   branch-kept : (e : List Piece) (k : ℕ) → k < sizeOf t ((σ me) .routine) → GoesBehind → KeptAt (branch e k)
   unfolding executeRows
-  branch-kept e k there next = moved-kept _ (branch-place (eqb (evaluateBy (named σ environment ((σ me) .bindings)) e) 0) k there next)
+  branch-kept e k there next = moved-kept _ (branch-place (eqb (evaluateBy moment (named σ environment ((σ me) .bindings)) e) 0) k there next)
 
   jump-kept : (k : ℕ) → k < sizeOf t ((σ me) .routine) → KeptAt (jump k)
   unfolding executeRows
@@ -93,7 +93,7 @@ module _ (t : List ℕ) (moment : ℕ) (triggers : Owner → List ℕ) (left : �
       let cs = callsAt t cells n in
       halt-kept t left woken (leb (live + childCount cs) 64) 14 _ (halt-kept t left woken (leb ((σ me) .level) 9) 15 _
       (pop-kept t left woken _ environment _ (live + childCount cs) woken
-      (news-placed t left woken table n cells (namesOf t ((σ me) .routine)) fields _ environment me (childCount cs) 0
+      (news-placed t left woken table moment n cells (namesOf t ((σ me) .routine)) fields _ environment me (childCount cs) 0
       (placed-count t σ me (childCount cs) h (λ some. record { routine = there; next = next }))) (omega arith)))
 
   end-kept : KeptAt end

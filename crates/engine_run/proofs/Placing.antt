@@ -89,9 +89,9 @@ module _ (t : List ℕ) (left w : ℕ) where
   ended-kept false σ environment q live woken p h few = join-kept (eqb ((σ p) .children) 1) σ environment q live woken p h few refl
 
   -- ── a fork's new routines ───────────────────────────────────────────────────────────────────────
-  new-placed : isTable t ≡ true → (caller : Caller) (c : Call) (i s : ℕ) → c .callee < word t 2 → PlacedRow t (childRow (tableListing t) caller c i s)
+  new-placed : isTable t ≡ true → (now : ℕ) (caller : Caller) (c : Call) (i s : ℕ) → c .callee < word t 2 → PlacedRow t (childRow (tableListing t) now caller c i s)
   unfolding childRow
-  new-placed table caller c i s there =
+  new-placed table now caller c i s there =
       let some = bounds t table .line (c .callee) there in
       record {
         routine = λ u. there;
@@ -100,13 +100,13 @@ module _ (t : List ℕ) (left w : ℕ) where
         parent = λ l. absurd (omega arith);
       }
 
-  pub news-placed : isTable t ≡ true → (n cells names : ℕ) → ((j : ℕ) → j < n → ChildStands t names (headAfter t cells j)) → (σ : Rows) (environment : List Variable)
-      (me count i : ℕ) → Placed t σ → Placed t (rowsWithNew (tableListing t) σ environment me count (callsAt t cells n) i)
+  pub news-placed : isTable t ≡ true → (now n cells names : ℕ) → ((j : ℕ) → j < n → ChildStands t names (headAfter t cells j)) → (σ : Rows) (environment : List Variable)
+      (me count i : ℕ) → Placed t σ → Placed t (rowsWithNew (tableListing t) now σ environment me count (callsAt t cells n) i)
   unfolding rowsWithNew rowsWithChild callsAt callAt headAfter
-  news-placed table zero cells names fields σ environment me count i h = h
-  news-placed table (suc n) cells names fields σ environment me count i h =
-      news-placed table n (afterCall t cells) names (λ j l. fields (suc j) (omega arith)) _ environment me count (suc i)
-      (placed-with t σ (freeSlot σ 64) _ h (new-placed table (callerAt σ environment me count) (callAt t cells) i (freeSlot σ 64) (fields 0 (omega arith) .callee)))
+  news-placed table now zero cells names fields σ environment me count i h = h
+  news-placed table now (suc n) cells names fields σ environment me count i h =
+      news-placed table now n (afterCall t cells) names (λ j l. fields (suc j) (omega arith)) _ environment me count (suc i)
+      (placed-with t σ (freeSlot σ 64) _ h (new-placed table now (callerAt σ environment me count) (callAt t cells) i (freeSlot σ 64) (fields 0 (omega arith) .callee)))
 
   -- ── a variable ──────────────────────────────────────────────────────────────────────────────────
   pub same-routine : (σ : Rows) (o : Owner) (x : Variable) (s : ℕ) → (rowsWith σ o x s) .routine ≡ (σ s) .routine

@@ -27,21 +27,22 @@ use Rattle.engine_steps.specs.Outcome.{left-by, RunsLive, Reading, Execu
 use Rattle.engine_steps.proofs.Stores.{stays-start}
 use Rattle.engine_steps.proofs.Writing.{newVariable, rows-named, environment-named}
 use Rattle.walk.specs.Memory.{evaluateBy}
+use Rattle.engine_evaluate.specs.Evaluable.{Evaluates}
 
 -- "`S|n|e` writes expression e to name n", and wakes.
-pub assigns : {a m : List ℕ} (u v : Running) (name x : ℕ) (e : List Piece) (binding : Binding)
-    → ChangesName a m u name (λ y. writtenTo y x) (record { answer = Goes; running = u })
-    → BoundTo (rowsOf a (u .me)) name binding → name < length (bindingsOf a (u .me)) → FromNames a (u .me) (λ names. evaluateBy names e) x
+pub assigns : (listing : Listing) (moment : ℕ) {a m : List ℕ} (u v : Running) (name x : ℕ) (e : List Piece) (binding : Binding)
+    → ChangesName a m u name (λ y. writtenTo moment y x) (record { answer = Goes; running = u })
+    → BoundTo (rowsOf a (u .me)) name binding → name < length (bindingsOf a (u .me)) → Evaluates a (u .me) e x
     → slotsOf (v .ready) ≡ insertAll (rowsOf a) (triggered (rowsOf a) ((rowsOf a (u .me)) .low) (triggersAt a (binding .block) (binding .index))) (slotsOf (u .ready))
     → v .live ≡ u .live → v .woken ≡ u .woken → v .me ≡ u .me
-    → (listing : Listing) (moment : ℕ) → Executes listing moment (assign name e) a m u (record { answer = Goes; running = v })
+    → Executes listing moment (assign name e) a m u (record { answer = Goes; running = v })
 unfolding left-by executeRows RunsLive named
-assigns {a} {m} u v name x e binding p bound few value ready live woken me listing moment =
+assigns listing moment {a} {m} u v name x e binding p bound few value ready live woken me =
     record {
       outcome = λ n triggers reading go left.
           let lists : triggersAt a (binding .block) (binding .index) ≡ triggers (ownerOf (bindingsOf a (u .me)) name) =
           reading .lists (binding .block) (binding .index) (bound .block) (bound .index) ∙ ap triggers (bound .owner few) in
-          rw (sym (value .equal n (reading .bound)), rows-named p n, environment-named p n, ready, lists, live, woken, me);
+          rw (sym (value moment .equal n (reading .bound)), rows-named p n, environment-named p n, ready, lists, live, woken, me);
       stays = p .stays;
       clean = λ n triggers reading used. p .clean n (reading .bound) (rw me at used);
     }
@@ -67,13 +68,13 @@ pub too-late : (present delay : ℕ) → stopsWith 17 ≡ laterMoment present de
 too-late present delay e = later-false (ltb (present + delay) 18446744073709551616) (present + delay) e
 
 module _ {a : List ℕ} (u : Running) (name delay x present : ℕ) (d e : List Piece) (listing : Listing)
-    (after : FromNames a (u .me) (λ names. evaluateBy names d) delay) where
+    (after : Evaluates a (u .me) d delay) where
   -- 16: "is the delay at least 1?"
   pub delay-short : isPositive delay ≡ false → Executes listing present (schedule name d e) a a u (record { answer = Halts 16; running = u })
   unfolding left-by executeRows orHalt
   delay-short short =
       record {
-        outcome = λ n triggers reading go left. rw (sym (after .equal n (reading .bound)), short);
+        outcome = λ n triggers reading go left. rw (sym (after present .equal n (reading .bound)), short);
         stays = stays-start a;
         clean = λ n triggers reading used clean. clean;
       }
@@ -84,19 +85,19 @@ module _ {a : List ℕ} (u : Running) (name delay x present : ℕ) (d e : List P
     unfolding left-by executeRows orHalt
     moment-late late =
         record {
-          outcome = λ n triggers reading go left. rw (sym (after .equal n (reading .bound)), positive, late);
+          outcome = λ n triggers reading go left. rw (sym (after present .equal n (reading .bound)), positive, late);
           stays = stays-start a;
           clean = λ n triggers reading used clean. clean;
         }
 
     -- "`A|n|d|e` puts a waiting write of e on n, d milliseconds from now".
-    pub schedules : {m : List ℕ} (t : ℕ) {r : Stepped} → ChangesName a m u name (λ y. scheduledOn y t x) r → FromNames a (u .me) (λ names. evaluateBy names e) x
+    pub schedules : {m : List ℕ} (t : ℕ) {r : Stepped} → ChangesName a m u name (λ y. scheduledOn y t x) r → Evaluates a (u .me) e x
         → ltb (present + delay) 18446744073709551616 ≡ true → t ≡ present + delay → Executes listing present (schedule name d e) a m u r
     unfolding left-by executeRows orHalt RunsLive named
     schedules t {r} p value below is =
         rw (p .goes) (record {
           outcome = λ n triggers reading go left.
-              rw (sym (after .equal n (reading .bound)), sym (value .equal n (reading .bound)), positive, below, rows-named p n, environment-named p n, is);
+              rw (sym (after present .equal n (reading .bound)), sym (value present .equal n (reading .bound)), positive, below, rows-named p n, environment-named p n, is);
           stays = p .stays;
           clean = λ n triggers reading used. p .clean n (reading .bound) used;
         })

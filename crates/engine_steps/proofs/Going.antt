@@ -23,6 +23,7 @@ use Rattle.engine_steps.specs.Asked.{Slots, slots-one}
 use Rattle.engine_steps.proofs.Stores.{rows-changed, environment-kept, change-stays, stays-start, placed-clean}
 use Rattle.walk.specs.Walk.{branchPlace}
 use Rattle.walk.specs.Memory.{evaluateBy}
+use Rattle.engine_evaluate.specs.Evaluable.{Evaluates}
 
 none-left : (q : ReadyList) → q .count ≡ 0 → slotsOf q ≡ []
 unfolding slotsOf falling
@@ -66,12 +67,12 @@ module _ {a m : List ℕ} {s : ℕ} (place : ℕ) (p : Changes s a m (placedBloc
 
 -- "`U|e|k` goes to instruction k if e is 0": as `G` to that place.
 pub branches : (listing : Listing) (moment : ℕ) {a m : List ℕ} {u : Running} {r : Stepped} (e : List Piece) (k v target : ℕ)
-    → FromNames a (u .me) (λ names. evaluateBy names e) v → branchPlace (eqb v 0) k (suc ((rowsOf a (u .me)) .place)) ≡ target
+    → Evaluates a (u .me) e v → branchPlace (eqb v 0) k (suc ((rowsOf a (u .me)) .place)) ≡ target
     → Executes listing moment (jump target) a m u r → Executes listing moment (branch e k) a m u r
 unfolding executeRows
 branches listing moment {a} {m} {u} {r} e k v target value chosen j =
     record {
-      outcome = λ n triggers reading go left. rw (sym (value .equal n (reading .bound)), chosen) (j .outcome n triggers reading go left);
+      outcome = λ n triggers reading go left. rw (sym (value moment .equal n (reading .bound)), chosen) (j .outcome n triggers reading go left);
       stays = j .stays;
       clean = j .clean;
     }

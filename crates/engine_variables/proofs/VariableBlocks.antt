@@ -35,9 +35,9 @@ module _ (b : Block) (i : ℕ) where
     unfolding assignedBlock
     assigned-within v = in-variable-mark _ (in-variable-word b in-variable-start (8 + i * 6) v (omega arith) (omega arith)) 1 few
 
-    pub assigned-variable : (v : ℕ) → variableIn (assignedBlock i v b) i ≡ writtenTo (variableIn b i) v
+    pub assigned-variable : (moment v : ℕ) → variableIn (assignedBlock i v b) i ≡ writtenTo moment (variableIn b i) v
     unfolding assignedBlock variableIn writtenTo nonzero
-    assigned-variable v =
+    assigned-variable moment v =
         let c = putIn b (8 + i * 6) v in
         rw (
           put-other c (128 + i) 1 (8 + i * 6) (λ e. omega arith),
@@ -171,10 +171,10 @@ module _ (b : Block) (i : ℕ) where
 
 -- ── the changes that the code makes ───────────────────────────────────────────────────────────────
 module _ {a m : List ℕ} (s i : ℕ) where
-  pub assign-changes : (v : ℕ) → s ≤ 64 → i < 16 → InBlock s a m (assignedBlock i v (block a s))
-      → Changes s a m (assignedBlock i v (block a s)) (withVariable (ownerAt s i) (λ x. writtenTo x v))
-  assign-changes v h few p =
-      changes-variable p i few (assigned-within (block a s) i few v) (λ (x : Variable). writtenTo x v) (assigned-variable (block a s) i few v) h
+  pub assign-changes : (moment v : ℕ) → s ≤ 64 → i < 16 → InBlock s a m (assignedBlock i v (block a s))
+      → Changes s a m (assignedBlock i v (block a s)) (withVariable (ownerAt s i) (λ x. writtenTo moment x v))
+  assign-changes moment v h few p =
+      changes-variable p i few (assigned-within (block a s) i few v) (λ (x : Variable). writtenTo moment x v) (assigned-variable (block a s) i few moment v) h
 
   pub schedule-changes : (t v : ℕ) → s ≤ 64 → i < 16 → 0 < t → InBlock s a m (scheduledBlock i t v (block a s))
       → Changes s a m (scheduledBlock i t v (block a s)) (withVariable (ownerAt s i) (λ x. scheduledOn x t v))

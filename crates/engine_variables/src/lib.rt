@@ -1,6 +1,6 @@
 // Variables by block s and index (block 64 has the environment's), and the names bound to them, read and changed. Every contract
 // says what the words stand for as rows and environment. `m` is the machine's memory, `s` a slot or 64.
-ghost use Prim.Native.Nat.{_≤_, _<_};
+ghost use Prim.Native.Nat.{ℕ, _≤_, _<_};
 ghost use Rattle.machine.specs.Words.{HasMachine};
 ghost use Rattle.machine.specs.Layout.{waitingMoment};
 ghost use Rattle.walk.specs.State.{writtenTo, scheduledOn, madeDue, unmarkedOf};
@@ -73,10 +73,11 @@ pub fn due(m: &[u32], s: usize, index: usize) -> u64
     first + second * SIZE
 }
 
-// A write: the value, and the mark of this instant.
+// A write, at any moment: the value, and the mark of this instant.
 pub fn assign(m: &mut [u32], s: usize, index: usize, v: u32)
     requires { ⌜ HasMachine (now m) × (s ≤ 64) × (index < 16) ⌝ }
-    ensures { λ _. ⌜ Changes s (now (m .entry)) (now (m .exit)) (assignedBlock index v (block (now (m .entry)) s)) (withVariable (ownerAt s index) (λ x. writtenTo x v)) ⌝ }
+    ensures { λ _. ⌜ ((moment : ℕ) → Changes s (now (m .entry)) (now (m .exit)) (assignedBlock index v (block (now (m .entry)) s))
+        (withVariable (ownerAt s index) (λ x. writtenTo moment x v))) ⌝ }
 {
     put_word(m, s, VALUE + index * VARIABLE_WORDS, v);
     put_word(m, s, WRITTEN + index, 1);

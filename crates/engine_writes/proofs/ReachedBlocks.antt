@@ -143,15 +143,16 @@ all-reach n t {m = m} few slots first outer N =
     reaches-then (first n N) (outer n (omega arith) (rw (slots .others 64 (omega arith) (omega arith)) (N .environment)))
 
 -- ── an input ──────────────────────────────────────────────────────────────────────────────────────
-assigned-marks : (x : Variable) (v : ℕ) → (writtenTo x v) .written ≡ true
+assigned-marks : (moment : ℕ) (x : Variable) (v : ℕ) → (writtenTo moment x v) .written ≡ true
 unfolding writtenTo
-assigned-marks x v = refl
+assigned-marks moment x v = refl
 
-pub input-reaches : (n i v : ℕ) {m m′ q q′ : List ℕ} → i < 16 → i < n → Changes 64 m m′ (assignedBlock i v (block m 64)) (withVariable (ownerAt 64 i) (λ x. writtenTo x v)) →
+pub input-reaches : (n i v : ℕ) {m m′ q q′ : List ℕ} → i < 16 → i < n →
+    ((moment : ℕ) → Changes 64 m m′ (assignedBlock i v (block m 64)) (withVariable (ownerAt 64 i) (λ x. writtenTo moment x v))) →
     q′ ≡ insertAll (rowsOf m′) (triggeredFrom (rowsOf m′) 0 (triggersAt m′ 64 i)) q → Reaches n m m′ q q′
 unfolding reachedIf
 input-reaches n i v {m} {m′} {q} {q′} few l C e =
     let size = port-length n m i in
     let x = variableFrom (storeOf n m) (ownerAt 64 i) in
-    reaches-one n m m′ 64 i (λ x. writtenTo x v) (omega arith) few (C .store n) (C .triggers) (omega arith) (λ on. assigned-marks x v) q q′ true
-    (sym (assigned-marks x v)) e
+    reaches-one n m m′ 64 i (λ x. writtenTo 0 x v) (omega arith) few (C 0 .store n) (C 0 .triggers) (omega arith) (λ on. assigned-marks 0 x v) q q′ true
+    (sym (assigned-marks 0 x v)) e

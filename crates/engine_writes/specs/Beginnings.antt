@@ -24,10 +24,10 @@ pub record DuesTell (n t : ℕ) (dues words : List ℕ) : Type 0 where
   pub slots : (s : ℕ) → s < 64 → (getD dues s 0 ≡ t → ⊥) → dueSlot t (block words s) ≡ block words s
   pub environment : (getD dues 64 0 ≡ t → ⊥) → dueFirst n t (block words 64) ≡ block words 64
 
--- Inputs written.
+-- Inputs written, at any moment.
 pub record InputsWritten (n : ℕ) (inputs : List Write) (before after : List ℕ) : Type 0 where
   pub rows : rowsOf after ≡ rowsOf before
-  pub environment : environmentOf n after ≡ applyInputs inputs (environmentOf n before)
+  pub environment : (moment : ℕ) → environmentOf n after ≡ applyInputs moment inputs (environmentOf n before)
   pub outside : SameOutside before after
   pub triggers : SameTriggers before after
   pub clean : Clean n before → Clean n after

@@ -244,14 +244,14 @@ read-halted-is-the-stopped-form listing w k l e =
 
 -- ── all words 0: moment 0, main ended, all values 0, nothing waiting ──────────────────────────────
 unfoldable pub zeroState : Listing → State
-zeroState listing = record { now = 0; environment = replicate (environmentSize listing) (newVariable 0); tree = empty }
+zeroState listing = record { now = 0; environment = replicate (environmentSize listing) (newVariable 0 0); tree = empty }
 
-fresh-rest : (n : ℕ) → allAtRest 0 (replicate n (newVariable 0)) ≡ true
+fresh-rest : (n : ℕ) → allAtRest 0 (replicate n (newVariable 0 0)) ≡ true
 unfolding allAtRest atRest newVariable dueAfter
 fresh-rest zero = refl
 fresh-rest (suc n) = fresh-rest n
 
-fresh-words : (n j : ℕ) → getD (variablesWords (replicate n (newVariable 0))) j 0 ≡ 0
+fresh-words : (n j : ℕ) → getD (variablesWords (replicate n (newVariable 0 0))) j 0 ≡ 0
 unfolding variablesWords newVariable waitingValue waitingMoment
 fresh-words zero j = getD-nil j
 fresh-words (suc n) zero = refl
@@ -266,7 +266,7 @@ zero-state : (listing : Listing) → IsState listing (zeroState listing)
 unfolding zeroState liveInForest
 zero-state listing = record {
   moment = omega arith;
-  size = length-replicate (environmentSize listing) (newVariable 0);
+  size = length-replicate (environmentSize listing) (newVariable 0 0);
   resting = fresh-rest (environmentSize listing);
   tree = ended no-more;
   few = omega arith;
@@ -280,7 +280,7 @@ zero-header (suc (suc zero)) = refl
 zero-header (suc (suc (suc zero))) = refl
 zero-header (suc (suc (suc (suc j)))) = getD-nil j
 
-zero-outer : (n j : ℕ) → getD (environmentWords (replicate n (newVariable 0))) j 0 ≡ 0
+zero-outer : (n j : ℕ) → getD (environmentWords (replicate n (newVariable 0 0))) j 0 ≡ 0
 unfolding environmentWords
 zero-outer n zero = refl
 zero-outer n (suc zero) = refl

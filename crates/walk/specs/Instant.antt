@@ -28,9 +28,9 @@ pub record Write : Type 0 where
   pub value : ℕ
 
 -- "Then the call's inputs are written."
-unfoldable pub applyInputs : List Write → List Variable → List Variable
-applyInputs [] environment = environment
-applyInputs (w ∷ ws) environment = applyInputs ws (inputAt environment (w .number) (w .value))
+unfoldable pub applyInputs : ℕ → List Write → List Variable → List Variable
+applyInputs t [] environment = environment
+applyInputs t (w ∷ ws) environment = applyInputs t ws (inputAt t environment (w .number) (w .value))
 
 -- ── after the visit: the marks of this instant go ─────────────────────────────────────────────────
 unfoldable pub unmarked : List Variable → List Variable
@@ -121,10 +121,10 @@ environmentNames listing = consecutive (environmentSize listing) 0
 
 -- "The start is the instant 0, with main newly called and no inputs": main, what is running then, and main's turn.
 abbrev pub newEnvironment : Listing → List Variable
-newEnvironment listing = replicate (environmentSize listing) (newVariable 0)
+newEnvironment listing = replicate (environmentSize listing) (newVariable 0 0)
 
 abbrev pub newMain : Listing → Node
-newMain listing = newRoutine listing (newEnvironment listing) (environmentNames listing) (mainCall listing)
+newMain listing = newRoutine listing 0 (newEnvironment listing) (environmentNames listing) (mainCall listing)
 
 abbrev pub atStart : Listing → ℕ → Running
 atStart listing allowance = newRunning (newEnvironment listing) allowance 1
@@ -137,7 +137,7 @@ start listing allowance = startTurn listing allowance >>= finish listing 0 allow
 
 -- "An instant at t": rule 1, then the visit.
 abbrev pub atInstant : State → ℕ → List Write → ℕ → Running
-atInstant s t inputs allowance = newRunning (applyInputs inputs (dueWrites t (s .environment))) allowance (liveInForest (dueInForest (s .tree) t))
+atInstant s t inputs allowance = newRunning (applyInputs t inputs (dueWrites t (s .environment))) allowance (liveInForest (dueInForest (s .tree) t))
 
 abbrev pub instantTurn : Listing → State → ℕ → List Write → ℕ → Result Turn
 instantTurn listing s t inputs allowance = visitForest listing t (dueInForest (s .tree) t) 0 (atInstant s t inputs allowance)

@@ -11,12 +11,12 @@ use Rattle.walk.specs.State.{Variable, noVariable, newVariable, writtenT
 unfoldable pub variableAt : List Variable → ℕ → Variable
 variableAt memory a = getD memory a noVariable
 
--- The variable at an address changed: by a write, by an input, by a waiting write.
-unfoldable pub writeAt : List Variable → ℕ → ℕ → List Variable
-writeAt memory a v = set memory a (writtenTo (variableAt memory a) v)
+-- The variable at an address changed: by a write at `now`, by an input, by a waiting write.
+unfoldable pub writeAt : ℕ → List Variable → ℕ → ℕ → List Variable
+writeAt now memory a v = set memory a (writtenTo now (variableAt memory a) v)
 
-unfoldable pub inputAt : List Variable → ℕ → ℕ → List Variable
-inputAt memory a v = set memory a (inputTo (variableAt memory a) v)
+unfoldable pub inputAt : ℕ → List Variable → ℕ → ℕ → List Variable
+inputAt now memory a v = set memory a (inputTo now (variableAt memory a) v)
 
 unfoldable pub scheduleAt : List Variable → ℕ → ℕ → ℕ → List Variable
 scheduleAt memory a t v = set memory a (scheduledOn (variableAt memory a) t v)
@@ -51,30 +51,30 @@ operate f (y ∷ []) = []
 operate f (y ∷ (x ∷ held)) = f x y ∷ held
 
 -- "`#v` (a signed 32-bit literal), `n` (a name's value), `@n` (1 if it was written in this instant, else 0), `+ - * <`";
--- `name` says what each name stands for.
-unfoldable pub evaluatePiece : (ℕ → Variable) → Piece → List ℕ → List ℕ
-evaluatePiece name (literal v) held = v ∷ held
-evaluatePiece name (valueOf n) held = (name n) .value ∷ held
-evaluatePiece name (writtenMark n) held = bit ((name n) .written) ∷ held
-evaluatePiece name plus held = operate wrappingAdd held
-evaluatePiece name minus held = operate wrappingSubtract held
-evaluatePiece name times held = operate wrappingMultiply held
-evaluatePiece name less held = operate (λ x y. bit (signedLess x y)) held
+-- `now` is the moment of the instant, `name` says what each name stands for.
+unfoldable pub evaluatePiece : ℕ → (ℕ → Variable) → Piece → List ℕ → List ℕ
+evaluatePiece now name (literal v) held = v ∷ held
+evaluatePiece now name (valueOf n) held = (name n) .value ∷ held
+evaluatePiece now name (writtenMark n) held = bit ((name n) .written) ∷ held
+evaluatePiece now name plus held = operate wrappingAdd held
+evaluatePiece now name minus held = operate wrappingSubtract held
+evaluatePiece now name times held = operate wrappingMultiply held
+evaluatePiece now name less held = operate (λ x y. bit (signedLess x y)) held
 
-unfoldable pub evaluatePieces : (ℕ → Variable) → List Piece → List ℕ → List ℕ
-evaluatePieces name [] held = held
-evaluatePieces name (p ∷ ps) held = evaluatePieces name ps (evaluatePiece name p held)
+unfoldable pub evaluatePieces : ℕ → (ℕ → Variable) → List Piece → List ℕ → List ℕ
+evaluatePieces now name [] held = held
+evaluatePieces now name (p ∷ ps) held = evaluatePieces now name ps (evaluatePiece now name p held)
 
 unfoldable pub top : List ℕ → ℕ
 top [] = 0
 top (x ∷ held) = x
 
 -- "It leaves one value."
-unfoldable pub evaluateBy : (ℕ → Variable) → List Piece → ℕ
-evaluateBy name e = top (evaluatePieces name e [])
+unfoldable pub evaluateBy : ℕ → (ℕ → Variable) → List Piece → ℕ
+evaluateBy now name e = top (evaluatePieces now name e [])
 
-unfoldable pub evaluate : List Variable → List ℕ → List Piece → ℕ
-evaluate memory names e = evaluateBy (namedIn memory names) e
+unfoldable pub evaluate : ℕ → List Variable → List ℕ → List Piece → ℕ
+evaluate now memory names e = evaluateBy now (namedIn memory names) e
 
 -- ── names: "Names in a routine are its arguments, then its locals, numbered from 0." ──────────────
 -- k addresses from a on
@@ -92,10 +92,10 @@ bindNames (byValue ∷ ks) [] locals base = base ∷ bindNames ks [] locals (suc
 bindNames (byValue ∷ ks) (a ∷ passed) locals base = base ∷ bindNames ks passed locals (suc base)
 
 -- The variables that a new routine owns: one for each argument by value, holding what was passed, and its locals.
--- `name` says what each of the caller's names stands for.
-unfoldable pub ownVariables : List Kind → List ℕ → ℕ → (ℕ → Variable) → List Variable
-ownVariables [] arguments locals name = replicate locals (newVariable 0)
-ownVariables (byReference ∷ ks) [] locals name = ownVariables ks [] locals name
-ownVariables (byReference ∷ ks) (n ∷ arguments) locals name = ownVariables ks arguments locals name
-ownVariables (byValue ∷ ks) [] locals name = newVariable 0 ∷ ownVariables ks [] locals name
-ownVariables (byValue ∷ ks) (n ∷ arguments) locals name = newVariable ((name n) .value) ∷ ownVariables ks arguments locals name
+-- `now` is the moment that makes them, `name` says what each of the caller's names stands for.
+unfoldable pub ownVariables : ℕ → List Kind → List ℕ → ℕ → (ℕ → Variable) → List Variable
+ownVariables now [] arguments locals name = replicate locals (newVariable now 0)
+ownVariables now (byReference ∷ ks) [] locals name = ownVariables now ks [] locals name
+ownVariables now (byReference ∷ ks) (n ∷ arguments) locals name = ownVariables now ks arguments locals name
+ownVariables now (byValue ∷ ks) [] locals name = newVariable now 0 ∷ ownVariables now ks [] locals name
+ownVariables now (byValue ∷ ks) (n ∷ arguments) locals name = newVariable now ((name n) .value) ∷ ownVariables now ks arguments locals name

@@ -20,17 +20,17 @@ pub record Variable : Type 0 where
 unfoldable pub noVariable : Variable
 noVariable = record { value = 0; written = false; waiting = idle }
 
--- ── all changes of a variable ─────────────────────────────────────────────────────────────────────
+-- ── all changes of a variable, `now` being the moment of the instant ─────────────────────────────────────────────────────────────────────
 -- "New variables hold 0, or the passed value for `v`, and are not written."
-unfoldable pub newVariable : ℕ → Variable
-newVariable v = record { value = v; written = false; waiting = idle }
+unfoldable pub newVariable : ℕ → ℕ → Variable
+newVariable now v = record { value = v; written = false; waiting = idle }
 
 -- A write: the new value, the mark; "`S` and inputs leave [the waiting write] there".
-unfoldable pub writtenTo : Variable → ℕ → Variable
-writtenTo x v = record { value = v; written = true; waiting = x .waiting }
+unfoldable pub writtenTo : ℕ → Variable → ℕ → Variable
+writtenTo now x v = record { value = v; written = true; waiting = x .waiting }
 
-unfoldable pub inputTo : Variable → ℕ → Variable
-inputTo x v = writtenTo x v
+unfoldable pub inputTo : ℕ → Variable → ℕ → Variable
+inputTo now x v = writtenTo now x v
 
 -- A waiting write of v due at t: "a new `A` on it replaces the old one, earlier or later".
 unfoldable pub scheduledOn : Variable → ℕ → ℕ → Variable

@@ -25,16 +25,16 @@ abbrev pub instructionOf : Listing → Frame → Instruction
 instructionOf listing me = instructionAt listing (me .routine) (me .place)
 
 -- ── new routines ──────────────────────────────────────────────────────────────────────────────────
--- What a child field of a caller with these names makes: a routine at its first instruction.
-unfoldable pub newRoutine : Listing → List Variable → List ℕ → Call → Node
-newRoutine listing memory names c =
+-- What a child field of a caller with these names makes at `now`: a routine at its first instruction.
+unfoldable pub newRoutine : Listing → ℕ → List Variable → List ℕ → Call → Node
+newRoutine listing now memory names c =
     let called = routineAt listing (c .callee) in
     node (c .callee) 0 (bindNames (called .kinds) (addressesOf names (c .arguments)) (called .locals) (length memory))
-    (ownVariables (called .kinds) (c .arguments) (called .locals) (namedIn memory names)) empty
+    (ownVariables now (called .kinds) (c .arguments) (called .locals) (namedIn memory names)) empty
 
-unfoldable pub newRoutines : Listing → List Variable → List ℕ → List Call → Forest
-newRoutines listing memory names [] = empty
-newRoutines listing memory names (c ∷ cs) = more (newRoutine listing memory names c) (newRoutines listing memory names cs)
+unfoldable pub newRoutines : Listing → ℕ → List Variable → List ℕ → List Call → Forest
+newRoutines listing now memory names [] = empty
+newRoutines listing now memory names (c ∷ cs) = more (newRoutine listing now memory names c) (newRoutines listing now memory names cs)
 
 unfoldable pub childCount : List Call → ℕ
 childCount [] = 0
@@ -79,13 +79,13 @@ branchPlace false k after = after
 -- `now` is the instant's moment, `live` the number of live routines, `memory` the variables in reach.
 module _ (now : ℕ) where
   unfoldable pub move : Instruction → Frame → ℕ → List Variable → Move
-  move (assign n e) me live memory = goesTo (suc (me .place)) (writeAt memory (addressOf (me .names) n) (evaluate memory (me .names) e))
+  move (assign n e) me live memory = goesTo (suc (me .place)) (writeAt now memory (addressOf (me .names) n) (evaluate now memory (me .names) e))
   -- "16 At `A`: is the delay at least 1? 17 At `A`: is the due moment below 2 to the 64?"
   move (schedule n d e) me live memory =
-      let delay = evaluate memory (me .names) d in
+      let delay = evaluate now memory (me .names) d in
       asking 16 (isPositive delay) (asking 17 (ltb (now + delay) momentRange)
-      (goesTo (suc (me .place)) (scheduleAt memory (addressOf (me .names) n) (now + delay) (evaluate memory (me .names) e))))
-  move (branch e k) me live memory = goesTo (branchPlace (eqb (evaluate memory (me .names) e) 0) k (suc (me .place))) memory
+      (goesTo (suc (me .place)) (scheduleAt memory (addressOf (me .names) n) (now + delay) (evaluate now memory (me .names) e))))
+  move (branch e k) me live memory = goesTo (branchPlace (eqb (evaluate now memory (me .names) e) 0) k (suc (me .place))) memory
   move (jump k) me live memory = goesTo k memory
   -- "A wait reached now sleeps, even if its name was written earlier in this instant."
   move (wait ns) me live memory = sleeps
@@ -128,7 +128,7 @@ module _ (listing : Listing) (now : ℕ) where
   carryOut go (goesTo k memory) me s = go (goTo me k) (withMemory s memory)
   carryOut go sleeps me s = sleep me empty s
   carryOut go (forks cs) me s =
-      inTurn (begin go (suc (me .level))) (newRoutines listing (s .memory) (me .names) cs) (withLive s (s .live + childCount cs))
+      inTurn (begin go (suc (me .level))) (newRoutines listing now (s .memory) (me .names) cs) (withLive s (s .live + childCount cs))
       >>= λ (a : Turn). join go me (a .tree) (a .running)
   carryOut go ends me s = leave me s
   carryOut go (stops k) me s = stop k

@@ -35,28 +35,28 @@ unmarked-take (suc k) [] = refl
 unmarked-take (suc k) (x ∷ m) = ap₂ _∷_ refl (unmarked-take k m)
 
 -- ── inputs ────────────────────────────────────────────────────────────────────────────────────────
-pub length-inputs : (ws : List Write) (m : List Variable) → length (applyInputs ws m) ≡ length m
+pub length-inputs : (t : ℕ) (ws : List Write) (m : List Variable) → length (applyInputs t ws m) ≡ length m
 unfolding applyInputs inputAt
-length-inputs [] m = refl
-length-inputs (w ∷ ws) m = length-inputs ws (inputAt m (w .number) (w .value)) ∙ length-set m (w .number) _
+length-inputs t [] m = refl
+length-inputs t (w ∷ ws) m = length-inputs t ws (inputAt t m (w .number) (w .value)) ∙ length-set m (w .number) _
 
-pub inputs-not-before : (t : ℕ) (ws : List Write) (m : List Variable) → NotBefore t (dueOfVariables m) → NotBefore t (dueOfVariables (applyInputs ws m))
+pub inputs-not-before : (now t : ℕ) (ws : List Write) (m : List Variable) → NotBefore t (dueOfVariables m) → NotBefore t (dueOfVariables (applyInputs now ws m))
 unfolding applyInputs inputAt inputTo writtenTo variableAt
-inputs-not-before t [] m h = h
-inputs-not-before t (w ∷ ws) m h = inputs-not-before t ws (inputAt m (w .number) (w .value))
+inputs-not-before now t [] m h = h
+inputs-not-before now t (w ∷ ws) m h = inputs-not-before now t ws (inputAt now m (w .number) (w .value))
     (set-not-before t m (w .number) _ h (getD-not-before t m (w .number) h))
 
-input-append : (m own : List Variable) (a v : ℕ) → a < length m → inputAt m a v ++ own ≡ inputAt (m ++ own) a v
+input-append : (t : ℕ) (m own : List Variable) (a v : ℕ) → a < length m → inputAt t m a v ++ own ≡ inputAt t (m ++ own) a v
 unfolding inputAt inputTo writtenTo variableAt
-input-append m own a v h = rw (List·getD-append m own noVariable a h) (sym (set-append-left m own a _ h))
+input-append t m own a v h = rw (List·getD-append m own noVariable a h) (sym (set-append-left m own a _ h))
 
-pub inputs-append : (k least : ℕ) (ws : List Write) (m own : List Variable) → inputsRise k least ws ≡ true → k ≤ length m →
-    applyInputs ws m ++ own ≡ applyInputs ws (m ++ own)
+pub inputs-append : (t k least : ℕ) (ws : List Write) (m own : List Variable) → inputsRise k least ws ≡ true → k ≤ length m →
+    applyInputs t ws m ++ own ≡ applyInputs t ws (m ++ own)
 unfolding applyInputs inputsRise
-inputs-append k least [] m own e l = refl
-inputs-append k least (w ∷ ws) m own e l =
+inputs-append t k least [] m own e l = refl
+inputs-append t k least (w ∷ ws) m own e l =
     let rest = and-right (leb least (w .number)) _ e in
     let below : w .number < k = ltb-true (w .number) k (and-left (ltb (w .number) k) _ rest) in
-    let same = input-append m own (w .number) (w .value) (omega arith) in
-    inputs-append k (suc (w .number)) ws (inputAt m (w .number) (w .value)) own (and-right (ltb (w .number) k) _ rest)
-    (unfold inputAt in simp length-set l) ∙ ap (applyInputs ws) same
+    let same = input-append t m own (w .number) (w .value) (omega arith) in
+    inputs-append t k (suc (w .number)) ws (inputAt t m (w .number) (w .value)) own (and-right (ltb (w .number) k) _ rest)
+    (unfold inputAt in simp length-set l) ∙ ap (applyInputs t ws) same

@@ -92,22 +92,22 @@ module _ (g : Grower) (listing : Listing) where
     -- What the grower sees when its turn comes.
     shown-in-main : (f : Forest) (t : ℕ) (ws : List Write) (environment own : List Variable) → length environment ≡ size g →
         inputsRise (listing .inputs) 0 ws ≡ true →
-        trim g f (lent (args g) (applyInputs ws (dueWrites t environment) ++ dueWrites t own)) ≡
-        applyInputs (ownWrites (args g) ws) (dueWrites t (trim g f (lent (args g) (environment ++ own))))
+        trim g f (lent (args g) (applyInputs t ws (dueWrites t environment) ++ dueWrites t own)) ≡
+        applyInputs t (ownWrites (args g) ws) (dueWrites t (trim g f (lent (args g) (environment ++ own))))
     unfolding trim
     shown-in-main empty t ws environment own l rise =
         take-lent (args g) (size g) _ ∙
-        ap (lent (args g)) (take-at _ (dueWrites t own) (size g) (length-inputs ws _ ∙ length-dueWrites t environment ∙ l)) ∙
-        inputs-lent (args g) ws (dueWrites t environment) ∙
-        ap (applyInputs (ownWrites (args g) ws)) (due-lent (args g) t environment ∙
+        ap (lent (args g)) (take-at _ (dueWrites t own) (size g) (length-inputs t ws _ ∙ length-dueWrites t environment ∙ l)) ∙
+        inputs-lent (args g) t ws (dueWrites t environment) ∙
+        ap (applyInputs t (ownWrites (args g) ws)) (due-lent (args g) t environment ∙
         ap (dueWrites t) (ap (lent (args g)) (sym (take-at environment own (size g) l)) ∙ sym (take-lent (args g) (size g) (environment ++ own))))
     shown-in-main (more n f) t ws environment own l rise =
-        ap (lent (args g)) (inputs-append (listing .inputs) 0 ws (dueWrites t environment) (dueWrites t own) rise
-        (omega (arith, length-dueWrites t environment, inputs-fit)) ∙ ap (applyInputs ws) (sym (dueWrites-append t environment own))) ∙
-        inputs-lent (args g) ws (dueWrites t (environment ++ own)) ∙ ap (applyInputs (ownWrites (args g) ws)) (due-lent (args g) t (environment ++ own))
+        ap (lent (args g)) (inputs-append t (listing .inputs) 0 ws (dueWrites t environment) (dueWrites t own) rise
+        (omega (arith, length-dueWrites t environment, inputs-fit)) ∙ ap (applyInputs t ws) (sym (dueWrites-append t environment own))) ∙
+        inputs-lent (args g) t ws (dueWrites t (environment ++ own)) ∙ ap (applyInputs t (ownWrites (args g) ws)) (due-lent (args g) t (environment ++ own))
 
     module _ (s : State) (p : Part) (t : ℕ) (ws : List Write) (r : Running) (d : Done) (st : Standing g listing s p) (late : NotBefore t (nextDue s))
-        (memory : r .memory ≡ applyInputs ws (dueWrites t (s .environment))) where
+        (memory : r .memory ≡ applyInputs t ws (dueWrites t (s .environment))) where
       environment-late : NotBefore t (dueOfVariables (s .environment))
       unfolding nextDue
       environment-late = neither-before t (dueOfVariables (s .environment)) (dueOfForest (s .tree)) late .0
@@ -117,10 +117,10 @@ module _ (g : Grower) (listing : Listing) where
       tree-late = neither-before t (dueOfVariables (s .environment)) (dueOfForest (s .tree)) late .1
 
       memory-later : NotBefore (suc t) (dueOfVariables (r .memory))
-      memory-later = rw memory (inputs-not-before (suc t) ws _ (due-writes-leave-later t (s .environment) environment-late))
+      memory-later = rw memory (inputs-not-before t (suc t) ws _ (due-writes-leave-later t (s .environment) environment-late))
 
       memory-long : length (r .memory) ≡ size g
-      memory-long = ap length memory ∙ length-inputs ws _ ∙ length-dueWrites t (s .environment) ∙ st .sized
+      memory-long = ap length memory ∙ length-inputs t ws _ ∙ length-dueWrites t (s .environment) ∙ st .sized
 
       -- ── main has ended: due writes and inputs alone reach the environment's variables ───────────
       all-lent : take (size g) (lent (args g) (r .memory)) ≡ lent (args g) (r .memory)
@@ -137,8 +137,8 @@ module _ (g : Grower) (listing : Listing) where
         has = setting .has;
         s = r;
         a = nobody;
-        shown = trim-ended g listing (p .tree) _ no-tree ∙ all-lent ∙ ap (lent (args g)) memory ∙ inputs-lent (args g) ws _ ∙
-            ap (applyInputs (ownWrites (args g) ws)) (due-lent (args g) t (s .environment) ∙ ap (dueWrites t) (sym variables));
+        shown = trim-ended g listing (p .tree) _ no-tree ∙ all-lent ∙ ap (lent (args g)) memory ∙ inputs-lent (args g) t ws _ ∙
+            ap (applyInputs t (ownWrites (args g) ws)) (due-lent (args g) t (s .environment) ∙ ap (dueWrites t) (sym variables));
         whole = rw no-tree tt;
         later = memory-later;
         none-missed = both-not-before t _ _ (rw variables (later-lent (args g) t (s .environment) environment-late)) (rw no-tree nothing-due);
@@ -244,7 +244,7 @@ module _ (g : Grower) (listing : Listing) where
           a = all .b;
           shown = ap (trim g (p .tree)) (all .shown ∙ ap (λ m. lent (args g) (m ++ dueWrites t own)) memory) ∙
               shown-in-main (p .tree) t ws (s .environment) own (st .sized) rise ∙
-              ap (λ m. applyInputs (ownWrites (args g) ws) (dueWrites t m)) (sym variables);
+              ap (λ m. applyInputs t (ownWrites (args g) ws) (dueWrites t m)) (sym variables);
           whole = whole-of (p .tree) _ (all .long);
           later = all .later;
           none-missed = both-not-before t _ _ (rw variables (trim-not-before g listing t (p .tree) _

@@ -169,26 +169,26 @@ module _ (args : List ℕ) where
       go x hx false e = unfold shownIf in refl
 
   -- ── inputs ────────────────────────────────────────────────────────────────────────────────────
-  write-lent : (m : List Variable) (w : Write) (b : Bool) → among (w .number) args ≡ b →
-      lent args (inputAt m (w .number) (w .value)) ≡ applyInputs (writeIf b w []) (lent args m)
+  write-lent : (t : ℕ) (m : List Variable) (w : Write) (b : Bool) → among (w .number) args ≡ b →
+      lent args (inputAt t m (w .number) (w .value)) ≡ applyInputs t (writeIf b w []) (lent args m)
   unfolding inputAt inputTo writtenTo lent writeIf applyInputs shownIf
-  write-lent m w true e =
+  write-lent t m w true e =
       set-lentFrom 0 m (w .number) _ ∙ rw (zero-add (w .number), e, variable-lent m (w .number), e)
-  write-lent m w false e =
+  write-lent t m w false e =
       set-lentFrom 0 m (w .number) _ ∙ rw (zero-add (w .number), e) (ap (set (lentFrom args 0 m) (w .number)) (sym blank) ∙
       set-getD (lentFrom args 0 m) (w .number) noVariable)
     where
       blank : getD (lentFrom args 0 m) (w .number) noVariable ≡ noVariable
       blank = getD-lentFrom 0 m (w .number) ∙ rw (zero-add (w .number), e)
 
-  pub inputs-lent : (ws : List Write) (m : List Variable) → lent args (applyInputs ws m) ≡ applyInputs (ownWrites args ws) (lent args m)
+  pub inputs-lent : (t : ℕ) (ws : List Write) (m : List Variable) → lent args (applyInputs t ws m) ≡ applyInputs t (ownWrites args ws) (lent args m)
   unfolding applyInputs ownWrites
-  inputs-lent [] m = refl
-  inputs-lent (w ∷ ws) m = inputs-lent ws (inputAt m (w .number) (w .value)) ∙
-      ap (applyInputs (ownWrites args ws)) (write-lent m w (among (w .number) args) refl) ∙ go (among (w .number) args)
+  inputs-lent t [] m = refl
+  inputs-lent t (w ∷ ws) m = inputs-lent t ws (inputAt t m (w .number) (w .value)) ∙
+      ap (applyInputs t (ownWrites args ws)) (write-lent t m w (among (w .number) args) refl) ∙ go (among (w .number) args)
     where
-      go : (b : Bool) → applyInputs (ownWrites args ws) (applyInputs (writeIf b w []) (lent args m)) ≡
-          applyInputs (writeIf b w (ownWrites args ws)) (lent args m)
+      go : (b : Bool) → applyInputs t (ownWrites args ws) (applyInputs t (writeIf b w []) (lent args m)) ≡
+          applyInputs t (writeIf b w (ownWrites args ws)) (lent args m)
       go true = unfold writeIf in refl
       go false = unfold writeIf in refl
 

@@ -71,12 +71,12 @@ all-references zero (k ∷ kinds) l h = absurd (omega arith)
 all-references (suc size) (byReference ∷ kinds) l h = ap (λ ks. byReference ∷ ks) (all-references size kinds (omega arith) h)
 all-references (suc size) (byValue ∷ kinds) l h = false-is-not-true h
 
-pub main-owns : (size : ℕ) (arguments : List ℕ) (locals : ℕ) (name : ℕ → Variable) →
-    ownVariables (replicate size byReference) arguments locals name ≡ replicate locals (newVariable 0)
+pub main-owns : (now size : ℕ) (arguments : List ℕ) (locals : ℕ) (name : ℕ → Variable) →
+    ownVariables now (replicate size byReference) arguments locals name ≡ replicate locals (newVariable now 0)
 unfolding ownVariables
-main-owns zero arguments locals name = refl
-main-owns (suc size) [] locals name = main-owns size [] locals name
-main-owns (suc size) (n ∷ arguments) locals name = main-owns size arguments locals name
+main-owns now zero arguments locals name = refl
+main-owns now (suc size) [] locals name = main-owns now size [] locals name
+main-owns now (suc size) (n ∷ arguments) locals name = main-owns now size arguments locals name
 
 -- ── names apart ───────────────────────────────────────────────────────────────────────────────────
 or-left : (a b : Bool) → a ≡ true → a || b ≡ true

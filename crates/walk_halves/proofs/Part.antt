@@ -70,7 +70,7 @@ nextOf p = earlier (dueOfVariables (p .variables)) (dueOfForest (p .tree))
 
 -- What its variables are when its turn comes, with due writes made and inputs written.
 unfoldable pub seen : ℕ → List Write → Part → List Variable
-seen t i p = applyInputs i (dueWrites t (p .variables))
+seen t i p = applyInputs t i (dueWrites t (p .variables))
 
 module _ (g : Grower) where
   abbrev pub MineAsleep : Forest → Type 0

@@ -87,9 +87,9 @@ module _ (zone : Zone) where
   unfolding variableAt
   set-keeps m a v i = record { keep = λ x h o. getD-set-other m a x v _ (λ e. o (rw e i)) }
 
-  pub write-keeps : (m : List Variable) (a v : ℕ) → In a → Kept m (writeAt m a v)
+  pub write-keeps : (now : ℕ) (m : List Variable) (a v : ℕ) → In a → Kept m (writeAt now m a v)
   unfolding writeAt
-  write-keeps m a v i = set-keeps m a _ i
+  write-keeps now m a v i = set-keeps m a _ i
 
   pub schedule-keeps : (m : List Variable) (a t v : ℕ) → In a → Kept m (scheduleAt m a t v)
   unfolding scheduleAt
@@ -165,9 +165,9 @@ module _ (zone : Zone) where
     pub named-same : (m m′ : List Variable) (names : List ℕ) → Alike m m′ → Leads names → namedIn m names ≡ namedIn m′ names
     named-same m m′ names g h = fun-ext λ n. g .shown (addressOf names n) (h .to n)
 
-    pub evaluate-same : (m m′ : List Variable) (names : List ℕ) → Alike m m′ → Leads names → (e : List Piece) → evaluate m names e ≡ evaluate m′ names e
+    pub evaluate-same : (m m′ : List Variable) (names : List ℕ) → Alike m m′ → Leads names → (e : List Piece) → evaluate now m names e ≡ evaluate now m′ names e
     unfolding evaluate
-    evaluate-same m m′ names g h e = ap (λ (name : ℕ → Variable). evaluateBy name e) (named-same m m′ names g h)
+    evaluate-same m m′ names g h e = ap (λ (name : ℕ → Variable). evaluateBy now name e) (named-same m m′ names g h)
 
     pub anyWritten-same : (m m′ : List Variable) (names : List ℕ) → Alike m m′ → Leads names → (ns : List ℕ) →
         anyWritten m names ns ≡ anyWritten m′ names ns
@@ -176,7 +176,7 @@ module _ (zone : Zone) where
     anyWritten-same m m′ names g h (n ∷ ns) = rw (g .shown (addressOf names n) (h .to n), anyWritten-same m m′ names g h ns)
 
     -- ── writes and waiting writes ─────────────────────────────────────────────────────────────────
-    pub write-alike : (m m′ : List Variable) (a v v′ : ℕ) → In a → Alike m m′ → v ≡ v′ → Alike (writeAt m a v) (writeAt m′ a v′)
+    pub write-alike : (m m′ : List Variable) (a v v′ : ℕ) → In a → Alike m m′ → v ≡ v′ → Alike (writeAt now m a v) (writeAt now m′ a v′)
     unfolding writeAt variableAt writtenTo
     write-alike m m′ a v v′ h g e = set-alike m m′ a _ _ g (rw (e, g .shown a h)) (getD-not-before (suc now) m a (g .later))
 
@@ -194,7 +194,7 @@ module _ (zone : Zone) where
 
     -- ── new routines ──────────────────────────────────────────────────────────────────────────────
     pub own-later : (kinds : List Kind) (arguments : List ℕ) (locals : ℕ) (name : ℕ → Variable) →
-        NotBefore (suc now) (dueOfVariables (ownVariables kinds arguments locals name))
+        NotBefore (suc now) (dueOfVariables (ownVariables now kinds arguments locals name))
     unfolding ownVariables dueOfVariables dueOf newVariable earlier
     own-later [] arguments zero name = nothing-due
     own-later [] arguments (suc locals) name = own-later [] arguments locals name

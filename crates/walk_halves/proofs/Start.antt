@@ -36,7 +36,7 @@ record Forks (listing : Listing) (growers : List Call) (names : List ℕ) (base 
   s : Running
   memory : s .memory ≡ m
   y : Turn
-  turns : inTurn (begin (run listing 0 bound) 1) (newRoutines listing m names growers) s ≡ ok y
+  turns : inTurn (begin (run listing 0 bound) 1) (newRoutines listing 0 m names growers) s ≡ ok y
   rests : MainRests names base y x
 
 module _ (listing : Listing) (growers : List Call) (names : List ℕ) (base : ℕ) (at-fork : instructionAt listing 0 0 ≡ fork growers)
@@ -49,7 +49,7 @@ module _ (listing : Listing) (growers : List Call) (names : List ℕ) (base : �
   forks-with bound true false s z e = stop-is-not-ok e
   forks-with bound true true s z e =
       let u : Running = withLive s (s .live + childCount growers) in
-      let q = in-sequence (inTurn (begin (run listing 0 bound) 1) (newRoutines listing (s .memory) names growers) u) _ z e in
+      let q = in-sequence (inTurn (begin (run listing 0 bound) 1) (newRoutines listing 0 (s .memory) names growers) u) _ z e in
       record {
         bound = bound;
         s = u;
@@ -78,21 +78,21 @@ module _ (listing : Listing) (growers : List Call) (names : List ℕ) (base : �
 
 -- Main's memory at the start, and that nothing is due in it.
 unfoldable pub newMemory : ℕ → ℕ → List Variable
-newMemory size locals = replicate size (newVariable 0) ++ replicate locals (newVariable 0)
+newMemory size locals = replicate size (newVariable 0 0) ++ replicate locals (newVariable 0 0)
 
 length-new : (size locals : ℕ) → length (newMemory size locals) ≡ size + locals
 unfolding newMemory
-length-new size locals = length-append (replicate size (newVariable 0)) (replicate locals (newVariable 0)) ∙
-    ap₂ _+_ (length-replicate size (newVariable 0)) (length-replicate locals (newVariable 0))
+length-new size locals = length-append (replicate size (newVariable 0 0)) (replicate locals (newVariable 0 0)) ∙
+    ap₂ _+_ (length-replicate size (newVariable 0 0)) (length-replicate locals (newVariable 0 0))
 
-fresh-later : (n t : ℕ) → NotBefore t (dueOfVariables (replicate n (newVariable 0)))
+fresh-later : (n t : ℕ) → NotBefore t (dueOfVariables (replicate n (newVariable 0 0)))
 unfolding dueOfVariables dueOf noVariable newVariable earlier
 fresh-later zero t = nothing-due
 fresh-later (suc n) t = fresh-later n t
 
 new-later : (size locals t : ℕ) → NotBefore t (dueOfVariables (newMemory size locals))
 unfolding newMemory
-new-later size locals t = append-not-before t (replicate size (newVariable 0)) (replicate locals (newVariable 0)) (fresh-later size t) (fresh-later locals t)
+new-later size locals t = append-not-before t (replicate size (newVariable 0 0)) (replicate locals (newVariable 0 0)) (fresh-later size t) (fresh-later locals t)
 
 -- ── the start on a listing whose main is as stated ────────────────────────────────────────────────
 record Starts (listing : Listing) (growers : List Call) (size locals : ℕ) (d : Done) : Type 0 where
@@ -102,8 +102,8 @@ record Starts (listing : Listing) (growers : List Call) (size locals : ℕ) (d :
 
 begin-main : (listing : Listing) (go : Runner) (kinds : List Kind) (passed arguments : List ℕ) (size locals : ℕ) (name : ℕ → Variable)
     (s : Running) → kinds ≡ replicate size byReference →
-    passed ≡ addressesOf (consecutive size 0) (consecutive size 0) → s .memory ≡ replicate size (newVariable 0) →
-    begin go 0 (node 0 0 (bindNames kinds passed locals (length (s .memory))) (ownVariables kinds arguments locals name) empty) s ≡
+    passed ≡ addressesOf (consecutive size 0) (consecutive size 0) → s .memory ≡ replicate size (newVariable 0 0) →
+    begin go 0 (node 0 0 (bindNames kinds passed locals (length (s .memory))) (ownVariables 0 kinds arguments locals name) empty) s ≡
     go (frame 0 0 0 (consecutive (size + locals) 0) size) (withMemory s (newMemory size locals))
 unfolding begin enter newMemory
 begin-main listing go kinds passed arguments size locals name s k p m =
@@ -111,9 +111,9 @@ begin-main listing go kinds passed arguments size locals name s k p m =
       k,
       p,
       m,
-      length-replicate size (newVariable 0),
+      length-replicate size (newVariable 0 0),
       main-bound size locals,
-      main-owns size arguments locals name,
+      main-owns 0 size arguments locals name,
     )
 
 starts : (listing : Listing) (growers : List Call) (allowance : ℕ) (d : Done) → instructionAt listing 0 0 ≡ fork growers →
@@ -124,7 +124,7 @@ unfolding start newRoutine mainCall environmentNames
 starts listing growers allowance d at-fork then-ends kinds e =
     let size = environmentSize listing in
     let r : Running = atStart listing allowance in
-    let q = in-sequence (begin (run listing 0 allowance) 0 (newRoutine listing (replicate size (newVariable 0)) (environmentNames listing)
+    let q = in-sequence (begin (run listing 0 allowance) 0 (newRoutine listing 0 (replicate size (newVariable 0 0)) (environmentNames listing)
     (mainCall listing)) r) _ d e in
     let began = begin-main listing (run listing 0 allowance) ((routineAt listing 0) .kinds) _ _ size ((routineAt listing 0) .locals) _ r kinds refl refl in
     record {
@@ -135,11 +135,11 @@ starts listing growers allowance d at-fork then-ends kinds e =
 
 -- ── the new children ──────────────────────────────────────────────────────────────────────────────
 new-both : (listing : Listing) (m : List Variable) (names : List ℕ) (before : List Call) (c : Call) (after : List Call) →
-    newRoutines listing m names (before ++ c ∷ after) ≡
-    newRoutines listing m names before ⊕ (newRoutines listing m names (c ∷ []) ⊕ newRoutines listing m names after)
+    newRoutines listing 0 m names (before ++ c ∷ after) ≡
+    newRoutines listing 0 m names before ⊕ (newRoutines listing 0 m names (c ∷ []) ⊕ newRoutines listing 0 m names after)
 unfolding newRoutines _⊕_
 new-both listing m names [] c after = refl
-new-both listing m names (d ∷ before) c after = ap (more (newRoutine listing m names d)) (new-both listing m names before c after)
+new-both listing m names (d ∷ before) c after = ap (more (newRoutine listing 0 m names d)) (new-both listing m names before c after)
 
 -- Main's names, and its memory when it forks.
 abbrev pub mainNames : Grower → List ℕ
@@ -150,7 +150,7 @@ mainMemory g = newMemory (size g) ((routineAt (g .model) 0) .locals)
 
 -- The routine that the grower's field makes.
 abbrev pub child : Grower → Listing → Forest
-child g listing = newRoutines listing (mainMemory g) (mainNames g) (g .field ∷ [])
+child g listing = newRoutines listing 0 (mainMemory g) (mainNames g) (g .field ∷ [])
 
 module _ (g : Grower) (listing : Listing) where
   long-new : length (mainMemory g) ≡ floor g
@@ -177,7 +177,7 @@ module _ (g : Grower) (listing : Listing) where
       more-new (is-new its-own (bound-leads (mine g) _ _ _ (length (mainMemory g)) passed (omega (arith, long-new)))
       (own-later (mine g) 0 _ _ _ _)) none-new
 
-  theirs-new : (ds : List Call) → Aside (args g) ds → AllNew (theirs g) (anyone listing) 0 (newRoutines listing (mainMemory g) (mainNames g) ds)
+  theirs-new : (ds : List Call) → Aside (args g) ds → AllNew (theirs g) (anyone listing) 0 (newRoutines listing 0 (mainMemory g) (mainNames g) ds)
   unfolding newRoutines newRoutine
   theirs-new _ none-aside = none-new
   theirs-new _ (one-aside {d = d} {cs = ds} h k) =
@@ -202,10 +202,10 @@ module _ (g : Grower) (listing : Listing) where
 
   module _ (has : Has (its g) listing) where
     all-turns : (before after : List Call) → Apart (g .field) before after → (bound : ℕ) (s : Running) (y : Turn) → s .memory ≡ mainMemory g →
-        inTurn (begin (run listing 0 bound) 1) (newRoutines listing (mainMemory g) (mainNames g) (before ++ g .field ∷ after)) s ≡ ok y →
+        inTurn (begin (run listing 0 bound) 1) (newRoutines listing 0 (mainMemory g) (mainNames g) (before ++ g .field ∷ after)) s ≡ ok y →
         Children g listing 0 (begin (run listing 0 bound) 1) (child g listing) (s .memory) y
     all-turns before after apart bound s y m e =
-        let new = newRoutines listing (mainMemory g) (mainNames g) in
+        let new = newRoutines listing 0 (mainMemory g) (mainNames g) in
         let long : length (s .memory) ≡ floor g = ap length m ∙ long-new in
         let later : NotBefore 1 (dueOfVariables (s .memory)) = rw m (new-later (size g) ((routineAt (g .model) 0) .locals) 1) in
         let their-turn = begun-alone (theirs g) (anyone listing) 0 listing (λ x i. refl) bound in

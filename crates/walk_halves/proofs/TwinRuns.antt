@@ -60,7 +60,7 @@ module _ (zone : Zone) (code : Code) (now : ℕ) where
 
   module _ (listing listing′ : Listing) (has : Has code listing) (has′ : Has code listing′) where
     children-new : (m : List Variable) (names : List ℕ) (cs : List Call) → Leads names → floor ≤ length m → AllIts Its cs →
-        AllNew (newRoutines listing m names cs)
+        AllNew (newRoutines listing now m names cs)
     unfolding newRoutines newRoutine
     children-new m names _ h l no-child = none-new
     children-new m names _ h l (one-child {c = c} {cs = cs} i k) =
@@ -68,7 +68,7 @@ module _ (zone : Zone) (code : Code) (now : ℕ) where
         (children-new m names cs h l k)
 
     children-same : (m m′ : List Variable) (names : List ℕ) (cs : List Call) → Alike m m′ → Leads names → AllIts Its cs →
-        newRoutines listing m names cs ≡ newRoutines listing′ m′ names cs
+        newRoutines listing now m names cs ≡ newRoutines listing′ now m′ names cs
     unfolding newRoutines newRoutine
     children-same m m′ names _ g h no-child = refl
     children-same m m′ names _ g h (one-child {c = c} {cs = cs} i k) =
@@ -109,7 +109,7 @@ module _ (zone : Zone) (code : Code) (now : ℕ) where
           both-then {R = Ends (length (s .memory)) (s .memory)} _ _ _ _
           (rw (← (children-same (s .memory) (s′ .memory) (me .names) cs (p .alike) (p .leads) its))
           (inTurn-twins zone code now (begin go (suc (me .level))) (begin go′ (suc (me .level))) (begin-twins zone code now go go′ h (suc (me .level)))
-          (newRoutines listing (s .memory) (me .names) cs) _ _
+          (newRoutines listing now (s .memory) (me .names) cs) _ _
           (children-new (s .memory) (me .names) cs (p .leads) high its) high (p .alike)))
           λ a a′ e. rw (← (e .tree)) (from-before zone code now _ _ _ _ _ (e .kept)
           (join-twins zone code now go go′ h me cs (a .tree) (a .running) (a′ .running)
@@ -132,7 +132,7 @@ module _ (zone : Zone) (code : Code) (now : ℕ) where
           asking-paired 17 y y _ _ (both-go (length-set (s .memory) a _) (schedule-keeps zone (s .memory) a (now + d) v i)
           (schedule-alike zone now (s .memory) (s′ .memory) a d v e i (p .alike)))
 
-      same-value : (e : List Piece) → evaluate (s .memory) (me .names) e ≡ evaluate (s′ .memory) (me .names) e
+      same-value : (e : List Piece) → evaluate now (s .memory) (me .names) e ≡ evaluate now (s′ .memory) (me .names) e
       same-value e = evaluate-same zone now (s .memory) (s′ .memory) (me .names) (p .alike) (p .leads) e
 
       move-paired : (i : Instruction) → instructionOf model me ≡ i →
@@ -140,11 +140,11 @@ module _ (zone : Zone) (code : Code) (now : ℕ) where
       unfolding move writeAt
       move-paired (assign n e) i =
           both-go (length-set (s .memory) _ _)
-          (write-keeps zone (s .memory) (addressOf (me .names) n) (evaluate (s .memory) (me .names) e) (p .leads .to n))
+          (write-keeps zone now (s .memory) (addressOf (me .names) n) (evaluate now (s .memory) (me .names) e) (p .leads .to n))
           (write-alike zone now (s .memory) (s′ .memory) (addressOf (me .names) n) _ _ (p .leads .to n) (p .alike) (same-value e))
       move-paired (schedule n d e) i =
-          rw (same-value d, same-value e) (schedule-paired (suc (me .place)) (addressOf (me .names) n) (evaluate (s′ .memory) (me .names) d)
-          (evaluate (s′ .memory) (me .names) e) _ refl _ (p .leads .to n))
+          rw (same-value d, same-value e) (schedule-paired (suc (me .place)) (addressOf (me .names) n) (evaluate now (s′ .memory) (me .names) d)
+          (evaluate now (s′ .memory) (me .names) e) _ refl _ (p .leads .to n))
       move-paired (branch e k) i = rw (same-value e) (both-go refl (kept-refl zone) (p .alike))
       move-paired (jump k) i = both-go refl (kept-refl zone) (p .alike)
       move-paired (wait ns) i = both-sleep i

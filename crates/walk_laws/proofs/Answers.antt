@@ -93,7 +93,7 @@ module _ (listing : Listing) (now : ℕ) where
     carryOut-answers _ (goes-on {k = k}) me s = answers (goTo me k) _
     carryOut-answers _ falls-asleep me s = sleep-answers me empty s
     carryOut-answers _ (makes-children {cs = cs}) me s =
-        then-answers _ (in-turn-answers go answers (suc (me .level)) (newRoutines listing (s .memory) (me .names) cs) _) λ a.
+        then-answers _ (in-turn-answers go answers (suc (me .level)) (newRoutines listing now (s .memory) (me .names) cs) _) λ a.
         join-answers go answers me (a .tree) (a .running)
     carryOut-answers _ comes-to-an-end me s = done
     carryOut-answers _ (asked k e) me s = stopped k e

@@ -52,7 +52,7 @@ set-steady now (y ∷ xs) zero x h k = rw (k, and-right (steady now y) _ h)
 set-steady now (y ∷ xs) (suc a) x h k = rw (and-left (steady now y) _ h, set-steady now xs a x (and-right (steady now y) _ h) k)
 
 -- ── one variable ──────────────────────────────────────────────────────────────────────────────────
-fresh-steady : (now v : ℕ) → v < 4294967296 → steady now (newVariable v) ≡ true
+fresh-steady : (now v : ℕ) → v < 4294967296 → steady now (newVariable now v) ≡ true
 unfolding steady noVariable newVariable dueAfter
 fresh-steady now v h = rw (lt-ltb _ _ h)
 
@@ -75,11 +75,11 @@ unfolding steady
 waiting-is-later now xs a h = and-right (ltb ((variableAt xs a) .value) 4294967296) _ (variable-steady now xs a h)
 
 -- ── writes and waiting writes ─────────────────────────────────────────────────────────────────────
-pub write-steady : (now : ℕ) (xs : List Variable) (a v : ℕ) → allSteady now xs ≡ true → v < 4294967296 → allSteady now (writeAt xs a v) ≡ true
+pub write-steady : (now : ℕ) (xs : List Variable) (a v : ℕ) → allSteady now xs ≡ true → v < 4294967296 → allSteady now (writeAt now xs a v) ≡ true
 unfolding writeAt steady writtenTo
 write-steady now xs a v h l = set-steady now xs a _ h (rw (lt-ltb _ _ l, waiting-is-later now xs a h))
 
-pub input-steady : (now : ℕ) (xs : List Variable) (a v : ℕ) → allSteady now xs ≡ true → v < 4294967296 → allSteady now (inputAt xs a v) ≡ true
+pub input-steady : (now : ℕ) (xs : List Variable) (a v : ℕ) → allSteady now xs ≡ true → v < 4294967296 → allSteady now (inputAt now xs a v) ≡ true
 unfolding inputAt inputTo writtenTo steady
 input-steady now xs a v h l = set-steady now xs a _ h (rw (lt-ltb _ _ l, waiting-is-later now xs a h))
 
@@ -104,13 +104,13 @@ length-unmarked [] = refl
 length-unmarked (x ∷ xs) = ap suc (length-unmarked xs)
 
 -- ── what a new routine owns ───────────────────────────────────────────────────────────────────────
-pub replicate-steady : (now n : ℕ) → allSteady now (replicate n (newVariable 0)) ≡ true
+pub replicate-steady : (now n : ℕ) → allSteady now (replicate n (newVariable now 0)) ≡ true
 unfolding allSteady
 replicate-steady now zero = refl
 replicate-steady now (suc n) = rw (fresh-steady now 0 (omega arith), replicate-steady now n)
 
 pub own-steady : (now : ℕ) (kinds : List Kind) (arguments : List ℕ) (locals : ℕ) (name : ℕ → Variable) → ((n : ℕ) → (name n) .value < 4294967296) →
-    allSteady now (ownVariables kinds arguments locals name) ≡ true
+    allSteady now (ownVariables now kinds arguments locals name) ≡ true
 unfolding ownVariables allSteady
 own-steady now [] arguments locals name h = replicate-steady now locals
 own-steady now (byReference ∷ kinds) [] locals name h = own-steady now kinds [] locals name h
@@ -119,14 +119,14 @@ own-steady now (byValue ∷ kinds) [] locals name h = rw (fresh-steady now 0 (om
 own-steady now (byValue ∷ kinds) (n ∷ arguments) locals name h =
     rw (fresh-steady now ((name n) .value) (h n), own-steady now kinds arguments locals name h)
 
-pub length-own : (kinds : List Kind) (arguments : List ℕ) (locals : ℕ) (name : ℕ → Variable) →
-    length (ownVariables kinds arguments locals name) ≡ ownedCount kinds locals
+pub length-own : (now : ℕ) (kinds : List Kind) (arguments : List ℕ) (locals : ℕ) (name : ℕ → Variable) →
+    length (ownVariables now kinds arguments locals name) ≡ ownedCount kinds locals
 unfolding ownVariables ownedCount
-length-own [] arguments locals name = length-replicate locals (newVariable 0)
-length-own (byReference ∷ kinds) [] locals name = length-own kinds [] locals name
-length-own (byReference ∷ kinds) (n ∷ arguments) locals name = length-own kinds arguments locals name
-length-own (byValue ∷ kinds) [] locals name = ap suc (length-own kinds [] locals name)
-length-own (byValue ∷ kinds) (n ∷ arguments) locals name = ap suc (length-own kinds arguments locals name)
+length-own now [] arguments locals name = length-replicate locals (newVariable now 0)
+length-own now (byReference ∷ kinds) [] locals name = length-own now kinds [] locals name
+length-own now (byReference ∷ kinds) (n ∷ arguments) locals name = length-own now kinds arguments locals name
+length-own now (byValue ∷ kinds) [] locals name = ap suc (length-own now kinds [] locals name)
+length-own now (byValue ∷ kinds) (n ∷ arguments) locals name = ap suc (length-own now kinds arguments locals name)
 
 -- ── literals: "`#v` (a signed 32-bit literal)" ────────────────────────────────────────────────────
 unfoldable pub pieceInWords : Piece → Bool
@@ -170,8 +170,8 @@ operate-holds-words f h _ no-word = no-word
 operate-holds-words f h _ (word l no-word) = no-word
 operate-holds-words f h _ (word l (word m rest)) = word (h _ _) rest
 
-module _ (name : ℕ → Variable) (words : (n : ℕ) → (name n) .value < 4294967296) where
-  piece-holds-words : (p : Piece) (held : List ℕ) → pieceInWords p ≡ true → Words held → Words (evaluatePiece name p held)
+module _ (now : ℕ) (name : ℕ → Variable) (words : (n : ℕ) → (name n) .value < 4294967296) where
+  piece-holds-words : (p : Piece) (held : List ℕ) → pieceInWords p ≡ true → Words held → Words (evaluatePiece now name p held)
   unfolding evaluatePiece pieceInWords
   piece-holds-words (literal v) held l rest = word (ltb-true _ _ l) rest
   piece-holds-words (valueOf n) held l rest = word (words n) rest
@@ -181,7 +181,7 @@ module _ (name : ℕ → Variable) (words : (n : ℕ) → (name n) .value < 4294
   piece-holds-words times held l rest = operate-holds-words wrappingMultiply (λ x y. mod-lt (x * y) (omega arith)) held rest
   piece-holds-words less held l rest = operate-holds-words (λ x y. bit (signedLess x y)) (λ x y. bit-is-word (signedLess x y)) held rest
 
-  pieces-hold-words : (e : List Piece) (held : List ℕ) → expressionInWords e ≡ true → Words held → Words (evaluatePieces name e held)
+  pieces-hold-words : (e : List Piece) (held : List ℕ) → expressionInWords e ≡ true → Words held → Words (evaluatePieces now name e held)
   unfolding evaluatePieces expressionInWords
   pieces-hold-words [] held l rest = rest
   pieces-hold-words (p ∷ ps) held l rest =
@@ -193,7 +193,7 @@ top-is-word _ no-word = omega arith
 top-is-word _ (word l rest) = l
 
 pub evaluate-gives-word : (now : ℕ) (xs : List Variable) (names : List ℕ) (e : List Piece) → allSteady now xs ≡ true → expressionInWords e ≡ true →
-    evaluate xs names e < 4294967296
+    evaluate now xs names e < 4294967296
 unfolding evaluate evaluateBy
 evaluate-gives-word now xs names e h l =
-    top-is-word _ (pieces-hold-words (namedIn xs names) (λ n. value-is-word now xs (addressOf names n) h) e [] l no-word)
+    top-is-word _ (pieces-hold-words now (namedIn xs names) (λ n. value-is-word now xs (addressOf names n) h) e [] l no-word)

@@ -113,19 +113,19 @@ module _ (listing : Listing) (now : ℕ) where
     -- ── new routines ──────────────────────────────────────────────────────────────────────────────
     pub begin-keeps : (level base : ℕ) (callerNames : List ℕ) (c : Call) (memory : List Variable) (s : Running) →
         length memory ≡ base → allSteady now memory ≡ true → InOrder now base s →
-        IfOk (Leaves now base (AsleepOrGone listing now level base callerNames c)) (begin go level (newRoutine listing memory callerNames c) s)
+        IfOk (Leaves now base (AsleepOrGone listing now level base callerNames c)) (begin go level (newRoutine listing now memory callerNames c) s)
     unfolding begin newRoutine boundNames ownedBy
     begin-keeps level base callerNames c memory s e k h =
         let called = routineAt listing (c .callee) in
         let name = namedIn memory callerNames in
-        let own = ownVariables (called .kinds) (c .arguments) (called .locals) name in
+        let own = ownVariables now (called .kinds) (c .arguments) (called .locals) name in
         rw (e, h .long) (keeps level base callerNames c 0 (enter own s)
-        (rw (length-own (called .kinds) _ (called .locals) name) at
+        (rw (length-own now (called .kinds) _ (called .locals) name) at
         (into-reach now base own s h (own-steady now (called .kinds) _ (called .locals) name (λ n. value-is-word now memory _ k)))))
 
     children-keep : (level base : ℕ) (callerNames : List ℕ) (cs : List Call) (memory : List Variable) (s : Running) →
         length memory ≡ base → allSteady now memory ≡ true → InOrder now base s →
-        IfOk (Leaves now base (LiveChildren listing (allSteady now) level base callerNames cs)) (inTurn (begin go level) (newRoutines listing memory callerNames cs) s)
+        IfOk (Leaves now base (LiveChildren listing (allSteady now) level base callerNames cs)) (inTurn (begin go level) (newRoutines listing now memory callerNames cs) s)
     unfolding inTurn newRoutines
     children-keep level base callerNames [] memory s e k h = answered (record { order = h; left = no-more })
     children-keep level base callerNames (c ∷ cs) memory s e k h =
@@ -181,7 +181,7 @@ module _ (listing : Listing) (now : ℕ) where
           goes-on (length-set (s .memory) _ _) (write-steady now (s .memory) _ _ (h .steadied) (evaluate-gives-word now (s .memory) _ e (h .steadied) l))
       move-orderly (schedule n d e) l i =
           let names = boundNames listing base callerNames c in
-          schedule-orderly (suc place) (addressOf names n) (evaluate (s .memory) names d) (evaluate (s .memory) names e) _ _ refl refl
+          schedule-orderly (suc place) (addressOf names n) (evaluate now (s .memory) names d) (evaluate now (s .memory) names e) _ _ refl refl
           (evaluate-gives-word now (s .memory) names e (h .steadied) (and-right (expressionInWords d) _ l))
       move-orderly (branch e k) l i = goes-on refl (h .steadied)
       move-orderly (jump k) l i = goes-on refl (h .steadied)

@@ -53,11 +53,11 @@ both-count others a b h = record { counted = rw (live-in-both (a .tree) (b .tree
 module _ (listing : Listing) (now : ℕ) where
   module _ (go : Runner) (counts : CountsRoutine go) where
     children-count : (level : ℕ) (memory : List Variable) (names : List ℕ) (cs : List Call) (s : Running) (others : ℕ) → s .live ≡ others + childCount cs →
-        IfOk (Counted others) (inTurn (begin go level) (newRoutines listing memory names cs) s)
+        IfOk (Counted others) (inTurn (begin go level) (newRoutines listing now memory names cs) s)
     unfolding inTurn newRoutines childCount liveInForest
     children-count level memory names [] s others e = answered (record { counted = e })
     children-count level memory names (c ∷ cs) s others e =
-        then-if-ok _ (begin-counts go counts level (newRoutine listing memory names c) s (others + childCount cs) (omega arith)) λ a h.
+        then-if-ok _ (begin-counts go counts level (newRoutine listing now memory names c) s (others + childCount cs) (omega arith)) λ a h.
         then-if-ok _ (children-count level memory names cs (a .running) (others + liveInForest (a .tree)) (omega arith)) λ b k.
         answered (both-count others a b k)
 

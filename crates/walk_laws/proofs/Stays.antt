@@ -30,12 +30,12 @@ unfoldable pub valuesAreWords : List Write → Bool
 valuesAreWords [] = true
 valuesAreWords (w ∷ ws) = ltb (w .value) 4294967296 && valuesAreWords ws
 
-length-applyInputs : (ws : List Write) (xs : List Variable) → length (applyInputs ws xs) ≡ length xs
+length-applyInputs : (t : ℕ) (ws : List Write) (xs : List Variable) → length (applyInputs t ws xs) ≡ length xs
 unfolding applyInputs writeAt inputAt
-length-applyInputs [] xs = refl
-length-applyInputs (w ∷ ws) xs = length-applyInputs ws _ ∙ length-set xs _ _
+length-applyInputs t [] xs = refl
+length-applyInputs t (w ∷ ws) xs = length-applyInputs t ws _ ∙ length-set xs _ _
 
-inputs-steady : (t : ℕ) (ws : List Write) (xs : List Variable) → valuesAreWords ws ≡ true → allSteady t xs ≡ true → allSteady t (applyInputs ws xs) ≡ true
+inputs-steady : (t : ℕ) (ws : List Write) (xs : List Variable) → valuesAreWords ws ≡ true → allSteady t xs ≡ true → allSteady t (applyInputs t ws xs) ≡ true
 unfolding applyInputs valuesAreWords
 inputs-steady t [] xs l h = h
 inputs-steady t (w ∷ ws) xs l h =
@@ -81,7 +81,7 @@ turn-at-start-keeps : (listing : Listing) (allowance : ℕ) → LiteralsAreWords
     IfOk (Leaves 0 (environmentSize listing) (OnlyMain listing 0 (environmentSize listing))) (startTurn listing allowance)
 turn-at-start-keeps listing allowance words =
     let size = environmentSize listing in
-    let long = length-replicate size (newVariable 0) in
+    let long = length-replicate size (newVariable 0 0) in
     let rest = replicate-steady 0 size in
     let one : 1 ≤ 64 = omega arith in
     let keeps = begin-keeps listing 0 (run listing 0 allowance) (run-keeps listing 0 words allowance) 0 size (environmentNames listing) (mainCall listing) in
@@ -95,7 +95,7 @@ unfolding nextDue
 turn-at-instant-keeps listing s t inputs allowance words h late inputWords =
     let (p, q) = neither-due-before t (dueOfVariables (s .environment)) (dueOfForest (s .tree)) late in
     let made = dueWrites t (s .environment) in
-    let long = length-applyInputs inputs made ∙ length-dueWrites t (s .environment) in
+    let long = length-applyInputs t inputs made ∙ length-dueWrites t (s .environment) in
     let rest = inputs-steady t inputs made inputWords (due-writes-steady (s .now) t (s .environment) (h .resting) p) in
     let room : liveInForest (dueInForest (s .tree) t) ≤ 64 = rw (due-writes-keep-live (s .tree) t) (h .few) in
     let steadied =

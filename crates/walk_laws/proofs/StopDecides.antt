@@ -31,7 +31,7 @@ module _ (listing : Listing) (now k : ℕ) where
   first-no-stops _ me s _ (too-deep l m d) at = full-takes-step listing now me s l ∙ rw (at, le-leb _ 64 m, lt-leb _ 9 d)
   first-no-stops _ me s _ (no-delay l d) at = full-takes-step listing now me s l ∙ rw (at, d)
   first-no-stops _ me s _ (too-late {d = d} l p m) at =
-      full-takes-step listing now me s l ∙ rw (at, p, le-ltb (now + evaluate (s .memory) (me .names) d) momentRange m)
+      full-takes-step listing now me s l ∙ rw (at, p, le-ltb (now + evaluate now (s .memory) (me .names) d) momentRange m)
 
   leads-on : (me : Frame) (s : Running) (to : ℕ) (memory : List Variable) → 1 ≤ s .left →
       move now (instructionOf listing me) me (s .live) (s .memory) ≡ goesTo to memory →
@@ -41,7 +41,7 @@ module _ (listing : Listing) (now k : ℕ) where
 
   fork-runs-children : (me : Frame) (s : Running) (cs : List Call) → Forks listing me s cs →
       fullRun listing now me s ≡
-      (inTurn (begin (fullRun listing now) (suc (me .level))) (newRoutines listing (s .memory) (me .names) cs) (forked cs s) >>= λ (a : Turn).
+      (inTurn (begin (fullRun listing now) (suc (me .level))) (newRoutines listing now (s .memory) (me .names) cs) (forked cs s) >>= λ (a : Turn).
       join (fullRun listing now) me (a .tree) (a .running))
   unfolding execute move asking carryOut
   fork-runs-children me s cs f =

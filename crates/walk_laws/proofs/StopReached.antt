@@ -89,7 +89,7 @@ module _ (listing : Listing) (now k : ℕ) where
       goes-on to memory leads e = onward step leads (caused (goTo me to) (withMemory (stepTaken s) memory) (omega arith) e)
 
       join-caused : (cs : List Call) (a : Turn) → Forks listing me s cs →
-          inTurn (begin (fullRun listing now) (suc (me .level))) (newRoutines listing (s .memory) (me .names) cs) (forked cs s) ≡ ok a →
+          inTurn (begin (fullRun listing now) (suc (me .level))) (newRoutines listing now (s .memory) (me .names) cs) (forked cs s) ≡ ok a →
           (t : Forest) → a .tree ≡ t → join (fullRun listing now) me t (a .running) ≡ stop k → Reaches me s
       unfolding join sleep
       join-caused cs a f e empty t g =
@@ -102,7 +102,7 @@ module _ (listing : Listing) (now k : ℕ) where
       unfolding carryOut
       children-caused cs f e = by-children (then-stops k _ _ e)
         where
-          by-children : ThenStops k (inTurn (begin (fullRun listing now) (suc (me .level))) (newRoutines listing (s .memory) (me .names) cs) (forked cs s))
+          by-children : ThenStops k (inTurn (begin (fullRun listing now) (suc (me .level))) (newRoutines listing now (s .memory) (me .names) cs) (forked cs s))
               (λ (a : Turn). join (fullRun listing now) me (a .tree) (a .running)) → Reaches me s
           by-children (at-once g) = in-child f (new-caused (suc (me .level)) _ (forked cs s) (omega arith) g)
           by-children (afterwards a g h) = join-caused cs a f g (a .tree) refl h
@@ -117,7 +117,7 @@ module _ (listing : Listing) (now k : ℕ) where
           children-caused cs (record { at = i; step = step; room = leb-true _ 64 x; shallow = leb-true (me .level) 9 y }) e
 
       schedule-caused : (n : ℕ) (d e : List Piece) → instructionOf listing me ≡ schedule n d e → (positive fits : Bool) →
-          isPositive (evaluate (s .memory) (me .names) d) ≡ positive → ltb (now + evaluate (s .memory) (me .names) d) momentRange ≡ fits →
+          isPositive (evaluate now (s .memory) (me .names) d) ≡ positive → ltb (now + evaluate now (s .memory) (me .names) d) momentRange ≡ fits →
           (memory : List Variable) →
           move now (schedule n d e) me (s .live) (s .memory) ≡ asking 16 positive (asking 17 fits (goesTo (suc (me .place)) memory)) →
           carryOut listing now (fullRun listing now) (asking 16 positive (asking 17 fits (goesTo (suc (me .place)) memory))) me (stepTaken s) ≡ stop k →

@@ -46,11 +46,11 @@ module _ (go : Runner) (none : PassesNone go) where
 module _ (listing : Listing) (now : ℕ) where
   module _ (go : Runner) (none : PassesNone go) where
     children-pass : (level : ℕ) (memory : List Variable) (names : List ℕ) (cs : List Call) (s : Running) (n : ℕ) → s .woken ≡ n →
-        IfOk (Woken n) (inTurn (begin go level) (newRoutines listing memory names cs) s)
+        IfOk (Woken n) (inTurn (begin go level) (newRoutines listing now memory names cs) s)
     unfolding inTurn newRoutines
     children-pass level memory names [] s n e = answered (record { woken = e })
     children-pass level memory names (c ∷ cs) s n e =
-        then-if-ok _ (begin-passes go none level (newRoutine listing memory names c) s n e) λ a h.
+        then-if-ok _ (begin-passes go none level (newRoutine listing now memory names c) s n e) λ a h.
         then-if-ok _ (children-pass level memory names cs (a .running) n (h .woken)) λ b k. answered (record { woken = k .woken })
 
     carryOut-passes : (m : Move) → PassesNone (carryOut listing now go m)

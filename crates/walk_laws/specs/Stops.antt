@@ -26,10 +26,10 @@ pub data FirstNo (now : ℕ) : ℕ → Frame → Running → Instruction → Typ
   too-deep : {me : Frame} {s : Running} {cs : List Call} → 1 ≤ s .left → s .live + childCount cs ≤ 64 → 9 < me .level → FirstNo now 15 me s (fork cs)
   -- "16 At `A`: is the delay at least 1?"
   no-delay : {me : Frame} {s : Running} {n : ℕ} {d e : List Piece} → 1 ≤ s .left →
-      isPositive (evaluate (s .memory) (me .names) d) ≡ false → FirstNo now 16 me s (schedule n d e)
+      isPositive (evaluate now (s .memory) (me .names) d) ≡ false → FirstNo now 16 me s (schedule n d e)
   -- "17 At `A`: is the due moment below 2 to the 64?"
   too-late : {me : Frame} {s : Running} {n : ℕ} {d e : List Piece} → 1 ≤ s .left →
-      isPositive (evaluate (s .memory) (me .names) d) ≡ true → momentRange ≤ now + evaluate (s .memory) (me .names) d →
+      isPositive (evaluate now (s .memory) (me .names) d) ≡ true → momentRange ≤ now + evaluate now (s .memory) (me .names) d →
       FirstNo now 17 me s (schedule n d e)
 
 -- ── the instructions reached ──────────────────────────────────────────────────────────────────────
@@ -65,10 +65,10 @@ module _ (listing : Listing) (now : ℕ) (Q : Frame → Running → Instruction 
           RunReaches (goTo me k) (withMemory (stepTaken s) memory) → RunReaches me s
       -- one reached by a child of this `F`;
       in-child : {me : Frame} {s : Running} {cs : List Call} → Forks listing me s cs →
-          NewReach (suc (me .level)) (newRoutines listing (s .memory) (me .names) cs) (forked cs s) → RunReaches me s
+          NewReach (suc (me .level)) (newRoutines listing now (s .memory) (me .names) cs) (forked cs s) → RunReaches me s
       -- one after this `F`, if all its children end at once.
       after-children : {me : Frame} {s : Running} {cs : List Call} {a : Turn} → Forks listing me s cs →
-          inTurn (begin (fullRun listing now) (suc (me .level))) (newRoutines listing (s .memory) (me .names) cs) (forked cs s) ≡ ok a →
+          inTurn (begin (fullRun listing now) (suc (me .level))) (newRoutines listing now (s .memory) (me .names) cs) (forked cs s) ≡ ok a →
           a .tree ≡ empty → RunReaches (next me) (a .running) → RunReaches me s
 
     -- One of these new routines, which run in turn, does.

@@ -32,7 +32,7 @@ unfolding assignedBlock
 returns c =
     let past = c .before .before .before .before .before .before in
     let a = past .before .before .before .args in
-    assign-changes (a .s) (a .index) (a .v) (search needs) (search needs) (in-block-put-then (128 + a .index) 1 (past .put-word .ensures) (c .before .before .put-word2 .ensures))
+    λ moment. assign-changes (a .s) (a .index) moment (a .v) (search needs) (search needs) (in-block-put-then (128 + a .index) 1 (past .put-word .ensures) (c .before .before .put-word2 .ensures))
 
 pub assign-spec : {M : Type 1} → statement M
 assign-spec =

@@ -66,15 +66,15 @@ returns c =
     let few = former .pre .0 .there in
     let here = (rowsOf (now (a .m)) (u .me)) .place in
     let next : past .before .before .place .result + 1 ≡ suc here = rw add-one (ap suc (past .before .before .place .ensures)) in
-    let p = past .assign .ensures in
+    let p = past .assign .ensures moment in
     let q = placed-as (past .before .before .place .result + 1) (suc here) next (c .before .before .set-place .ensures) in
-    let changed = changes-name u (a .name) binding bound few (former .pre .0 .runs .slot) (λ (y : Variable). writtenTo y value) p q
+    let changed = changes-name u (a .name) binding bound few (former .pre .0 .runs .slot) (λ (y : Variable). writtenTo moment y value) p q
     (λ n there. assigned-all (binding .index) (bound .block) there value p) in
     let woken = past .before .before .before .before .wake in
     let low = earlier .low in
     let ready = subst (λ (k : ℕ). slotsOf (woken .result) ≡ insertAll (rowsOf (now (a .m))) (triggered (rowsOf (now (a .m))) k (triggersAt (now (a .m)) (binding .block) (binding .index))) (slotsOf (u .ready))) (low .ensures) (woken .ensures .0) in
-    assigns u (record { ready = past .before .before .before .before .wake .result; live = u .live; woken = u .woken; me = u .me }) (a .name) value
-    (piecesAt (now (a .t)) (a .cells) (a .pieces)) binding changed bound few (earlier .before .before .before .before .evaluate .ensures) ready refl refl refl listing moment
+    assigns listing moment u (record { ready = past .before .before .before .before .wake .result; live = u .live; woken = u .woken; me = u .me }) (a .name) value
+    (piecesAt (now (a .t)) (a .cells) (a .pieces)) binding changed bound few (earlier .before .before .before .before .evaluate .ensures) ready refl refl refl
 
 pub assign-step-spec : {M : Type 1} → statement M
 assign-step-spec =

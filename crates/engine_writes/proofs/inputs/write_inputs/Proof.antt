@@ -52,7 +52,7 @@ wake-all-requires : tie.Need-wake-all-requires Inv-loop μ-loop
 wake-all-requires c κs =
     let past = c .before .before .before .before .before .before .before .before in
     let v = past .loop in
-    (search needs, search needs, past .before .before .before .before .pre .2 .below (v .k) (search needs), order-kept _ _ (slotsOf (v .woken)) (c .before .before .before .assign .ensures) (v .inv .2))
+    (search needs, search needs, past .before .before .before .before .pre .2 .below (v .k) (search needs), order-kept _ _ (slotsOf (v .woken)) (c .before .before .before .assign .ensures 0) (v .inv .2))
 
 add-k : tie.Need-add-k Inv-loop μ-loop
 add-k c = search needs

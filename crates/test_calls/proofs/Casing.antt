@@ -9,10 +9,10 @@ use Rattle.test_calls.specs.Cases.{LoadsInto, afterItems, ItemsFailing, 
 use Rattle.test_calls.specs.declared.Run.{Run}
 
 -- p is the place of the listing's length; first and count are those of the items
-pub case-ran : (s : List ℕ) (at p from to first count j : ℕ) (blank machine kept table : List ℕ) (r q : Run) → p ≡ onward s at 4 → from ≡ onward s p 4
+pub case-ran : (s : List ℕ) (at p from to first count j : ℕ) (blank machine kept table table′ machine′ kept′ : List ℕ) (r q : Run) → p ≡ onward s at 4 → from ≡ onward s p 4
     → to ≡ onward s from (wordAt s p) → first ≡ onward s to 4 → count ≡ wordAt s to → blank ≡ unusedMemory → machine ≡ unusedMemory → kept ≡ unusedMemory
-    → LoadsInto (take (to - from) (drop from s)) blank table j → RanItems s first table machine kept count r → q .next ≡ r .next → q .failed ≡ j + r .failed → RanCase s at q
-case-ran s at p from to first count j blank machine kept table r q ep ef et ei ec eb em ek l k en eq =
+    → LoadsInto (take (to - from) (drop from s)) blank table j → RanItems s first table machine kept table′ machine′ kept′ count r → q .next ≡ r .next → q .failed ≡ j + r .failed → RanCase s at q
+case-ran s at p from to first count j blank machine kept table table′ machine′ kept′ r q ep ef et ei ec eb em ek l k en eq =
     let f : from ≡ listingFrom s at = ef ∙ ap (λ (x : ℕ). onward s x 4) ep in
     let t : to ≡ listingTo s at = et ∙ (ap (λ (x : ℕ). onward s x (wordAt s p)) f ∙ ap (λ (x : ℕ). onward s (listingFrom s at) (wordAt s x)) ep) in
     let i : first ≡ itemsAt s at = ei ∙ ap (λ (x : ℕ). onward s x 4) t in
@@ -24,9 +24,9 @@ case-ran s at p from to first count j blank machine kept table r q ep ef et ei e
       counts =
           case
           (subst (λ (x : List ℕ). LoadsInto x unusedMemory table j) text (subst (λ (m : List ℕ). LoadsInto (take (to - from) (drop from s)) m table j) eb l))
-          (subst (λ (x : ℕ). ItemsFailing s table unusedMemory unusedMemory (itemsAt s at) x (r .failed)) n
-          (subst (λ (x : ℕ). ItemsFailing s table unusedMemory unusedMemory x count (r .failed)) i
-          (subst (λ (m : List ℕ). ItemsFailing s table unusedMemory m first count (r .failed)) ek
-          (subst (λ (m : List ℕ). ItemsFailing s table m kept first count (r .failed)) em (k .counts)))))
+          (subst (λ (x : ℕ). ItemsFailing s table machine′ kept′ unusedMemory unusedMemory (itemsAt s at) x (r .failed)) n
+          (subst (λ (x : ℕ). ItemsFailing s table machine′ kept′ unusedMemory unusedMemory x count (r .failed)) i
+          (subst (λ (m : List ℕ). ItemsFailing s table machine′ kept′ unusedMemory m first count (r .failed)) ek
+          (subst (λ (m : List ℕ). ItemsFailing s table machine′ kept′ m kept first count (r .failed)) em (k .counts)))))
           eq;
     }

@@ -12,12 +12,12 @@ use Rattle.test_calls.specs.Cases as C
 -- from a place on, so many of the items done and so many of these failed
 pub record Rest (s table machine₀ kept₀ : List ℕ) (start count : ℕ) (machine kept : List ℕ) (at done failed : ℕ) : Type 0 where
   pub place : afterItems s at (count - done) ≡ afterItems s start count
-  pub whole : (k : ℕ) → ItemsFailing s table machine kept at (count - done) k → ItemsFailing s table machine₀ kept₀ start count (failed + k)
+  pub whole : (m p : List ℕ) (k : ℕ) → ItemsFailing s table m p machine kept at (count - done) k → ItemsFailing s table m p machine₀ kept₀ start count (failed + k)
 
 -- the same numbers
-as-many : {s table machine kept : List ℕ} {at n n′ k k′ : ℕ} → n ≡ n′ → k ≡ k′ → ItemsFailing s table machine kept at n k → ItemsFailing s table machine kept at n′ k′
-as-many {s} {table} {machine} {kept} {at} {n} {n′} {k} {k′} e f a =
-    subst (λ (x : ℕ). ItemsFailing s table machine kept at x k′) e (subst (λ (x : ℕ). ItemsFailing s table machine kept at n x) f a)
+as-many : {s table m p machine kept : List ℕ} {at n n′ k k′ : ℕ} → n ≡ n′ → k ≡ k′ → ItemsFailing s table m p machine kept at n k → ItemsFailing s table m p machine kept at n′ k′
+as-many {s} {table} {m} {p} {machine} {kept} {at} {n} {n′} {k} {k′} e f a =
+    subst (λ (x : ℕ). ItemsFailing s table m p machine kept at x k′) e (subst (λ (x : ℕ). ItemsFailing s table m p machine kept at n x) f a)
 
 -- an item told of the table that it found
 pub told-of : {s table table₁ machine kept machine′ kept′ : List ℕ} {at : ℕ} {b b′ : Bool} → table₁ ≡ table → b ≡ b′ → RanItem s at table₁ machine kept machine′ kept′ b
@@ -33,37 +33,37 @@ next-place s start count at next done e h k =
     ap (λ (x : ℕ). afterItems s x (count - (done + 1))) e ∙ (ap (afterItems s at) (sym n) ∙ k)
 
 -- from the next place on
-rest-from : {s table machine kept : List ℕ} {at next n k : ℕ} → next ≡ at → ItemsFailing s table machine kept next n k → ItemsFailing s table machine kept at n k
-rest-from {s} {table} {machine} {kept} {at} {next} {n} {k} e a = subst (λ (x : ℕ). ItemsFailing s table machine kept x n k) e a
+rest-from : {s table m p machine kept : List ℕ} {at next n k : ℕ} → next ≡ at → ItemsFailing s table m p machine kept next n k → ItemsFailing s table m p machine kept at n k
+rest-from {s} {table} {m} {p} {machine} {kept} {at} {next} {n} {k} e a = subst (λ (x : ℕ). ItemsFailing s table m p machine kept x n k) e a
 
 module _ {s table machine₀ kept₀ : List ℕ} {start count : ℕ} where
   pub begun : Rest s table machine₀ kept₀ start count machine₀ kept₀ start 0 0
   begun =
       let n : count - 0 ≡ count = omega arith in
-      record { place = ap (afterItems s start) n; whole = λ k a. as-many n (let z : k ≡ 0 + k = omega arith in z) a }
+      record { place = ap (afterItems s start) n; whole = λ m p k a. as-many n (let z : k ≡ 0 + k = omega arith in z) a }
 
   module _ {machine kept machine′ kept′ : List ℕ} {at next done failed before : ℕ} (e : next ≡ afterItem s at) (h : done < count)
       (r : Rest s table machine₀ kept₀ start count machine kept at done before) where
     pub one-agrees : RanItem s at table machine kept machine′ kept′ true → failed ≡ before → Rest s table machine₀ kept₀ start count machine′ kept′ next (done + 1) failed
     one-agrees i f = record {
       place = next-place s start count at next done e h (r .place);
-      whole = λ k a.
+      whole = λ m p k a.
           let n : suc (count - (done + 1)) ≡ count - done = omega arith in
-          as-many refl (let z : before + k ≡ failed + k = omega arith in z) (r .whole k (as-many n refl (C.agrees i (rest-from e a))));
+          as-many refl (let z : before + k ≡ failed + k = omega arith in z) (r .whole m p k (as-many n refl (C.agrees i (rest-from e a))));
     }
 
     pub one-fails : RanItem s at table machine kept machine′ kept′ false → failed ≡ before + 1 → Rest s table machine₀ kept₀ start count machine′ kept′ next (done + 1) failed
     one-fails i f = record {
       place = next-place s start count at next done e h (r .place);
-      whole = λ k a.
+      whole = λ m p k a.
           let n : suc (count - (done + 1)) ≡ count - done = omega arith in
-          as-many refl (let z : before + suc k ≡ failed + k = omega arith in z) (r .whole (suc k) (as-many n refl (C.fails i (rest-from e a))));
+          as-many refl (let z : before + suc k ≡ failed + k = omega arith in z) (r .whole m p (suc k) (as-many n refl (C.fails i (rest-from e a))));
     }
 
   pub ended : {machine kept : List ℕ} {at done failed : ℕ} → count ≤ done → Rest s table machine₀ kept₀ start count machine kept at done failed
-      → ItemsFailing s table machine₀ kept₀ start count failed
-  ended {done = done} {failed = failed} h r =
-      as-many refl (let z : failed + 0 ≡ failed = omega arith in z) (r .whole 0 (as-many (let n : 0 ≡ count - done = omega arith in n) refl C.none))
+      → ItemsFailing s table machine kept machine₀ kept₀ start count failed
+  ended {machine = machine} {kept = kept} {done = done} {failed = failed} h r =
+      as-many refl (let z : failed + 0 ≡ failed = omega arith in z) (r .whole machine kept 0 (as-many (let n : 0 ≡ count - done = omega arith in n) refl C.none))
 
   pub ended-place : {machine kept : List ℕ} {at done failed : ℕ} → count ≤ done → Rest s table machine₀ kept₀ start count machine kept at done failed → at ≡ afterItems s start count
   unfolding afterItems

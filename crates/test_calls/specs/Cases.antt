@@ -24,20 +24,21 @@ unfoldable pub afterItems : List ℕ → ℕ → ℕ → ℕ
 afterItems s at zero = at
 afterItems s at (suc n) = afterItems s (afterItem s at) n
 
--- Of so many items from a place on so many fail and the others agree, on this table; the first finds this machine and this copy of one, and each
--- next what the item before left.
-pub data ItemsFailing (s table : List ℕ) : List ℕ → List ℕ → ℕ → ℕ → ℕ → Type 0 where
-  none : {machine kept : List ℕ} {at : ℕ} → ItemsFailing s table machine kept at 0 0
-  agrees : {machine kept machine′ kept′ : List ℕ} {at n k : ℕ} → RanItem s at table machine kept machine′ kept′ true → ItemsFailing s table machine′ kept′ (afterItem s at) n k
-      → ItemsFailing s table machine kept at (suc n) k
-  fails : {machine kept machine′ kept′ : List ℕ} {at n k : ℕ} → RanItem s at table machine kept machine′ kept′ false → ItemsFailing s table machine′ kept′ (afterItem s at) n k
-      → ItemsFailing s table machine kept at (suc n) (suc k)
+-- Of so many items from a place on so many fail and the others agree, on this table; the first finds the machine and the copy of one that stand
+-- behind, each next what the item before left, and the last leaves the two before.
+pub data ItemsFailing (s table machineAfter keptAfter : List ℕ) : List ℕ → List ℕ → ℕ → ℕ → ℕ → Type 0 where
+  none : {at : ℕ} → ItemsFailing s table machineAfter keptAfter machineAfter keptAfter at 0 0
+  agrees : {machine kept machine′ kept′ : List ℕ} {at n k : ℕ} → RanItem s at table machine kept machine′ kept′ true
+      → ItemsFailing s table machineAfter keptAfter machine′ kept′ (afterItem s at) n k → ItemsFailing s table machineAfter keptAfter machine kept at (suc n) k
+  fails : {machine kept machine′ kept′ : List ℕ} {at n k : ℕ} → RanItem s at table machine kept machine′ kept′ false
+      → ItemsFailing s table machineAfter keptAfter machine′ kept′ (afterItem s at) n k → ItemsFailing s table machineAfter keptAfter machine kept at (suc n) (suc k)
 
--- so many items were run: the place after them, and how many failed
-pub record RanItems (s : List ℕ) (from : ℕ) (table machine kept : List ℕ) (count : ℕ) (r : Run) : Type 0 where
+-- so many items were run: the place after them, how many failed, and the machine and the copy that they leave; the table is as it was
+pub record RanItems (s : List ℕ) (from : ℕ) (table machine kept table′ machine′ kept′ : List ℕ) (count : ℕ) (r : Run) : Type 0 where
+  pub tableIs : table′ ≡ table
   pub next : r .next ≡ afterItems s from count
   pub few : r .failed ≤ count
-  pub counts : ItemsFailing s table machine kept from count (r .failed)
+  pub counts : ItemsFailing s table machine′ kept′ machine kept from count (r .failed)
 
 -- ── a case: its name, its listing (a part), the number of its items and the items ────────────────
 abbrev pub listingFrom : List ℕ → ℕ → ℕ
@@ -61,8 +62,8 @@ afterCase s at = afterItems s (itemsAt s at) (itemCount s at)
 -- Of the case at a place so much fails: its listing, if it does not load, and so many of its items, on the table that loading leaves and unused
 -- memories.
 pub data CaseFailing (s : List ℕ) (at : ℕ) : ℕ → Type 0 where
-  case : {table : List ℕ} {j k n : ℕ} → LoadsInto (listingText s at) unusedMemory table j
-      → ItemsFailing s table unusedMemory unusedMemory (itemsAt s at) (itemCount s at) k → n ≡ j + k → CaseFailing s at n
+  case : {table machine kept : List ℕ} {j k n : ℕ} → LoadsInto (listingText s at) unusedMemory table j
+      → ItemsFailing s table machine kept unusedMemory unusedMemory (itemsAt s at) (itemCount s at) k → n ≡ j + k → CaseFailing s at n
 
 pub record RanCase (s : List ℕ) (at : ℕ) (r : Run) : Type 0 where
   pub next : r .next ≡ afterCase s at

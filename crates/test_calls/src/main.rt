@@ -54,7 +54,8 @@ fn run_items(
     machine: &mut [u32],
     kept: &mut [u32],
 ) -> Run
-    ensures { λ r. ⌜ (now (table .exit) ≡ now (table .entry)) × RanItems (now (s .entry)) from (now (table .entry)) (now (machine .entry)) (now (kept .entry)) count r ⌝ }
+    ensures { λ r. ⌜ RanItems (now (s .entry)) from (now (table .entry)) (now (machine .entry)) (now (kept .entry))
+        (now (table .exit)) (now (machine .exit)) (now (kept .exit)) count r ⌝ }
 {
     let items = count as u64;
     let mut at = from;

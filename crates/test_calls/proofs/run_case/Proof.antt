@@ -61,7 +61,7 @@ run-items-requires c κs = tt
 add-t27 : tie.Need-add-t27
 add-t27 c =
     let h = once (c .before .before .before .before .before .before .before .before .before .before .before .refusals .ensures) in
-    let k = c .before .before .before .before .run-items .ensures .1 .few in
+    let k = c .before .before .before .before .run-items .ensures .few in
     omega arith
 
 returns : tie.Need-returns
@@ -73,9 +73,9 @@ returns c =
     let l = earlier .before .before .before .refusals in
     let r = c .before .before .before .before .run-items in
     case-ran (now (a .s)) (a .at) (former .before .before .before .before .past .result) (part .result .from) (part .result .to) (earlier .past2 .result) (earlier .before .word-at2 .result) (l .result)
-    (former .before .before .unused-memory .result) (former .before .unused-memory2 .result) (former .unused-memory3 .result) (l .last .1 .0) (r .result) _
+    (former .before .before .unused-memory .result) (former .before .unused-memory2 .result) (former .unused-memory3 .result) (l .last .1 .0) _ _ _ (r .result) _
     (former .before .before .before .before .past .ensures) (part .ensures .begins) (part .ensures .ends) (earlier .past2 .ensures) (earlier .before .word-at2 .ensures)
-    (former .before .before .unused-memory .ensures .1) (former .before .unused-memory2 .ensures .1) (former .unused-memory3 .ensures .1) (l .ensures) (r .ensures .1) refl refl
+    (former .before .before .unused-memory .ensures .1) (former .before .unused-memory2 .ensures .1) (former .unused-memory3 .ensures .1) (l .ensures) (r .ensures) refl refl
 
 pub run-case-spec : {M : Type 1} → statement M
 run-case-spec =

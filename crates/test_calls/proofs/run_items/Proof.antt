@@ -77,7 +77,7 @@ same-length-3 c =
 returns : tie.Need-returns Inv-loop μ-loop
 returns c =
     let i = c .before .loop .inv in
-    (i .3, record { next = ended-place (omega arith) (i .6); few = omega arith; counts = ended (omega arith) (i .6) })
+    record { tableIs = i .3; next = ended-place (omega arith) (i .6); few = omega arith; counts = ended (omega arith) (i .6) }
 
 pub run-items-spec : {M : Type 1} → statement M
 run-items-spec =

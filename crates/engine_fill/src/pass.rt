@@ -15,6 +15,7 @@ use crate::main_routine::fill_main;
 use crate::row::fill_child;
 use machine::LIVE;
 use machine::ORDER;
+use words::byte_number;
 
 // A word of the machine's header.
 fn header(m: &[u32], at: usize) -> usize
@@ -22,12 +23,6 @@ fn header(m: &[u32], at: usize) -> usize
     ensures { λ r. ⌜ r ≡ getD (now (m .entry)) at 0 ⌝ }
 {
     m[at] as usize
-}
-
-fn number(x: u8) -> usize
-    ensures { λ r. ⌜ r ≡ x ⌝ }
-{
-    x as usize
 }
 
 // One routine, by its level.
@@ -53,7 +48,7 @@ pub fn fill_rows(t: &[u32], m: &mut [u32])
     while k < n {
         let s = header(m, ORDER + k);
         let level = engine_blocks::level(m, s) as usize;
-        let p = number(above[level]);
+        let p = byte_number(above[level]);
         fill_slot(t, m, level, p, s);
         above[level + 1] = s as u8;
         k += 1;

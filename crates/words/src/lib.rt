@@ -9,6 +9,7 @@ pub use moment::Delay;
 pub use moment::Later;
 pub use moment::Moment;
 pub use moment::later_moment;
+pub use word::byte_number;
 pub use word::is_positive;
 pub use word::number;
 pub use word::signed_less;

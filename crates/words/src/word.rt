@@ -48,6 +48,13 @@ pub fn number(x: u32) -> usize
     x as usize
 }
 
+// A number that is kept in a byte, as the engine's lists keep slots.
+pub fn byte_number(x: u8) -> usize
+    ensures { λ r. ⌜ r ≡ x ⌝ }
+{
+    x as usize
+}
+
 // Whether d's number is at least 1, as a delay has to be.
 pub fn is_positive(d: u32) -> bool
     ensures { λ r. ⌜ r ≡ isPositive d ⌝ }

@@ -43,15 +43,15 @@ level-requires c κs =
 cast-level : tie.Need-cast-level Inv-loop μ-loop
 cast-level c = search needs
 
-array-read-number : tie.Need-array-read-number Inv-loop μ-loop
-array-read-number c =
+array-read-byte-number : tie.Need-array-read-byte-number Inv-loop μ-loop
+array-read-byte-number c =
     let past = c .before .before .before .before .before in
     let G = past .loop .inv in
     let more = subst (λ (x : ℕ). past .loop .k < x) (past .before .header .ensures) (c .before .before .before .before .loop-test .taken) in
     omega (arith, G .size, level-small (past .before .before .before .before .before .pre) G more _ (c .before .before .header2 .ensures) _ (c .level .ensures))
 
-number-requires : tie.Need-number-requires Inv-loop μ-loop
-number-requires c κs = search needs
+byte-number-requires : tie.Need-byte-number-requires Inv-loop μ-loop
+byte-number-requires c κs = search needs
 
 fill-slot-requires : tie.Need-fill-slot-requires Inv-loop μ-loop
 fill-slot-requires c κs =
@@ -59,7 +59,7 @@ fill-slot-requires c κs =
     let earlier = past .before .before .before .before .before .before in
     let G = past .before .loop .inv in
     let more = subst (λ (x : ℕ). past .before .loop .k < x) (past .before .before .header .ensures) (past .loop-test .taken) in
-    (earlier .pre .table, omega (arith, earlier .pre .size, G .outside .size), may-fill-now (earlier .pre) G more _ (c .before .before .before .before .header2 .ensures) _ (c .before .before .level .ensures) _ (c .before .number .ensures))
+    (earlier .pre .table, omega (arith, earlier .pre .size, G .outside .size), may-fill-now (earlier .pre) G more _ (c .before .before .before .before .header2 .ensures) _ (c .before .before .level .ensures) _ (c .before .byte-number .ensures))
 
 cast-above : tie.Need-cast-above Inv-loop μ-loop
 cast-above c =
@@ -98,7 +98,7 @@ loop-again c =
     let earlier = past .before .before .before .before .before in
     let G = earlier .loop .inv in
     let more = subst (λ (x : ℕ). past .before .before .before .before .before .loop .k < x) (earlier .before .header .ensures) (past .before .before .before .before .loop-test .taken) in
-    pass-turn (earlier .before .before .before .before .before .pre) G more _ (past .before .before .header2 .ensures) _ (past .level .ensures) _ (c .before .before .before .before .number .ensures) (c .before .before .fill-slot .ensures)
+    pass-turn (earlier .before .before .before .before .before .pre) G more _ (past .before .before .header2 .ensures) _ (past .level .ensures) _ (c .before .before .before .before .byte-number .ensures) (c .before .before .fill-slot .ensures)
 
 same-length : tie.Need-same-length Inv-loop μ-loop
 same-length c =
@@ -120,8 +120,8 @@ fill-rows-spec =
     header-requires-2
     level-requires
     cast-level
-    array-read-number
-    number-requires
+    array-read-byte-number
+    byte-number-requires
     fill-slot-requires
     cast-above
     add-above

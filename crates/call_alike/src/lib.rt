@@ -11,12 +11,12 @@ ghost use Rattle.machine.specs.Words.{stateOf, variablesIn, HasMachine};
 ghost use Rattle.machine.specs.ReadMachine.{readMachine};
 ghost use Rattle.layout.specs.Layout.{layout};
 ghost use Rattle.call_alike.specs.Compared.{pairRefusal, comparedOf};
-use call_arguments::environment_size;
 use call_questions::machine_refusal;
 use machine::ENVIRONMENT_VARIABLES;
 use machine::MACHINE_WORDS;
 use machine::VARIABLE_WORDS;
 use table::TABLE_WORDS;
+use table_read::environment_size;
 
 pub enum Comparison {
     Refused(u32),

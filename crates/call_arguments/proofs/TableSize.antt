@@ -15,9 +15,9 @@ use Rattle.machine_check.proofs.FromQuestion6.{table-within-limits}
 
 -- The words 0 and 1 of a table that may be longer.
 module _ (t : List ℕ) (pass : isTable (take 12288 t) ≡ true) where
-  pub size-of-table : (i o : ℕ) → i ≡ getD t 0 0 → o ≡ getD t 1 0 → i + o ≡ environmentSize (tableListing (take 12288 t))
+  pub size-of-table : getD t 0 0 + getD t 1 0 ≡ environmentSize (tableListing (take 12288 t))
   unfolding environmentSize tableListing
-  size-of-table i o e f = rw (e, f, getD-take 12288 t 0 0 (omega arith), getD-take 12288 t 1 0 (omega arith))
+  size-of-table = rw (getD-take 12288 t 0 0 (omega arith), getD-take 12288 t 1 0 (omega arith))
 
   pub table-few : environmentSize (tableListing (take 12288 t)) ≤ 16
   table-few = table-within-limits (take 12288 t) pass .ports

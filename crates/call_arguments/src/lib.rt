@@ -1,32 +1,14 @@
 // The tests of a call's arguments, each of one question: the lengths, a due write before t, the inputs' numbers, the allowance.
-ghost use mathlib.Core.Bool.{true};
 ghost use mathlib.Core.Path.{_≡_};
-ghost use Prim.Native.Nat.{_≤_};
-ghost use Rattle.table.specs.Areas.{HasTable};
-ghost use Rattle.walk.specs.Calls.{dueBefore, allowed, firstWords};
-ghost use Rattle.walk.specs.Instant.{environmentSize};
-ghost use Rattle.table.specs.Question6.{isTable};
-ghost use Rattle.table.specs.Decode.{tableListing};
+ghost use Rattle.walk.specs.Calls.{dueBefore, allowed};
 ghost use Rattle.machine.specs.Due.{dueAt};
 ghost use Rattle.call_arguments.specs.Asked.{longEnough, numbersRise};
 use machine::MACHINE_WORDS;
-use table::INPUTS;
-use table::OUTPUTS;
 use table::TABLE_WORDS;
 use words::Moment;
 use words::number;
 
 const OUTPUT_PLACES: usize = 16;
-
-// The number of environment variables of a table that has passed question 6.
-pub fn environment_size(table: &[u32]) -> usize
-    requires { ⌜ HasTable (now table) × (isTable (firstWords (now table)) ≡ true) ⌝ }
-    ensures { λ r. ⌜ (r ≡ environmentSize (tableListing (firstWords (now (table .entry))))) × (r ≤ 16) ⌝ }
-{
-    let inputs = number(table[INPUTS]);
-    let outputs = number(table[OUTPUTS]);
-    inputs + outputs
-}
 
 // 1 "Are the lent memories long enough?", of their lengths.
 pub fn long_enough(table: usize, machine: usize, numbers: usize, values: usize) -> bool

@@ -13,7 +13,7 @@ use Rattle.walk.specs.State.{Variable, State}
 use Rattle.walk.specs.Instant.{Write, environmentSize, dueWrites, applyInputs, nextDue}
 use Rattle.walk.specs.Calls.{Words32, running, inputsOf, dueBefore}
 use Rattle.walk.specs.Question7.{IsState}
-use Rattle.table.specs.Decode.{tableListing}
+use Rattle.table.specs.Decode.{word, tableListing}
 use Rattle.table.specs.Question6.{isTable}
 use Rattle.machine.specs.ReadMachine.{readMachine}
 use Rattle.machine.specs.Limits.{WithinLimits}
@@ -49,6 +49,11 @@ use Rattle.engine_begin.proofs.Filled.{state-found, filledFrom, filled-
 use Rattle.engine_begin.proofs.NotDue.{dues-tell}
 use Rattle.engine_begin.proofs.AtRest.{words-unwritten, nothing-written}
 use Rattle.engine_begin.proofs.Made.{own-as-it-is, own-after-due, made-placed, made-sleepers, made-names}
+
+-- ── the environment's size ─────────────────────────────────────────────────────────────────────────
+pub size-of-table : (t : List ℕ) → isTable t ≡ true → (n : ℕ) → n ≡ word t 0 + word t 1 → (n ≡ environmentSize (tableListing t)) × (n ≤ 16)
+unfolding environmentSize tableListing
+size-of-table t table n e = let p = table-within-limits t table .ports in (e, omega (arith, e, p))
 
 -- ── trigger words do not make words unclean ────────────────────────────────────────────────────────
 block-clean : {c : ℕ} (a b : Block) → ((k : ℕ) → k < 144 → b k ≡ a k) → CleanBlock c a → CleanBlock c b

@@ -15,6 +15,7 @@ use Rattle.table.specs.Decode.{word, namesOf, sizeOf, nameAt, instructionEntry,
 use Rattle.table.specs.Question6.{isTable}
 use Rattle.table.proofs.Reach.{instruction-by-address, cells-by-place}
 use Rattle.table.proofs.Entry.{fetched, name-there}
+use Rattle.table_read.proofs.Fetching.{has-entry}
 use Rattle.engine_rows.specs.Rows.{Row, Rows, withOwn, freeRow}
 use Rattle.engine_rows.specs.Beginning.{dueInRows}
 use Rattle.engine_rows.specs.Triggers.{awaited, awaitedBy}
@@ -24,7 +25,7 @@ use Rattle.engine_rows.proofs.Holds.{Holds, sits}
 use Rattle.engine_blocks.specs.Blocks.{block, rowAt, rowsOf}
 use Rattle.engine_blocks.proofs.RowChanges.{row-of}
 use Rattle.engine_clean.specs.Clean.{Clean}
-use Rattle.engine_triggers.specs.Awaited.{awaitedNames, FewNames, Sleepers, NamesOf}
+use Rattle.engine_triggers.specs.Awaited.{awaitedNames, FewNames, Sleeper, Sleepers, NamesOf}
 use Rattle.engine_triggers.proofs.Listing.{length-names, awaited-wait, awaited-none}
 use Rattle.engine_evaluate.specs.Bound.{bindingsOf}
 use Rattle.engine_evaluate.proofs.Standing.{table-names}
@@ -76,6 +77,12 @@ module _ (t : List ℕ) (table : isTable t ≡ true) (x : Row) (g : GoesOn t x) 
           })
       go (no other) = rw (awaited-none t entry other) (record { few = omega arith; named = λ k h. absurd (let z : ⊥ = omega arith in z) })
 
+  pub sleeper-there : length (x .bindings) ≡ namesOf t (x .routine) → Sleeper t x
+  sleeper-there many =
+      let entry = has-entry t table (x .routine) (g .routine) (x .place) here in
+      let F = fetched t table (x .routine) (g .routine) (x .place) here in
+      record { table = entry .0; entry = entry .1; inside = λ five. omega (arith, F .waits five .names .inside); names = few-names many }
+
 -- ── rows that differ in own variables alone ───────────────────────────────────────────────────────
 unfoldable pub withOwns : Rows → (ℕ → List Variable) → Rows
 withOwns rows own q = withOwn (rows q) (own q)
@@ -113,7 +120,7 @@ module _ (t m : List ℕ) (s : State) (filled : Rows) (table : isTable t ≡ tru
   sleeper-names q a = names-same q a ∙ table-names t ((rowsOf m q) .routine) (asleep-on q a .routine)
 
   pub made-sleepers : Sleepers t m
-  made-sleepers = record { names = λ q h a. few-names t table (rowsOf m q) (asleep-on q a) (sleeper-names q a) }
+  made-sleepers = record { each = λ q h a. sleeper-there t table (rowsOf m q) (asleep-on q a) (sleeper-names q a) }
 
   pub made-names : NamesOf listing t m
   made-names = record { names = λ q h a. names-agree t table (rowsOf m q) (asleep-on q a) }

@@ -1,11 +1,5 @@
 // The beginning of an instant. Rule 1 of document 01: "Every waiting write due at t is made, and is gone. Then the call's inputs
 // are written": after the trigger lists are made, so that each of these writes reaches just the routines that wait on its variable.
-ghost use mathlib.Core.Path.{_≡_};
-ghost use mathlib.Core.Bool.{true};
-ghost use Prim.Native.Nat.{_≤_};
-ghost use Rattle.walk.specs.Instant.{environmentSize};
-ghost use Rattle.table.specs.Decode.{tableListing};
-ghost use Rattle.table.specs.Question6.{isTable};
 ghost use Rattle.engine_begin.specs.Begun.{MayBegin, Begun};
 use crate::queue::queue_waiting;
 use engine_fill::fill_rows;
@@ -13,17 +7,8 @@ use engine_ready::ReadyList;
 use engine_triggers::list_sleepers;
 use engine_writes::make_due_at;
 use engine_writes::write_inputs;
+use table_read::environment_size;
 use words::Moment;
-
-// The number of environment variables.
-fn ports(t: &[u32]) -> usize
-    requires { ⌜ isTable (now t) ≡ true ⌝ }
-    ensures { λ r. ⌜ (r ≡ environmentSize (tableListing (now (t .entry)))) × (r ≤ 16) ⌝ }
-{
-    let inputs = t[0] as usize;
-    let outputs = t[1] as usize;
-    inputs + outputs
-}
 
 // The blocks where a waiting write may stand noted, rows filled in, sleepers listed, due writes and inputs made; the routines that are ready. Given the soonest moment due of each
 // block.
@@ -38,7 +23,7 @@ pub fn begin_instant(
     requires { ⌜ MayBegin (now t) (now m) (present .0) (now dues) (now numbers) (now values) ⌝ }
     ensures { λ r. ⌜ Begun (now (t .entry)) (now (m .entry)) (now (m .exit)) (present .0) (now (numbers .entry)) (now (values .entry)) r ⌝ }
 {
-    let n = ports(t);
+    let n = environment_size(t);
     queue_waiting(m, dues);
     fill_rows(t, m);
     list_sleepers(m, t);

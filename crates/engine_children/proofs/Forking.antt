@@ -2,13 +2,14 @@
 use mathlib.Core.Path.{_≡_, refl, sym, ap, subst, _∙_, fun-ext}
 use mathlib.Core.Bool.{Bool, true, false}
 use mathlib.Core.List.{List, [], _++_, append-nil}
-use Prim.Native.Nat.{ℕ, zero, suc, _+_, _-_, _≤_, _<_}
+use Prim.Native.Nat.{ℕ, suc, _+_, _-_, _≤_, _<_}
 use native.Mathlib.Numerals.{add-one}
 use native.Mathlib.Omega.{arith}
 use native.Mathlib.Decide.{ℕ-discrete}
 use lib.ListN.{length, take, set, length-set}
 use lib.Seq.{take-suc-set}
 use Rattle.walk.specs.State.{Variable}
+use Rattle.table.proofs.Reach.{head-after-next}
 use Rattle.table.specs.Decode.{callAt, afterCall, callsAt, headAfter, tableListing}
 use Rattle.table.specs.Entry.{ChildStands}
 use Rattle.engine_rows.specs.Rows.{Owner, inEnvironment, inSlot, Row, Rows, withRow, ownerOf}
@@ -28,12 +29,6 @@ use Rattle.engine_children.specs.Fork.{MayFork, MakesChildren}
 use Rattle.engine_children.proofs.Lists.{moved-over}
 use Rattle.engine_children.proofs.ChildSteps.{divides-same}
 use Rattle.engine_children.proofs.FreeBlock.{free-blank, blank-owns-none}
-
--- ── heads and calls ───────────────────────────────────────────────────────────────────────────────
-pub next-head-after : (t : List ℕ) (a k : ℕ) → headAfter t a (suc k) ≡ afterCall t (headAfter t a k)
-unfolding headAfter
-next-head-after t a zero = refl
-next-head-after t a (suc k) = next-head-after t (afterCall t a) k
 
 -- ── one row more ──────────────────────────────────────────────────────────────────────────────────
 -- The new row is the only change.
@@ -186,7 +181,7 @@ module _ {t before : List ℕ} {me cells n : ℕ} (F : MayFork t before me cells
         fork-next =
             rw (add-one i)
             (record {
-              place = ap (afterCall t) (G .place) ∙ sym (next-head-after t cells i);
+              place = ap (afterCall t) (G .place) ∙ sym (head-after-next t cells i);
               size = length-set places i s ∙ G .size;
               within = more;
               row = row-then;

@@ -1,11 +1,10 @@
 // The child field that made a routine, found in the table.
 ghost use mathlib.Core.Path.{_≡_};
 ghost use mathlib.Core.Bool.{true};
-ghost use Prim.Native.Nat.{ℕ, _+_, _≤_, _<_};
-ghost use Rattle.table.specs.Areas.{TableLong};
+ghost use Prim.Native.Nat.{_<_};
 ghost use Rattle.machine.specs.Words.{HasMachine};
 ghost use Rattle.walk.specs.Walk.{instructionAt};
-ghost use Rattle.table.specs.Decode.{word, headAfter, sizeOf, tableListing};
+ghost use Rattle.table.specs.Decode.{word, sizeOf, tableListing};
 ghost use Rattle.table.specs.Question6.{isTable};
 ghost use Rattle.engine_rows.specs.Records.{isWait};
 ghost use Rattle.engine_blocks.specs.Blocks.{nonzero, rowsOf};
@@ -13,8 +12,8 @@ ghost use Rattle.engine_fill.specs.Filling.{MayFillChild};
 ghost use Rattle.engine_fill.specs.Field.{FieldIs};
 use table::WAIT;
 use table_read::fetch;
+use table_read::head_after;
 use table_read::head_at;
-use table_read::next_head;
 
 // A child field: the address of its head, its routine, and how many child fields its `F` has.
 pub struct Field {
@@ -35,20 +34,6 @@ pub fn wait_mark(t: &[u32], r: usize, place: usize) -> u32
     0
 }
 
-// The head of child field i, the first at `cells`.
-fn head_of(t: &[u32], cells: usize, i: usize) -> usize
-    requires { ⌜ TableLong (now t) × ((j : ℕ) → j < i → headAfter (now t) cells j + 2 ≤ 12288) ⌝ }
-    ensures { λ r. ⌜ r ≡ headAfter (now (t .entry)) cells i ⌝ }
-{
-    let mut head = cells;
-    let mut j: usize = 0;
-    while j < i {
-        head = next_head(t, head);
-        j += 1;
-    }
-    head
-}
-
 // The field of the parent's `F` that made the routine in slot s.
 pub fn field_of(t: &[u32], m: &[u32], p: usize, s: usize) -> Field
     requires { ⌜ (isTable (now t) ≡ true) × HasMachine (now m) × MayFillChild (now t) (rowsOf (now m)) p s ⌝ }
@@ -60,7 +45,7 @@ pub fn field_of(t: &[u32], m: &[u32], p: usize, s: usize) -> Field
     let cells = e.cells;
     let count = e.first;
     let i = engine_blocks::child(m, s) as usize;
-    let head = head_of(t, cells, i);
+    let head = head_after(t, cells, i);
     let field = head_at(t, head);
     let callee = field.callee;
     Field {

@@ -5,7 +5,7 @@ use mathlib.Core.Path.{_≡_, refl, ap, _∙_, fun-ext}
 use Prim.Native.Nat.{ℕ, zero, suc, _+_, _*_, _≤_, _<_, min}
 use native.Mathlib.Omega.{arith}
 use lib.Dec.{eqb}
-use lib.ListN.{length, getD}
+use lib.ListN.{length}
 use borrow.Author.Tests.{ne-eqb}
 use Rattle.listing.specs.Listing.{Listing, assign, schedule, branch, jump, fork, end}
 use Rattle.table.specs.Decode.{word, cellsAt, nameAt, namesAt, piecesAt, callsAt, instructionOf, instructionAtEntry}
@@ -35,21 +35,13 @@ unfolding cellsAt
 length-names t a zero = refl
 length-names t a (suc n) = ap suc (length-names t (a + 2) n)
 
-pub name-at : (t : List ℕ) (a n k : ℕ) → k < n → getD (namesAt t a n) k 0 ≡ word t (a + 2 * k + 1)
-unfolding cellsAt nameAt
-name-at t a zero k h = absurd (let z : ⊥ = omega arith in z)
-name-at t a (suc n) zero h = let e : a + 1 ≡ a + 2 * 0 + 1 = omega arith in ap (λ (z : ℕ). word t z) e
-name-at t a (suc n) (suc k) h =
-    let e : a + 2 + 2 * k + 1 ≡ a + 2 * suc k + 1 = omega arith in
-    name-at t (a + 2) n k (omega arith) ∙ ap (λ (z : ℕ). word t z) e
-
 pub lists-none : (bindings : List Owner) (s : ℕ) (t : List ℕ) (a : ℕ) (lists : Owner → List ℕ) → listsWith bindings s (namesAt t a 0) lists ≡ lists
 unfolding listsWith listNames cellsAt
 lists-none bindings s t a lists = refl
 
 pub lists-next : (bindings : List Owner) (s : ℕ) (t : List ℕ) (a j : ℕ) (lists : Owner → List ℕ)
-    → listsWith bindings s (namesAt t a (suc j)) lists ≡ (λ o. consIf (sameOwner (ownerOf bindings (word t (a + 2 * j + 1))) o) s (listsWith bindings s (namesAt t a j) lists o))
-unfolding listsWith nameAt
+    → listsWith bindings s (namesAt t a (suc j)) lists ≡ (λ o. consIf (sameOwner (ownerOf bindings (nameAt t (a + 2 * j))) o) s (listsWith bindings s (namesAt t a j) lists o))
+unfolding listsWith
 lists-next bindings s t a j lists =
     fun-ext λ o. ap (λ (ns : List ℕ). listNames bindings s ns o (lists o)) (cells-last (nameAt t) a j) ∙ list-last bindings s (namesAt t a j) _ o (lists o)
 

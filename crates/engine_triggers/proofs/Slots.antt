@@ -5,25 +5,32 @@ use mathlib.Core.Path.{_≡_, refl, sym, ap, _∙_}
 use Prim.Native.Nat.{ℕ, suc, _+_, _*_, _≤_, _<_}
 use native.Mathlib.Omega.{arith}
 use Rattle.listing.specs.Listing.{Listing}
-use Rattle.table.specs.Decode.{word, namesAt, instructionEntry, instructionAtEntry}
+use Rattle.table.specs.Decode.{word, namesAt, instructionEntry}
+use Rattle.table_read.specs.Opened.{HasEntry, entryAt}
+use Rattle.table_read.specs.declared.Entry.{Entry}
 use Rattle.engine_rows.specs.Rows.{Owner, Row, Rows}
-use Rattle.engine_rows.specs.Triggers.{awaited, listNames, listIf, triggersOf}
+use Rattle.engine_rows.specs.Triggers.{listNames, listIf, triggersOf}
 use Rattle.engine_blocks.specs.Blocks.{rowsOf, ownerAt}
 use Rattle.engine_triggers.proofs.Chaining.{chains-start, chains-more}
 use Rattle.engine_triggers.proofs.Listing.{awaited-wait, awaited-none, names-agree}
 use Rattle.engine_triggers.specs.Awaited.{awaitedNames, NamesOf, listsWith, listedBelow}
 use Rattle.engine_triggers.specs.Chains.{triggersAt, NoTriggers, Chains}
 
--- ── the names of the instruction whose entry was found ────────────────────────────────────────────
-module _ (t : List ℕ) (row : Row) (entry kind : ℕ) (found : entry ≡ instructionEntry t (row .routine) (row .place)) (read : kind ≡ word t (entry + 0)) where
-  pub wait-names : kind ≡ 5 → (cells count : ℕ) → cells ≡ word t (entry + 2) → count ≡ word t (entry + 3) → awaitedNames t row ≡ namesAt t cells count
-  unfolding awaitedNames
-  wait-names h cells count e f =
-      ap (λ (k : ℕ). awaited (instructionAtEntry t k)) (sym found) ∙ awaited-wait t entry (sym read ∙ h) ∙ rw (e, f)
+-- ── the names of the instruction whose entry was read ─────────────────────────────────────────────
+module _ (t : List ℕ) (row : Row) (e : Entry) (read : e ≡ entryAt t (row .routine) (row .place)) where
+  kind-read : e .kind ≡ word t (instructionEntry t (row .routine) (row .place) + 0)
+  kind-read = ap (λ (x : Entry). x .kind) read
 
-  pub no-names : (kind ≡ 5 → ⊥) → awaitedNames t row ≡ []
+  pub wait-names : e .kind ≡ 5 → awaitedNames t row ≡ namesAt t (e .cells) (e .first)
   unfolding awaitedNames
-  no-names h = ap (λ (k : ℕ). awaited (instructionAtEntry t k)) (sym found) ∙ awaited-none t entry (λ e. h (read ∙ e))
+  wait-names h = let five = sym kind-read ∙ h in rw read (awaited-wait t (instructionEntry t (row .routine) (row .place)) five)
+
+  pub no-names : (e .kind ≡ 5 → ⊥) → awaitedNames t row ≡ []
+  unfolding awaitedNames
+  no-names h = awaited-none t (instructionEntry t (row .routine) (row .place)) (λ k. h (kind-read ∙ k))
+
+pub entry-as : (t : List ℕ) (r place s other : ℕ) → r ≡ s → place ≡ other → HasEntry t s other → HasEntry t r place
+entry-as t r place s other e f h = rw (e, f) h
 
 -- ── one slot ──────────────────────────────────────────────────────────────────────────────────────
 chains-as : {m : List ℕ} {n : ℕ} (lists others : Owner → List ℕ) → ((o : Owner) → lists o ≡ others o) → Chains m n lists → Chains m n others

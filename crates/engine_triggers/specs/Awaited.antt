@@ -2,10 +2,12 @@
 use mathlib.Core.Bool.{true}
 use mathlib.Core.List.{List, []}
 use mathlib.Core.Path.{_≡_}
-use Prim.Native.Nat.{ℕ, zero, suc, _≤_, _<_}
+use Prim.Native.Nat.{ℕ, zero, suc, _+_, _*_, _≤_, _<_}
 use lib.ListN.{length, getD}
 use Rattle.listing.specs.Listing.{Listing}
+use Rattle.table.specs.Areas.{TableLong}
 use Rattle.table.specs.Decode.{instructionAtEntry, instructionEntry}
+use Rattle.table_read.specs.Opened.{HasEntry, entryAt}
 use Rattle.engine_rows.specs.Rows.{Owner, Row, Rows}
 use Rattle.engine_rows.specs.Triggers.{awaited, awaitedBy, listNames, listIf}
 use Rattle.engine_blocks.specs.Blocks.{rowsOf}
@@ -18,9 +20,17 @@ pub record FewNames (row : Row) (names : List ℕ) : Type 0 where
   pub few : length names ≤ 4
   pub named : (k : ℕ) → k < length names → getD names k 0 < length (row .bindings)
 
+-- A sleeper's instruction has its entry in the table; a wait's cells stand there, and have such names.
+pub record Sleeper (t : List ℕ) (row : Row) : Type 0 where
+  pub table : TableLong t
+  pub entry : HasEntry t (row .routine) (row .place)
+  pub inside : entryAt t (row .routine) (row .place) .kind ≡ 5
+      → entryAt t (row .routine) (row .place) .cells + 2 * entryAt t (row .routine) (row .place) .first ≤ 12288
+  pub names : FewNames row (awaitedNames t row)
+
 -- So it is for the sleeper in each slot.
 pub record Sleepers (t words : List ℕ) : Type 0 where
-  pub names : (s : ℕ) → s < 64 → (rowsOf words s) .asleep ≡ true → FewNames (rowsOf words s) (awaitedNames t (rowsOf words s))
+  pub each : (s : ℕ) → s < 64 → (rowsOf words s) .asleep ≡ true → Sleeper t (rowsOf words s)
 
 -- The sleepers' names are those that the listing has.
 pub record NamesOf (listing : Listing) (t words : List ℕ) : Type 0 where

@@ -1,5 +1,5 @@
 -- From words in place to the scan, and from the tests to question 7's answer.
-use mathlib.Core.Path.{_≡_}
+use mathlib.Core.Path.{_≡_, refl}
 use mathlib.Core.Bool.{Bool, true, false}
 use mathlib.Core.List.{List}
 use Prim.Native.Nat.{ℕ, _+_}
@@ -20,9 +20,9 @@ use Rattle.machine_check_tree.specs.Scan.{Ready, whole}
 use Rattle.machine_check.specs.Answer.{answerOf, checkOf, duesLeft}
 use Rattle.machine_check.specs.declared.MachineCheck.the-variants.{NotAState, Stopped, Running}
 
-pub size-of : (w : List ℕ) (i o : ℕ) → i ≡ word w 0 → o ≡ word w 1 → i + o ≡ environmentSize (tableListing w)
+pub size-of : (w : List ℕ) → word w 0 + word w 1 ≡ environmentSize (tableListing w)
 unfolding environmentSize tableListing
-size-of w i o a b = rw (a, b)
+size-of w = refl
 
 pub ready : (w m : List ℕ) → TableBounds w → Words32 m → wordsInPlace (environmentSize (tableListing w)) m ≡ true → Ready w m
 ready w m T s e = record {

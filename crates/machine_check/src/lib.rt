@@ -6,10 +6,8 @@ use machine_check_records::stopped_words;
 use machine_check_records::words_in_place;
 use machine_check_tree::scan::tree_passes;
 use machine_words::Test;
-use table::INPUTS;
-use table::OUTPUTS;
 use table::TABLE_WORDS;
-use words::number;
+use table_read::environment_size;
 ghost use mathlib.Core.Path.{_≡_};
 ghost use lib.ListN.{length};
 ghost use mathlib.Core.Bool.{true};
@@ -41,7 +39,7 @@ pub fn running_words(t: &[u32], m: &[u32], dues: &mut [u64; 65]) -> Test
         → Dues (environmentSize (tableListing (now (t .entry)))) (now (m .entry)) (now (dues .exit)))
         × (now (dues .exit) ≡ wordsKept (environmentSize (tableListing (now (t .entry)))) (now (m .entry)) (now (dues .entry))) ⌝ }
 {
-    let size = number(t[INPUTS]) + number(t[OUTPUTS]);
+    let size = environment_size(t);
     let Test::Passes(soonest) = words_in_place(m, size, dues) else {
         return Test::Fails;
     };

@@ -15,7 +15,7 @@ use Rattle.machine.specs.Records.{Frame, asleepAt, scan, recordsPass, mainFrame
 use Rattle.machine.specs.Words.{recordsIn}
 use Rattle.table_child_fields.specs.Tables.{TableBounds, HeadsFit, Seen, at-wait, at-fork, at-other, lineAt}
 use Rattle.table_child_fields.specs.declared.pick.Maker.{Maker}
-use Rattle.table_child_fields.specs.declared.routines.Line.{Line}
+use Rattle.table_read.specs.declared.Entry.{Entry}
 use Rattle.machine_check_tree.specs.Scan.{whole, recordOf, Ready, Heads, Stack, bottom, above, Going, Caller, Stepped}
 use Rattle.machine_check_tree.specs.Scan.{makerFor, refusedPath, enteredPath, pushedPath, pathAt, settledPath, pathBy, steppedPath}
 use Rattle.machine_check_tree.specs.declared.scan.Path.{Path}
@@ -63,7 +63,7 @@ pushed-fields p q level cells count l a e =
     }
 
 -- ── the path by its cases ─────────────────────────────────────────────────────────────────────────
-module _ (p q : Path) (level : ℕ) (line : Line) where
+module _ (p q : Path) (level : ℕ) (line : Entry) where
   pub at-wait-path : line .kind ≡ 5 → q ≡ pathAt p q level line
   unfolding pathAt
   at-wait-path h = rw (eq-eqb _ _ h)
@@ -76,12 +76,12 @@ module _ (p q : Path) (level : ℕ) (line : Line) where
   unfolding pathAt
   at-deep-path h l = rw (h, lt-leb _ _ l)
 
-  pub at-fork-path : line .kind ≡ 6 → level ≤ 9 → pushedPath q level (line .cells) (line .count) ≡ pathAt p q level line
+  pub at-fork-path : line .kind ≡ 6 → level ≤ 9 → pushedPath q level (line .cells) (line .first) ≡ pathAt p q level line
   unfolding pathAt
   at-fork-path h l = rw (h, le-leb _ _ l)
 
 module _ (w m : List ℕ) (k : ℕ) (p : Path) (made : Maker) where
-  pub settled-as : (level child place : ℕ) (q : Path) (line : Line) → level ≡ (recordOf m k) .level → child ≡ (recordOf m k) .child →
+  pub settled-as : (level child place : ℕ) (q : Path) (line : Entry) → level ≡ (recordOf m k) .level → child ≡ (recordOf m k) .child →
       place ≡ (recordOf m k) .place → q ≡ enteredPath p level child (made .head) (made .left) → line ≡ lineAt w (made .routine) place →
       pathAt p q level line ≡ settledPath w m k p made
   settled-as level child place q line a b c e f = rw (f, e, a, b, c)

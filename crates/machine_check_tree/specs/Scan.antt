@@ -14,7 +14,7 @@ use Rattle.machine.specs.Words.{blockAt, momentAt, slotOf, recordIn, recordsIn}
 use Rattle.table_child_fields.specs.Tables.{TableBounds, HeadsFit, lineAt}
 use Rattle.table_child_fields.specs.Picking.{noMaker, makerOf}
 use Rattle.table_child_fields.specs.declared.pick.Maker.{Maker}
-use Rattle.table_child_fields.specs.declared.routines.Line.{Line}
+use Rattle.table_read.specs.declared.Entry.{Entry}
 use Rattle.machine_check_tree.specs.declared.scan.Path.{Path}
 
 abbrev pub whole : List ℕ → List ℕ → Bool
@@ -114,10 +114,10 @@ pushedPath p level cells count = record {
 }
 
 -- A record of this level at this instruction: "asleep at a `W` or at an `F`", "to level 10". p is the path before it, q with it entered.
-unfoldable pub pathAt : Path → Path → ℕ → Line → Path
+unfoldable pub pathAt : Path → Path → ℕ → Entry → Path
 pathAt p q level line =
     cond (eqb (line .kind) 5) q
-    (cond (eqb (line .kind) 6) (cond (leb level 9) (pushedPath q level (line .cells) (line .count)) (refusedPath p)) (refusedPath p))
+    (cond (eqb (line .kind) 6) (cond (leb level 9) (pushedPath q level (line .cells) (line .first)) (refusedPath p)) (refusedPath p))
 
 -- The path after the k-th record, which has its own variables.
 abbrev pub settledPath : List ℕ → List ℕ → ℕ → Path → Maker → Path

@@ -9,6 +9,8 @@ use machine::LIVE;
 use machine::ORDER;
 use machine::OWN;
 use machine::PLACE;
+use table::FORK;
+use table::WAIT;
 use table_child_fields::pick::Maker;
 use table_child_fields::pick::no_maker;
 use table_child_fields::pick::pick;
@@ -123,16 +125,16 @@ fn settle(t: &[u32], m: &[u32], k: usize, p: Path, made: Maker) -> Path
     let q = entered(p, level, child, made.head, made.left);
     let line = line_at(t, made.routine, place);
     let kind = line.kind;
-    if kind == 5 {
+    if kind == WAIT {
         return q;
     }
-    if kind != 6 {
+    if kind != FORK {
         return refused(p);
     }
     if 9 < level {
         return refused(p); // its children would be at level 11
     }
-    pushed(q, level, line.cells, line.count)
+    pushed(q, level, line.cells, line.first)
 }
 
 // The path after the k-th record: is it a child that may come now, with its own variables, asleep?

@@ -37,6 +37,11 @@ calls-by-place w zero a j d h = absurd (omega arith)
 calls-by-place w (suc n) a zero d h = refl
 calls-by-place w (suc n) a (suc j) d h = calls-by-place w n (afterCall w a) j d (omega arith)
 
+pub head-after-next : (w : List ℕ) (a k : ℕ) → headAfter w a (suc k) ≡ afterCall w (headAfter w a k)
+unfolding headAfter
+head-after-next w a zero = refl
+head-after-next w a (suc k) = head-after-next w (afterCall w a) k
+
 -- ── how many there are ───────────────────────────────────────────────────────────
 pub cells-count : {A : Type 0} (f : ℕ → A) (n a : ℕ) → length (cellsAt f a n) ≡ n
 unfolding cellsAt

@@ -18,17 +18,16 @@ use table::ENTRIES;
 use table::ENTRY_WORDS;
 use table::FIRST_ENTRY;
 use table::FORK;
-use table::INPUTS;
 use table::JUMP;
 use table::KIND;
 use table::KIND_BITS;
 use table::LOCALS;
-use table::OUTPUTS;
 use table::ROUTINE_WORDS;
 use table::ROUTINES;
 use table::SIZE;
 use table::TABLE_WORDS;
 use table_check_code::code_past;
+use table_read::environment_size;
 
 // ---- a routine's entry ----
 
@@ -93,9 +92,7 @@ fn main_passes(t: &[u32]) -> bool
 {
     let arguments = t[8];
     let bits = t[9];
-    let inputs = t[INPUTS] as usize;
-    let outputs = t[OUTPUTS] as usize;
-    if (arguments as usize) != inputs + outputs {
+    if (arguments as usize) != environment_size(t) {
         return false;
     }
     all_by_reference(arguments, bits)

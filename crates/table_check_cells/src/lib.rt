@@ -17,6 +17,9 @@ use table::ROUTINE_COUNT;
 use table::ROUTINE_WORDS;
 use table::ROUTINES;
 use table::WRITTEN_MARK;
+use table_read::head_at;
+use table_read::next_head;
+use words::number;
 
 // The number of values held once one is pushed, 0 for a no.
 fn push(held: u32) -> u32
@@ -106,12 +109,12 @@ fn head_passes(t: &[u32], a: usize) -> bool
     requires { ⌜ TableLong (now t) × (a + 2 ≤ 12288) × (word (now t) 2 ≤ 64) ⌝ }
     ensures { λ r. ⌜ r ≡ headTest (now (t .entry)) a ⌝ }
 {
-    let callee = t[a + 1];
-    if callee >= t[ROUTINE_COUNT] {
+    let head = head_at(t, a);
+    if head.callee >= number(t[ROUTINE_COUNT]) {
         return false;
     }
-    let entry = ROUTINES + ROUTINE_WORDS * (callee as usize);
-    t[a + 0] == t[entry + ARGUMENTS]
+    let entry = ROUTINES + ROUTINE_WORDS * head.callee;
+    head.arguments == number(t[entry + ARGUMENTS])
 }
 
 // Behind `n` child fields.
@@ -122,8 +125,8 @@ pub fn calls_past(t: &[u32], names: u32, cells: usize, n: u32) -> usize
     let mut a = cells;
     let mut left = n;
     while left > 0 {
-        let count = t[a + 0] as usize;
-        let stop = a + (2 + 2 * count);
+        let count = head_at(t, a).arguments;
+        let stop = next_head(t, a);
         if !head_passes(t, a) {
             return 0;
         }

@@ -1,15 +1,15 @@
 -- The child field that is looked for: there is none, or it is this one.
-use mathlib.Core.Path.{_≡_, refl, _∙_}
+use mathlib.Core.Path.{_≡_, refl, sym, ap, _∙_}
 use mathlib.Core.Bool.{Bool, true, false, cond}
 use mathlib.Core.List.{List}
-use Prim.Native.Nat.{ℕ, _+_, _*_, _-_, _<_, _≤_}
+use Prim.Native.Nat.{ℕ, _+_, _-_, _<_, _≤_}
 use lib.Dec.{ltb, leb}
 use borrow.Author.Tests.{ltb-true, ltb-false, leb-true, leb-false, lt-ltb, le-ltb, le-leb, lt-leb}
 use native.Mathlib.Omega.{arith}
-use Rattle.table.specs.Decode.{headAfter, word}
+use Rattle.table.specs.Decode.{afterCall, headAfter, word}
 use Rattle.table_child_fields.specs.Picking.{noMaker, makerAfter, makerOf}
 use Rattle.table_child_fields.specs.declared.pick.Maker.{Maker}
-use Rattle.table_child_fields.proofs.TableLaws.{next-head}
+use Rattle.table_child_fields.proofs.TableLaws.{head-after-one}
 
 pub no-clash : {A : Type 0} {b : Bool} → b ≡ false → b ≡ true → A
 no-clash e f = absurd (let z : _≡_ {A = ℕ} 0 1 = cc in let y : ⊥ = omega arith in y)
@@ -29,11 +29,11 @@ module _ (w : List ℕ) (first left next child : ℕ) where
   a-maker l h = rw (le-ltb child next l, lt-leb left (child - next) h)
 
   pub a-maker-picked : (head routine after : ℕ) → next ≤ child → child - next < left → head ≡ headAfter w first (child - next) →
-      routine ≡ word w (head + 1) → after ≡ head + (2 + 2 * word w head) →
+      routine ≡ word w (head + 1) → after ≡ afterCall w head →
       _≡_ {A = Maker} (record { found = true; routine = routine; head = after; left = left - (child - next) - 1 }) (makerOf w first left next child)
   a-maker-picked head routine after low high h r a =
       let callee : routine ≡ word w (headAfter w first (child - next) + 1) = rw h at r in
-      let later : after ≡ headAfter w first (child - next + 1) = a ∙ next-head w first (child - next) head h in
+      let later : after ≡ headAfter w first (child - next + 1) = a ∙ ap (afterCall w) h ∙ sym (head-after-one w first (child - next)) in
       rw (callee, later) (a-maker low high)
 
 -- ── what the maker tells ──────────────────────────────────────────────────────────────────────────

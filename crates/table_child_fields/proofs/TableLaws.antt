@@ -15,7 +15,7 @@ use Rattle.table.specs.Decode.{headAfter, word, afterCall, callsAt, namesAt, in
 use Rattle.table.proofs.Reach.{owned-by-number, code-length-by-number, instruction-by-address}
 use Rattle.machine.specs.Records.{Frame, Scan, asleepAt}
 use Rattle.table_child_fields.specs.Tables.{TableBounds, Seen, at-wait, at-fork, at-other, pastLine, lineAt}
-use Rattle.table_child_fields.specs.declared.routines.Line.{Line}
+use Rattle.table_read.specs.Opened.{entryAt}
 
 -- ── owned variables ───────────────────────────────────────────────────────────────────────────────
 one-more : (ks : List Kind) (l : ℕ) → ownedCount ks (suc l) ≡ suc (ownedCount ks l)
@@ -64,20 +64,14 @@ pub head-after-one : (w : List ℕ) (a i : ℕ) → headAfter w a (i + 1) ≡ af
 unfolding headAfter
 head-after-one w a i = sym (head-after-add w a i 1)
 
-pub next-head : (w : List ℕ) (a i at : ℕ) → at ≡ headAfter w a i → at + (2 + 2 * word w at) ≡ headAfter w a (i + 1)
-unfolding afterCall
-next-head w a i at e = let p : at + 0 ≡ at = omega arith in sym (head-after-one w a i ∙ rw (← e, p))
-
 -- ── instructions ──────────────────────────────────────────────────────────────────────────────────
 pub line-past : (w : List ℕ) (r place : ℕ) → word w (8 + 5 * r + 4) ≤ place → pastLine ≡ lineAt w r place
 unfolding lineAt
 line-past w r place h = rw (le-leb _ _ h)
 
-pub line-there : (w : List ℕ) (r place kind cells count : ℕ) → place < word w (8 + 5 * r + 4) → kind ≡ word w (instructionEntry w r place + 0) →
-    cells ≡ word w (instructionEntry w r place + 2) → count ≡ word w (instructionEntry w r place + 3) →
-    _≡_ {A = Line} (record { kind = kind; cells = cells; count = count }) (lineAt w r place)
+pub line-there : (w : List ℕ) (r place : ℕ) → place < word w (8 + 5 * r + 4) → entryAt w r place ≡ lineAt w r place
 unfolding lineAt
-line-there w r place kind cells count h k c n = rw (lt-leb _ _ h, k, c, n)
+line-there w r place h = rw (lt-leb _ _ h)
 
 module _ (w : List ℕ) (bounds : TableBounds w) (r : ℕ) (there : r < word w 2) (place : ℕ) where
   pub past-the-end : word w (8 + 5 * r + 4) ≤ place → Seen w r place 7 0 0
@@ -115,16 +109,18 @@ module _ (w : List ℕ) (bounds : TableBounds w) (r : ℕ) (there : r < word w 2
     unfolding instructionOf
     is-fork kind a b c d e = rw e
 
-    pub seen : (kind cells count : ℕ) → kind ≡ word w (instructionEntry w r place + 0) → cells ≡ word w (instructionEntry w r place + 2) →
-        count ≡ word w (instructionEntry w r place + 3) → Seen w r place kind cells count
-    seen kind cells count k c n = rw (c, n) (by (eqb kind 5) refl (eqb kind 6) refl)
+    pub seen : Seen w r place (entryAt w r place .kind) (entryAt w r place .cells) (entryAt w r place .first)
+    seen = by (eqb kind 5) refl (eqb kind 6) refl
       where
+        kind : ℕ
+        kind = word w (instructionEntry w r place + 0)
+
         by : (x : Bool) → eqb kind 5 ≡ x → (y : Bool) → eqb kind 6 ≡ y →
             Seen w r place kind (word w (instructionEntry w r place + 2)) (word w (instructionEntry w r place + 3))
-        by true e y f = at-wait (eqb-true _ _ e) (reached ∙ is-wait _ _ _ _ _ (sym k ∙ eqb-true _ _ e))
+        by true e y f = at-wait (eqb-true _ _ e) (reached ∙ is-wait _ _ _ _ _ (eqb-true _ _ e))
         by false e true f =
-            at-fork (eqb-true _ _ f) (reached ∙ is-fork _ _ _ _ _ (sym k ∙ eqb-true _ _ f)) (bounds .heads r place there within (sym k ∙ eqb-true _ _ f))
+            at-fork (eqb-true _ _ f) (reached ∙ is-fork _ _ _ _ _ (eqb-true _ _ f)) (bounds .heads r place there within (eqb-true _ _ f))
         by false e false f =
             let ne5 : kind ≡ 5 → ⊥ = eqb-false _ _ e in
             let ne6 : kind ≡ 6 → ⊥ = eqb-false _ _ f in
-            at-other ne5 ne6 (λ now level go frames. rw (reached, ← k) (no-sleep kind _ _ _ _ ne5 ne6 now level go frames))
+            at-other ne5 ne6 (λ now level go frames. rw reached (no-sleep kind _ _ _ _ ne5 ne6 now level go frames))

@@ -8,7 +8,8 @@ use Rattle.listing.specs.Listing.{wait, fork}
 use Rattle.walk.specs.Walk.{instructionAt}
 use Rattle.table.specs.Decode.{word, callsAt, headAfter, routineEntry, instructionEntry, sizeOf, tableListing}
 use Rattle.machine.specs.Records.{Frame, Scan, asleepAt}
-use Rattle.table_child_fields.specs.declared.routines.Line.{Line}
+use Rattle.table_read.specs.Opened.{entryAt}
+use Rattle.table_read.specs.declared.Entry.{Entry}
 
 -- n heads from a on: they stand in the memory and call routines of the table.
 pub record HeadsFit (w : List ℕ) (a n : ℕ) : Type 0 where
@@ -25,16 +26,12 @@ pub record TableBounds (w : List ℕ) : Type 0 where
   pub heads : (r place : ℕ) → r < word w 2 → place < word w (routineEntry r + 4) → word w (instructionEntry w r place + 0) ≡ 6 →
       HeadsFit w (word w (instructionEntry w r place + 2)) (word w (instructionEntry w r place + 3))
 
--- Of the entry of instruction `place` of routine r its kind, the address of its cells and their first count; past the last one, an `E`.
-abbrev pub pastLine : Line
-pastLine = record { kind = 7; cells = 0; count = 0 }
+-- The entry of instruction `place` of routine r; past the last one, that of an `E`.
+abbrev pub pastLine : Entry
+pastLine = record { kind = 7; operand = 0; cells = 0; first = 0; second = 0 }
 
-unfoldable pub lineAt : List ℕ → ℕ → ℕ → Line
-lineAt w r place = cond (leb (sizeOf w r) place) pastLine (record {
-  kind = word w (instructionEntry w r place + 0);
-  cells = word w (instructionEntry w r place + 2);
-  count = word w (instructionEntry w r place + 3);
-})
+unfoldable pub lineAt : List ℕ → ℕ → ℕ → Entry
+lineAt w r place = cond (leb (sizeOf w r) place) pastLine (entryAt w r place)
 
 -- A look at instruction `place` of routine r finds its kind; of an `F`, where its heads begin and how many there are.
 pub data Seen (w : List ℕ) (r place kind cells count : ℕ) : Type 0 where

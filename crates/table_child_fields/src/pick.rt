@@ -1,6 +1,7 @@
 // The child field that made a record, looked for among those that may still come.
-use crate::routines::head_after;
-use words::number;
+use table_read::head_after;
+use table_read::head_at;
+use table_read::next_head;
 ghost use mathlib.Core.Path.{_≡_};
 ghost use Rattle.table.specs.Areas.{TableLong};
 ghost use Rattle.table_child_fields.specs.Tables.{HeadsFit};
@@ -37,9 +38,9 @@ pub fn pick(t: &[u32], first: usize, left: usize, next: usize, child: usize) -> 
     if left <= skip {
         return no_maker();
     }
-    let head = head_after(t, first, left, skip);
-    let routine = number(t[head + 1]);
-    let after = head + (2 + 2 * number(t[head]));
+    let head = head_after(t, first, skip);
+    let routine = head_at(t, head).callee;
+    let after = next_head(t, head);
     Maker {
         found: true,
         routine: routine,

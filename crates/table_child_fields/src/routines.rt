@@ -1,22 +1,20 @@
-// What a table says of a routine: the variables it owns, the instruction at a place, the heads of its child fields.
+// What a table says of a routine: the variables it owns, the instruction at a place.
 
-use table::CELLS_AT;
-use table::ENTRIES;
-use table::ENTRY_WORDS;
-use table::FIRST_COUNT;
-use table::FIRST_ENTRY;
+use table::END;
 use table::KIND_BITS;
 use table::LOCALS;
 use table::ROUTINE_WORDS;
 use table::ROUTINES;
 use table::SIZE;
+use table_read::Entry;
+use table_read::fetch;
 use words::number;
 ghost use mathlib.Core.Path.{_≡_};
-ghost use Prim.Native.Nat.{ℕ, _+_, _*_, _<_, _≤_};
+ghost use Prim.Native.Nat.{_+_, _*_, _<_, _≤_};
 ghost use Rattle.table.specs.Areas.{TableLong};
 ghost use Rattle.walk.specs.Question7.{ownedBy};
-ghost use Rattle.table.specs.Decode.{word, headAfter, tableListing};
-ghost use Rattle.table_child_fields.specs.Tables.{TableBounds, HeadsFit, Seen, lineAt};
+ghost use Rattle.table.specs.Decode.{word, tableListing};
+ghost use Rattle.table_child_fields.specs.Tables.{TableBounds, Seen, lineAt};
 
 // How many variables routine r owns: its locals and its arguments by value.
 pub fn owned_by(t: &[u32], r: usize) -> usize
@@ -38,47 +36,21 @@ pub fn owned_by(t: &[u32], r: usize) -> usize
     owned
 }
 
-// The address of the head that follows k heads, the first of them at `head`.
-pub fn head_after(t: &[u32], head: usize, left: usize, k: usize) -> usize
-    requires { ⌜ TableLong (now t) × (k < left) × HeadsFit (now t) head left ⌝ }
-    ensures { λ r. ⌜ r ≡ headAfter (now (t .entry)) head k ⌝ }
-{
-    let mut at = head;
-    let mut i: usize = 0;
-    while i < k {
-        at = at + (2 + 2 * number(t[at]));
-        i += 1;
-    }
-    at
-}
-
-pub struct Line {
-    pub kind: usize,
-    pub cells: usize,
-    pub count: usize,
-}
-
 // Instruction `place` of routine r; past the last one, an `E`.
-pub fn line_at(t: &[u32], r: usize, place: usize) -> Line
+pub fn line_at(t: &[u32], r: usize, place: usize) -> Entry
     requires { ⌜ TableLong (now t) × (r < word (now t) 2) × TableBounds (now t) ⌝ }
-    ensures { λ l. ⌜ (l ≡ lineAt (now (t .entry)) r place) × Seen (now (t .entry)) r place (l .kind) (l .cells) (l .count) ⌝ }
+    ensures { λ l. ⌜ (l ≡ lineAt (now (t .entry)) r place) × Seen (now (t .entry)) r place (l .kind) (l .cells) (l .first) ⌝ }
 {
     let at = ROUTINES + ROUTINE_WORDS * r;
     let lines = number(t[at + SIZE]);
     if lines <= place {
-        return Line {
-            kind: 7,
+        return Entry {
+            kind: END,
+            operand: 0,
             cells: 0,
-            count: 0,
+            first: 0,
+            second: 0,
         };
     }
-    let entry = ENTRIES + ENTRY_WORDS * number(t[at + FIRST_ENTRY]) + ENTRY_WORDS * place;
-    let kind = number(t[entry]);
-    let cells = number(t[entry + CELLS_AT]);
-    let count = number(t[entry + FIRST_COUNT]);
-    Line {
-        kind: kind,
-        cells: cells,
-        count: count,
-    }
+    fetch(t, r, place)
 }

@@ -1,12 +1,16 @@
 -- The words of an instruction's entry and of a routine's, and what a routine's tells, in a table that passes question 6.
 use mathlib.Core.Path.{_≡_}
 use mathlib.Core.List.{List}
-use Prim.Native.Nat.{ℕ, _+_, _≤_}
+use Prim.Native.Nat.{ℕ, _+_, _≤_, _<_}
 use lib.ListN.{length}
 use Rattle.walk.specs.Walk.{routineAt}
 use Rattle.table.specs.Decode.{word, kindsOfBits, routineEntry, instructionEntry, sizeOf, tableListing}
 use Rattle.table_read.specs.declared.Entry.{Entry}
 use Rattle.table_read.specs.declared.Opening.{Opening}
+
+-- an entry for instruction `place` of routine r: "64 routines", "512 instructions in all"
+abbrev pub HasEntry : List ℕ → ℕ → ℕ → Type 0
+HasEntry w r place = (r < 64) × (word w (routineEntry r + 3) + place < 512)
 
 -- the five words of the entry of instruction `place` of routine r
 abbrev pub entryAt : List ℕ → ℕ → ℕ → Entry

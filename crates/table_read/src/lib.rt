@@ -1,28 +1,39 @@
-// Reading a table that passes question 6: an instruction by its routine and place, a routine's entry, a child field's head, a name.
+// Reading a table: the number of environment variables, an instruction by its routine and place, a routine's entry, a child field's head, a name.
 // `t` is a table's 12,288 words.
 
 ghost use mathlib.Core.Path.{_≡_};
 ghost use mathlib.Core.Bool.{true};
-ghost use Prim.Native.Nat.{_+_, _<_, _≤_};
-ghost use Rattle.table.specs.Areas.{cellEnd, TableLong};
-ghost use Rattle.table.specs.Decode.{word, nameAt, afterCall, sizeOf};
+ghost use Prim.Native.Nat.{ℕ, _+_, _<_, _≤_};
+ghost use lib.ListN.{length};
+ghost use Rattle.table.specs.Areas.{TableLong};
+ghost use Rattle.table.specs.Decode.{word, nameAt, afterCall, headAfter};
 ghost use Rattle.table.specs.Question6.{isTable};
-ghost use Rattle.table.specs.Entry.{Fetched};
-ghost use Rattle.table_read.specs.Opened.{Opened, entryAt, openingAt};
+ghost use Rattle.table_read.specs.Opened.{Opened, HasEntry, entryAt, openingAt};
 use table::ARGUMENTS;
 use table::CELLS_AT;
 use table::ENTRIES;
 use table::ENTRY_WORDS;
 use table::FIRST_COUNT;
 use table::FIRST_ENTRY;
+use table::INPUTS;
 use table::KIND;
 use table::KIND_BITS;
 use table::LOCALS;
 use table::OPERAND;
+use table::OUTPUTS;
 use table::ROUTINE_WORDS;
 use table::ROUTINES;
 use table::SECOND_COUNT;
 use table::SIZE;
+use words::number;
+
+// The number of environment variables: the inputs and the outputs.
+pub fn environment_size(t: &[u32]) -> usize
+    requires { ⌜ 2 ≤ length (now t) ⌝ }
+    ensures { λ r. ⌜ r ≡ word (now (t .entry)) 0 + word (now (t .entry)) 1 ⌝ }
+{
+    number(t[INPUTS]) + number(t[OUTPUTS])
+}
 
 // An instruction's entry: its kind (1 `S`, 2 `A`, 3 `U`, 4 `G`, 5 `W`, 6 `F`, 7 `E`), the name or the jump, the word address of its cells, two counts.
 pub struct Entry {
@@ -35,9 +46,8 @@ pub struct Entry {
 
 // Instruction `place` of routine `r`.
 pub fn fetch(t: &[u32], r: usize, place: usize) -> Entry
-    requires { ⌜ (isTable (now t) ≡ true) × (r < word (now t) 2) × (place < sizeOf (now t) r) ⌝ }
-    ensures { λ e. ⌜ (e ≡ entryAt (now (t .entry)) r place)
-        × Fetched (now (t .entry)) r place (e .kind) (e .operand) (e .cells) (e .first) (e .second) ⌝ }
+    requires { ⌜ TableLong (now t) × HasEntry (now t) r place ⌝ }
+    ensures { λ e. ⌜ e ≡ entryAt (now (t .entry)) r place ⌝ }
 {
     let a = ROUTINES + ROUTINE_WORDS * r;
     let start = t[a + FIRST_ENTRY] as usize;
@@ -91,8 +101,8 @@ pub fn head_at(t: &[u32], a: usize) -> Head
     requires { ⌜ TableLong (now t) × (a + 2 ≤ 12288) ⌝ }
     ensures { λ h. ⌜ (h .arguments ≡ word (now (t .entry)) (a + 0)) × (h .callee ≡ word (now (t .entry)) (a + 1)) ⌝ }
 {
-    let arguments = t[a + 0] as usize;
-    let callee = t[a + 1] as usize;
+    let arguments = number(t[a + 0]);
+    let callee = number(t[a + 1]);
     Head { arguments, callee }
 }
 
@@ -101,8 +111,22 @@ pub fn next_head(t: &[u32], a: usize) -> usize
     requires { ⌜ TableLong (now t) × (a + 2 ≤ 12288) ⌝ }
     ensures { λ r. ⌜ r ≡ afterCall (now (t .entry)) a ⌝ }
 {
-    let arguments = t[a + 0] as usize;
+    let arguments = number(t[a + 0]);
     a + (2 + 2 * arguments)
+}
+
+// The head behind `k` child fields, the first of them at `first`.
+pub fn head_after(t: &[u32], first: usize, k: usize) -> usize
+    requires { ⌜ TableLong (now t) × ((j : ℕ) → j < k → headAfter (now t) first j + 2 ≤ 12288) ⌝ }
+    ensures { λ r. ⌜ r ≡ headAfter (now (t .entry)) first k ⌝ }
+{
+    let mut head = first;
+    let mut i: usize = 0;
+    while i < k {
+        head = next_head(t, head);
+        i += 1;
+    }
+    head
 }
 
 // The name in the cell at `a`.
@@ -110,5 +134,5 @@ pub fn name_at(t: &[u32], a: usize) -> usize
     requires { ⌜ TableLong (now t) × (a + 2 ≤ 12288) ⌝ }
     ensures { λ r. ⌜ r ≡ nameAt (now (t .entry)) a ⌝ }
 {
-    t[a + 1] as usize
+    number(t[a + 1])
 }

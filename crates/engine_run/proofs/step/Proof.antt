@@ -1,7 +1,10 @@
 -- `step` meets its contract.
 use denote.Ref.{now}
-use mathlib.Core.Path.{_≡_, sym, _∙_}
+use mathlib.Core.Path.{_≡_, _∙_}
+use Prim.Native.Nat.{_<_}
 use borrow.Author.Needs.{needs}
+use Rattle.table.specs.Decode.{word, sizeOf}
+use Rattle.table_read.proofs.Fetching.{has-entry, entry-fetched}
 use Rattle.engine_rows.specs.Rows.{Row}
 use Rattle.engine_blocks.specs.Blocks.{rowsOf}
 use Rattle.engine_run.proofs.step.Statement.{statement}
@@ -28,7 +31,7 @@ fetch-requires c κs =
     let row = rowsOf (now (a .m)) (a .running .me) in
     let routine : c .before .before .before .number .result ≡ row .routine = c .before .before .before .number .ensures .0 ∙ c .before .before .before .before .routine .ensures in
     let place : c .number2 .result ≡ row .place = c .number2 .ensures .0 ∙ c .before .place .ensures in
-    (past .pre .table, rw routine (past .pre .routine), rw (place, routine) (past .pre .place))
+    has-entry (now (a .t)) (past .pre .table) _ (rw routine (past .pre .routine)) _ (rw (place, routine) (past .pre .place))
 
 execute-requires : tie.Need-execute-requires
 execute-requires c κs =
@@ -38,7 +41,9 @@ execute-requires c κs =
     let row = rowsOf (now (a .m)) (a .running .me) in
     let routine : past .number .result ≡ row .routine = past .number .ensures .0 ∙ past .before .routine .ensures in
     let place : c .before .before .number2 .result ≡ row .place = c .before .before .number2 .ensures .0 ∙ c .before .before .before .place .ensures in
-    (earlier .pre, rw (routine, place) at (c .before .fetch .ensures .1))
+    let there : past .number .result < word (now (a .t)) 2 = rw routine (earlier .pre .routine) in
+    let within : c .before .before .number2 .result < sizeOf (now (a .t)) (past .number .result) = rw (place, routine) (earlier .pre .place) in
+    (earlier .pre, rw (routine, place) at (entry-fetched (now (a .t)) (earlier .pre .table) (past .number .result) there (c .before .before .number2 .result) within (c .before .fetch .result) (c .before .fetch .ensures)))
 
 same-length : tie.Need-same-length
 same-length c = search needs

@@ -7,12 +7,13 @@ use native.Mathlib.Numerals.{add-one}
 use native.Mathlib.Omega.{arith}
 use lib.ListN.{length}
 use borrow.Author.Needs.{needs}
-use Rattle.table.specs.Decode.{namesAt}
+use Rattle.table.specs.Decode.{nameAt, namesAt}
+use Rattle.table.proofs.Reach.{cells-by-place}
 use Rattle.engine_rows.specs.Rows.{Owner, Row, Rows}
 use Rattle.engine_blocks.proofs.Staying.{rows-of-same}
 use Rattle.engine_blocks.specs.Blocks.{rowsOf}
 use Rattle.engine_triggers.proofs.Chaining.{only-start, only-then}
-use Rattle.engine_triggers.proofs.Listing.{length-names, name-at, bindings-few, lists-none, lists-next}
+use Rattle.engine_triggers.proofs.Listing.{length-names, bindings-few, lists-none, lists-next}
 use Rattle.engine_triggers.proofs.list_names.Statement.{statement}
 use Rattle.engine_triggers.specs.Awaited.{FewNames, listsWith}
 use Rattle.engine_triggers.specs.Chains.{Chains, OnlyTriggers}
@@ -35,26 +36,14 @@ loop-holds c =
     let e : 4 * a .s + 0 ≡ 4 * a .s = omega arith in
     (search needs, search needs, only-start (now (a .m)), λ lists C. rw (e, lists-none ((rowsOf (now (a .m)) (a .s)) .bindings) (a .s) (now (a .t)) (a .cells) lists) C)
 
-mul-table-word : tie.Need-mul-table-word Inv-loop μ-loop
-mul-table-word c =
-    let a = c .before .before .before .before .args in
-    let few : FewNames (rowsOf (now (a .m)) (a .s)) (namesAt (now (a .t)) (a .cells) (a .count)) = search needs in
-    omega (arith, length-names (now (a .t)) (a .cells) (a .count), few .few)
+mul-name-at : tie.Need-mul-name-at Inv-loop μ-loop
+mul-name-at c = search needs
 
-add-table-word : tie.Need-add-table-word Inv-loop μ-loop
-add-table-word c =
-    let a = c .before .before .before .before .args in
-    let few : FewNames (rowsOf (now (a .m)) (a .s)) (namesAt (now (a .t)) (a .cells) (a .count)) = search needs in
-    omega (arith, length-names (now (a .t)) (a .cells) (a .count), few .few)
+add-name-at : tie.Need-add-name-at Inv-loop μ-loop
+add-name-at c = search needs
 
-add-table-word-2 : tie.Need-add-table-word-2 Inv-loop μ-loop
-add-table-word-2 c =
-    let a = c .before .before .before .before .args in
-    let few : FewNames (rowsOf (now (a .m)) (a .s)) (namesAt (now (a .t)) (a .cells) (a .count)) = search needs in
-    omega (arith, length-names (now (a .t)) (a .cells) (a .count), few .few)
-
-table-word-requires : tie.Need-table-word-requires Inv-loop μ-loop
-table-word-requires c κs = search needs
+name-at-requires : tie.Need-name-at-requires Inv-loop μ-loop
+name-at-requires c κs = search needs
 
 list-name-requires : tie.Need-list-name-requires Inv-loop μ-loop
 list-name-requires c κs =
@@ -66,7 +55,7 @@ list-name-requires c κs =
     let n = length-names t (a .cells) (a .count) in
     let h : v .j < a .count = search needs in
     let here : v .j < length (namesAt t (a .cells) (a .count)) = omega arith in
-    let e = c .before .table-word .ensures .0 ∙ sym (name-at t (a .cells) (a .count) (v .j) h) in
+    let e = c .before .name-at .ensures ∙ sym (cells-by-place (nameAt t) (a .count) (a .cells) (v .j) 0 h) in
     let same = ap (λ (x : Rows). length ((x (a .s)) .bindings)) (rows-of-same (v .inv .2 .rows)) in
     let low = few .named (v .j) here in
     let most = few .few in
@@ -94,7 +83,7 @@ loop-again c =
       omega arith,
       only-then (v .inv .2) (done .0),
       λ lists C. rw (add-one, lists-next (r .bindings) (a .s) t (a .cells) (v .j) lists, ← f)
-          (rw (rows, c .before .before .before .before .table-word .ensures .0) at (done .1 (listsWith (r .bindings) (a .s) (namesAt t (a .cells) (v .j)) lists) (v .inv .3 lists C))),
+          (rw (rows, c .before .before .before .before .name-at .ensures) at (done .1 (listsWith (r .bindings) (a .s) (namesAt t (a .cells) (v .j)) lists) (v .inv .3 lists C))),
     )
 
 same-length : tie.Need-same-length Inv-loop μ-loop
@@ -114,10 +103,9 @@ list-names-spec =
     Inv-loop
     μ-loop
     loop-holds
-    mul-table-word
-    add-table-word
-    add-table-word-2
-    table-word-requires
+    mul-name-at
+    add-name-at
+    name-at-requires
     list-name-requires
     add-j
     loop-less

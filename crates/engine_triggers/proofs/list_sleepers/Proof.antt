@@ -35,7 +35,7 @@ list-slot-requires c κs =
     let a = c .before .before .before .before .before .args in
     let v = c .before .before .loop in
     let all : Sleepers (now (a .t)) (now (a .m)) = search needs in
-    (search needs, search needs, rw (rows-of-same (v .inv .2 .rows)) (all .names (v .s) (search needs)))
+    (search needs, search needs, rw (rows-of-same (v .inv .2 .rows)) (all .each (v .s) (search needs)))
 
 add-s : tie.Need-add-s Inv-loop μ-loop
 add-s c = search needs

@@ -1,7 +1,7 @@
 -- `table_check::main_passes` meets its contract.
 use denote.Ref.{now}
 use Prim.Native.Nat.{_+_}
-use mathlib.Core.Path.{sym, _∙_}
+use mathlib.Core.Path.{_≡_, sym, _∙_}
 use native.Mathlib.Omega.{arith}
 use borrow.Author.Tests.{eq-eqb, ne-eqb}
 use Rattle.table.specs.Decode.{word}
@@ -16,44 +16,25 @@ shared-slice-read-arguments c = omega arith
 shared-slice-read-bits : tie.Need-shared-slice-read-bits
 shared-slice-read-bits c = omega arith
 
-shared-slice-read-inputs : tie.Need-shared-slice-read-inputs
-shared-slice-read-inputs c = omega arith
-
-cast-inputs : tie.Need-cast-inputs
-cast-inputs c =
-    let g = c .before .before .before .shared-slice-known .given in
-    omega (arith, g 0, g 1, g 8)
-
-shared-slice-read-outputs : tie.Need-shared-slice-read-outputs
-shared-slice-read-outputs c = omega arith
-
-cast-outputs : tie.Need-cast-outputs
-cast-outputs c =
-    let g = c .before .before .before .before .shared-slice-known .given in
-    omega (arith, g 0, g 1, g 8)
-
 cast-if1 : tie.Need-cast-if1
 cast-if1 c =
-    let g = c .before .before .before .before .shared-slice-known .given in
-    omega (arith, g 0, g 1, g 8)
+    omega (arith, c .before .before .shared-slice-known .given 8)
 
-add-if1 : tie.Need-add-if1
-add-if1 c =
-    let g = c .before .before .before .before .shared-slice-known .given in
-    omega (arith, g 0, g 1, g 8)
+environment-size-requires : tie.Need-environment-size-requires
+environment-size-requires c κs = search needs
 
 returns : tie.Need-returns
 returns c =
-    let w = now (c .before .before .before .before .before .before .args .t) in
-    sym (opening.main-opens w ∙ rw (ne-eqb (word w 8) (word w 0 + word w 1) (c .if1 .taken)))
+    let w = now (c .before .before .before .before .before .args .t) in
+    sym (opening.main-opens w ∙ rw (ne-eqb (word w 8) (word w 0 + word w 1) (λ (z : word w 8 ≡ word w 0 + word w 1). c .if1 .taken (z ∙ sym (c .before .environment-size .ensures)))))
 
 all-by-reference-requires : tie.Need-all-by-reference-requires
 all-by-reference-requires c κs = search needs
 
 returns-2 : tie.Need-returns-2
 returns-2 c =
-    let w = now (c .before .before .before .before .before .before .before .args .t) in
-    c .all-by-reference .ensures ∙ sym (opening.main-opens w ∙ rw (eq-eqb (word w 8) (word w 0 + word w 1) (omega arith)))
+    let w = now (c .before .before .before .before .before .before .args .t) in
+    c .all-by-reference .ensures ∙ sym (opening.main-opens w ∙ rw (eq-eqb (word w 8) (word w 0 + word w 1) (c .before .if1 .left ∙ c .before .before .environment-size .ensures)))
 
 pub main-passes-spec : {M : Type 1} → statement M
 main-passes-spec =
@@ -61,12 +42,8 @@ main-passes-spec =
     (tie.spec
     shared-slice-read-arguments
     shared-slice-read-bits
-    shared-slice-read-inputs
-    cast-inputs
-    shared-slice-read-outputs
-    cast-outputs
     cast-if1
-    add-if1
+    environment-size-requires
     returns
     all-by-reference-requires
     returns-2)

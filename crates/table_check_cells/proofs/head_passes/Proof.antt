@@ -2,80 +2,70 @@
 use denote.Ref.{now}
 use Prim.Native.Nat.{_+_}
 use native.Mathlib.Omega.{arith}
+use borrow.Author.Needs.{needs}
 use borrow.Author.Tests.{lt-ltb, le-ltb}
 use Rattle.table.specs.Decode.{word}
 use Rattle.table_check_cells.specs.Pass.{headTest}
 use Rattle.table_check_cells.proofs.head_passes.Statement.{statement}
 use Rattle.table_check_cells.proofs.head_passes.Tie as tie
 
-add-callee : tie.Need-add-callee
-add-callee c = omega arith
+head-at-requires : tie.Need-head-at-requires
+head-at-requires c κs = search needs
 
-mul-callee : tie.Need-mul-callee
-mul-callee c = omega arith
+shared-slice-read-number : tie.Need-shared-slice-read-number
+shared-slice-read-number c = search needs
 
-shared-slice-read-callee : tie.Need-shared-slice-read-callee
-shared-slice-read-callee c = omega arith
-
-shared-slice-read-if1 : tie.Need-shared-slice-read-if1
-shared-slice-read-if1 c = omega arith
+number-requires : tie.Need-number-requires
+number-requires c κs = search needs
 
 returns : tie.Need-returns
 unfolding headTest
 returns c =
-    let a = c .before .before .before .args in
-    rw (le-ltb (word (now (a .t)) (a .a + 1)) (word (now (a .t)) 2) (c .if1 .taken))
-
-cast-entry : tie.Need-cast-entry
-cast-entry c =
-    omega (arith, (c .before .shared-slice-known2 .given) ((c .before .before .before .args .a) + 1))
+    let past = c .before .before .before .before in
+    let a = past .before .before .args in
+    let w = now (a .t) in
+    rw (le-ltb (word w (a .a + 1)) (word w 2) (omega (arith, c .if1 .taken, c .before .before .number .ensures .0, past .head-at .ensures .1)))
 
 mul-entry : tie.Need-mul-entry
-mul-entry c = omega arith
+mul-entry c = search needs
 
 add-entry : tie.Need-add-entry
-add-entry c = omega arith
+add-entry c = search needs
 
-add-result : tie.Need-add-result
-add-result c = omega arith
+add-number : tie.Need-add-number
+add-number c = search needs
 
-mul-result : tie.Need-mul-result
-mul-result c = omega arith
+mul-number : tie.Need-mul-number
+mul-number c = search needs
 
-shared-slice-read-result : tie.Need-shared-slice-read-result
-shared-slice-read-result c = omega arith
+shared-slice-read-number-2 : tie.Need-shared-slice-read-number-2
+shared-slice-read-number-2 c = search needs
 
-add-result-2 : tie.Need-add-result-2
-add-result-2 c = omega arith
-
-mul-result-2 : tie.Need-mul-result-2
-mul-result-2 c = omega arith
-
-shared-slice-read-result-2 : tie.Need-shared-slice-read-result-2
-shared-slice-read-result-2 c = omega arith
+number-requires-2 : tie.Need-number-requires-2
+number-requires-2 c κs = search needs
 
 returns-2 : tie.Need-returns-2
 unfolding headTest
 returns-2 c =
-    let a = c .before .before .before .before .before .args in
-    rw (lt-ltb (word (now (a .t)) (a .a + 1)) (word (now (a .t)) 2) (omega arith))
+    let past = c .before .before .before .before in
+    let head = past .before .before .before .before .head-at .ensures in
+    let a = past .before .before .before .before .before .before .args in
+    let w = now (a .t) in
+    let there = lt-ltb (word w (a .a + 1)) (word w 2) (omega (arith, past .if1 .left, past .before .before .number .ensures .0, head .1)) in
+    rw (there, c .before .number2 .ensures .0, head .0, head .1)
 
 pub head-passes-spec : {M : Type 1} → statement M
 head-passes-spec =
     tie.close
     (tie.spec
-    add-callee
-    mul-callee
-    shared-slice-read-callee
-    shared-slice-read-if1
+    head-at-requires
+    shared-slice-read-number
+    number-requires
     returns
-    cast-entry
     mul-entry
     add-entry
-    add-result
-    mul-result
-    shared-slice-read-result
-    add-result-2
-    mul-result-2
-    shared-slice-read-result-2
+    add-number
+    mul-number
+    shared-slice-read-number-2
+    number-requires-2
     returns-2)

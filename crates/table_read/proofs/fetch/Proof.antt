@@ -7,22 +7,18 @@ use mir.Val.{Fits}
 use mir.Syntax.{w64}
 use lib.ListN.{length}
 use Rattle.table.specs.Decode.{word}
-use Rattle.table.proofs.Bounds.{bounds}
-use Rattle.table.proofs.Entry.{fetched}
 use Rattle.table_read.proofs.fetch.Statement.{statement}
 use Rattle.table_read.proofs.fetch.Tie as tie
 
 -- routine r's entry is among the words
 entry-room : (s : tie.Start) → 8 + 5 * s .args .r + 5 ≤ length (now (s .args .t))
 entry-room s =
-    let b = bounds (now (s .args .t)) (s .pre .0) in
-    omega (arith, b .words, b .few, s .pre .1)
+    omega (arith, s .pre .0, s .pre .1 .0)
 
 -- the instruction's entry is among the words
 room : (s : tie.Start) → 328 + 5 * word (now (s .args .t)) (8 + 5 * s .args .r + 3) + 5 * s .args .place + 5 ≤ length (now (s .args .t))
 room s =
-    let b = bounds (now (s .args .t)) (s .pre .0) in
-    omega (arith, b .words, s .pre .2, b .code (s .args .r) (s .pre .1))
+    omega (arith, s .pre .0, s .pre .1 .1)
 
 -- a word of the table is a usize
 wide : (c : tie.After-shared-slice-known) (j : ℕ) → Fits w64 (word (now (c .before .args .t)) j)
@@ -116,10 +112,7 @@ cast-second : tie.Need-cast-second
 cast-second c = wide (c .before .before .before .before .before) _
 
 returns : tie.Need-returns
-returns c =
-    let s = c .before .before .before .before .before .before in
-    let a = s .args in
-    (refl, fetched (now (a .t)) (s .pre .0) (a .r) (s .pre .1) (a .place) (s .pre .2))
+returns c = refl
 
 pub fetch-spec : {M : Type 1} → statement M
 fetch-spec =

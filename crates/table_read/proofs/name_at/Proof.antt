@@ -1,31 +1,26 @@
 -- `table_read::name_at` meets its contract.
-use Prim.Native.Nat.{_+_}
-use mathlib.Core.Path.{refl}
-use native.Mathlib.Omega.{arith}
+use borrow.Author.Needs.{needs}
 use Rattle.table.specs.Decode.{nameAt}
 use Rattle.table_read.proofs.name_at.Statement.{statement}
 use Rattle.table_read.proofs.name_at.Tie as tie
 
-add-result : tie.Need-add-result
-add-result c = omega arith
+add-number : tie.Need-add-number
+add-number c = search needs
 
-mul-result : tie.Need-mul-result
-mul-result c = omega arith
+mul-number : tie.Need-mul-number
+mul-number c = search needs
 
-shared-slice-read-result : tie.Need-shared-slice-read-result
-shared-slice-read-result c = omega arith
+shared-slice-read-number : tie.Need-shared-slice-read-number
+shared-slice-read-number c = search needs
 
-cast-result : tie.Need-cast-result
-cast-result c =
-    let a = c .before .args in
-    let g = c .shared-slice-known .given in
-    omega (arith, g (a .a + 1))
+number-requires : tie.Need-number-requires
+number-requires c κs = search needs
 
 returns : tie.Need-returns
 unfolding nameAt
 returns c =
-    refl
+    c .number .ensures .0
 
 pub name-at-spec : {M : Type 1} → statement M
 name-at-spec =
-    tie.close (tie.spec add-result mul-result shared-slice-read-result cast-result returns)
+    tie.close (tie.spec add-number mul-number shared-slice-read-number number-requires returns)

@@ -1,15 +1,18 @@
--- `begin_instant` meets its contract. Letters for what is known after a call: o at the entry, p after `ports`, q `queue_waiting`, f `fill_rows`,
+-- `begin_instant` meets its contract. Letters for what is known after a call: o at the entry, p after `environment_size`, q `queue_waiting`, f `fill_rows`,
 -- l `list_sleepers`, d `make_due_at`, w `write_inputs`.
 use denote.Ref.{now}
 use native.Mathlib.Omega.{arith}
 use Rattle.walk.specs.Calls.{Words32}
-use Rattle.engine_begin.proofs.Composed.{may-begin-pass, may-list-sleepers, may-make-due, may-write-inputs, begun}
+use Rattle.table.proofs.Bounds.{bounds}
+use Rattle.engine_begin.proofs.Composed.{size-of-table, may-begin-pass, may-list-sleepers, may-make-due, may-write-inputs, begun}
 use borrow.Author.Needs.{needs}
 use Rattle.engine_begin.proofs.instant.begin_instant.Statement.{statement}
 use Rattle.engine_begin.proofs.instant.begin_instant.Tie as tie
 
-ports-requires : tie.Need-ports-requires
-ports-requires c κs = search needs
+environment-size-requires : tie.Need-environment-size-requires
+environment-size-requires c κs =
+    let o = c .before .before .before .before in
+    omega (arith, bounds (now (o .args .t)) (o .pre .table) .words)
 
 queue-waiting-requires : tie.Need-queue-waiting-requires
 queue-waiting-requires c κs = search needs
@@ -46,7 +49,7 @@ make-due-at-requires c κs =
     let a = o .args in
     let small : Words32 (now (a .m)) = λ k. omega (arith, p .before .before .before .slice-known .given k) in
     may-make-due (now (a .t)) (now (a .m)) (a .present .0) (now (a .dues)) (now (a .numbers)) (now (a .values)) (o .pre) small _ (q .queue-waiting .ensures) _ (f .fill-rows .ensures)
-    _ (p .ports .ensures) _ (l .list-sleepers .ensures .0) _ (c .empty .ensures .1)
+    _ (size-of-table (now (a .t)) (o .pre .table) _ (p .environment-size .ensures)) _ (l .list-sleepers .ensures .0) _ (c .empty .ensures .1)
 
 write-inputs-requires : tie.Need-write-inputs-requires
 write-inputs-requires c κs =
@@ -59,7 +62,7 @@ write-inputs-requires c κs =
     let a = o .args in
     let small : Words32 (now (a .m)) = λ k. omega (arith, p .before .before .before .slice-known .given k) in
     may-write-inputs (now (a .t)) (now (a .m)) (a .present .0) (now (a .dues)) (now (a .numbers)) (now (a .values)) (o .pre) small _ (q .queue-waiting .ensures) _ (f .fill-rows .ensures)
-    _ (p .ports .ensures) _ (l .list-sleepers .ensures .0) _ (d .before .empty .ensures .1) _ _ (d .make-due-at .ensures)
+    _ (size-of-table (now (a .t)) (o .pre .table) _ (p .environment-size .ensures)) _ (l .list-sleepers .ensures .0) _ (d .before .empty .ensures .1) _ _ (d .make-due-at .ensures)
 
 same-length : tie.Need-same-length
 same-length c = search needs
@@ -76,14 +79,14 @@ returns c =
     let a = o .args in
     let small : Words32 (now (a .m)) = λ k. omega (arith, p .before .before .before .slice-known .given k) in
     begun (now (a .t)) (now (a .m)) (a .present .0) (now (a .dues)) (now (a .numbers)) (now (a .values)) (o .pre) small _ (q .queue-waiting .ensures) _ (f .fill-rows .ensures)
-    _ (p .ports .ensures) _ (l .list-sleepers .ensures .0) _ (d .before .empty .ensures .1) _ _ (d .make-due-at .ensures)
+    _ (size-of-table (now (a .t)) (o .pre .table) _ (p .environment-size .ensures)) _ (l .list-sleepers .ensures .0) _ (d .before .empty .ensures .1) _ _ (d .make-due-at .ensures)
     _ _ (l .list-sleepers .ensures .1) (w .write-inputs .ensures)
 
 pub begin-instant-spec : {M : Type 1} → statement M
 begin-instant-spec =
     tie.close
     (tie.spec
-    ports-requires
+    environment-size-requires
     queue-waiting-requires
     fill-rows-requires
     list-sleepers-requires

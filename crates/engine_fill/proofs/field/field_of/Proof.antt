@@ -4,6 +4,8 @@ use Prim.Native.Nat.{ℕ, _+_, _<_, _≤_}
 use native.Mathlib.Omega.{arith}
 use denote.Ref.{now}
 use Rattle.table.specs.Decode.{word, headAfter, sizeOf}
+use Rattle.table.specs.Entry.{Fetched}
+use Rattle.table_read.proofs.Fetching.{has-entry, entry-fetched}
 use Rattle.engine_blocks.specs.Blocks.{rowsOf}
 use Rattle.engine_children.proofs.ChildSteps.{table-size}
 use Rattle.engine_fill.proofs.Fields.{fetched-there, parent-routine, parent-place, child-inside, head-inside, field-is}
@@ -23,14 +25,33 @@ place-requires c κs = search needs
 cast-at : tie.Need-cast-at
 cast-at c = search needs
 
+-- the parent's instruction, at the words that were read
+there : (c : tie.After-place) → (let s = c .before .before .before .before in c .before .routine .result < word (now (s .args .t)) 2)
+there c =
+    let s = c .before .before .before .before in
+    subst (λ (r : ℕ). r < word (now (s .args .t)) 2) (sym (c .before .routine .ensures)) (parent-routine (s .pre .2))
+
+within : (c : tie.After-place) → (let s = c .before .before .before .before in c .place .result < sizeOf (now (s .args .t)) (c .before .routine .result))
+within c =
+    let s = c .before .before .before .before in
+    let t = now (s .args .t) in
+    subst (λ (x : ℕ). x < sizeOf t (c .before .routine .result)) (sym (c .place .ensures)) (subst (λ (r : ℕ). (rowsOf (now (s .args .m)) (s .args .p)) .place < sizeOf t r) (sym (c .before .routine .ensures)) (parent-place (s .pre .2)))
+
 fetch-requires : tie.Need-fetch-requires
 fetch-requires c κs =
-    let a = c .before .before .before .before .args in
-    let M = c .before .before .before .before .pre .2 in (
-      c .before .before .before .before .pre .0,
-      subst (λ (r : ℕ). r < word (now (a .t)) 2) (sym (c .before .routine .ensures)) (parent-routine M),
-      subst (λ (x : ℕ). x < sizeOf (now (a .t)) (c .before .routine .result)) (sym (c .place .ensures)) (subst (λ (r : ℕ). (rowsOf (now (a .m)) (a .p)) .place < sizeOf (now (a .t)) r) (sym (c .before .routine .ensures)) (parent-place M)),
-    )
+    let s = c .before .before .before .before in
+    has-entry (now (s .args .t)) (s .pre .0) (c .before .routine .result) (there c) (c .place .result) (within c)
+
+-- what its entry tells
+read : (c : tie.After-fetch) → (let s = c .before .before .before .before .before in
+    let x = rowsOf (now (s .args .m)) (s .args .p) in
+    let e = c .fetch .result in
+    Fetched (now (s .args .t)) (x .routine) (x .place) (e .kind) (e .operand) (e .cells) (e .first) (e .second))
+read c =
+    let k = c .before in
+    let s = k .before .before .before .before in
+    fetched-there (rowsOf (now (s .args .m)) (s .args .p)) (k .before .routine .ensures) (k .place .ensures)
+    (entry-fetched (now (s .args .t)) (s .pre .0) (k .before .routine .result) (there k) (k .place .result) (within k) (c .fetch .result) (c .fetch .ensures))
 
 child-requires : tie.Need-child-requires
 child-requires c κs = search needs
@@ -38,12 +59,12 @@ child-requires c κs = search needs
 cast-i : tie.Need-cast-i
 cast-i c = search needs
 
-head-of-requires : tie.Need-head-of-requires
-head-of-requires c κs =
+head-after-requires : tie.Need-head-after-requires
+head-after-requires c κs =
     let past = c .before .before .before .before .before .before in
     let a = past .args in
     let M = past .pre .2 in
-    let E = fetched-there (rowsOf (now (a .m)) (a .p)) (c .before .before .before .routine .ensures) (c .before .before .place .ensures) (c .before .fetch .ensures .1) in
+    let E = read (c .before) in
     let i = child-inside M E in
     (table-size (now (a .t)) (past .pre .0), λ j h. head-inside M E j (omega (arith, h, i, c .child .ensures)))
 
@@ -52,9 +73,9 @@ head-at-requires c κs =
     let past = c .before .before .before .before .before .before .before in
     let a = past .args in
     let M = past .pre .2 in
-    let E = fetched-there (rowsOf (now (a .m)) (a .p)) (c .before .before .before .before .routine .ensures) (c .before .before .before .place .ensures) (c .before .before .fetch .ensures .1) in (
+    let E = read (c .before .before) in (
       table-size (now (a .t)) (past .pre .0),
-      subst (λ (x : ℕ). x + 2 ≤ 12288) (sym (c .head-of .ensures)) (head-inside M E (c .before .child .result) (subst (λ (x : ℕ). x < c .before .before .fetch .result .first) (sym (c .before .child .ensures)) (child-inside M E))),
+      subst (λ (x : ℕ). x + 2 ≤ 12288) (sym (c .head-after .ensures)) (head-inside M E (c .before .child .result) (subst (λ (x : ℕ). x < c .before .before .fetch .result .first) (sym (c .before .child .ensures)) (child-inside M E))),
     )
 
 returns : tie.Need-returns
@@ -62,8 +83,8 @@ returns c =
     let past = c .before .before .before .before .before in
     let a = past .before .before .before .args in
     let M = past .before .before .before .pre .2 in
-    let E = fetched-there (rowsOf (now (a .m)) (a .p)) (past .routine .ensures) (c .before .before .before .before .place .ensures) (c .before .before .before .fetch .ensures .1) in
-    field-is M E _ (c .before .head-of .ensures ∙ ap (headAfter (now (a .t)) (c .before .before .before .fetch .result .cells)) (c .before .before .child .ensures)) (c .head-at .ensures .1) refl
+    let E = read (c .before .before .before) in
+    field-is M E _ (c .before .head-after .ensures ∙ ap (headAfter (now (a .t)) (c .before .before .before .fetch .result .cells)) (c .before .before .child .ensures)) (c .head-at .ensures .1) refl
 
 pub field-of-spec : {M : Type 1} → statement M
 field-of-spec =
@@ -76,6 +97,6 @@ field-of-spec =
     fetch-requires
     child-requires
     cast-i
-    head-of-requires
+    head-after-requires
     head-at-requires
     returns)

@@ -1,8 +1,8 @@
 -- `table_child_fields::pick::pick` meets its contract.
-use Prim.Native.Nat.{_+_, _-_, _<_}
-use mathlib.Core.Path.{_∙_}
+use Prim.Native.Nat.{_+_, _-_, _≤_}
+use mathlib.Core.Path.{_≡_, _∙_}
+use lib.ListN.{length}
 use native.Mathlib.Omega.{arith}
-use Rattle.table.specs.Decode.{headAfter}
 use Rattle.table_child_fields.proofs.PickLaws.{no-maker-low, no-maker-high, a-maker-picked}
 use borrow.Author.Needs.{needs}
 use Rattle.table_child_fields.proofs.pick.pick.Statement.{statement}
@@ -23,72 +23,37 @@ returns-2 c =
     c .no-maker2 .ensures ∙ no-maker-high _ _ _ _ _ (c .before .before .if1 .left) (c .before .if2 .taken)
 
 head-after-requires : tie.Need-head-after-requires
-head-after-requires c κs = search needs
+head-after-requires c κs =
+    let s = c .before .before .before in
+    (s .pre .0, λ j h. omega (arith, s .pre .1 .inside j (omega (arith, h, c .if2 .left))))
 
-add-number : tie.Need-add-number
-add-number c =
-    let a = c .before .before .before .before .args in
-    let i : headAfter (a .t .now) (a .first) (a .child - a .next) + 1 < 12288 = c .before .before .before .before .pre .1 .inside (a .child - a .next) (c .before .if2 .left) in
-    omega (arith, i, c .head-after .ensures)
+-- the head is among the words
+inside : (c : tie.After-head-after) → (let a = c .before .before .before .before .args in
+    (length (a .t .now) ≡ 12288) × (c .head-after .result + 2 ≤ 12288))
+inside c =
+    let s = c .before .before .before .before in
+    let a = s .args in
+    let i = s .pre .1 .inside (a .child - a .next) (c .before .if2 .left) in
+    (s .pre .0, omega (arith, i, c .head-after .ensures))
 
-mul-number : tie.Need-mul-number
-mul-number c =
-    let a = c .before .before .before .before .args in
-    let i : headAfter (a .t .now) (a .first) (a .child - a .next) + 1 < 12288 = c .before .before .before .before .pre .1 .inside (a .child - a .next) (c .before .if2 .left) in
-    omega (arith, i, c .head-after .ensures)
+head-at-requires : tie.Need-head-at-requires
+head-at-requires c κs = inside c
 
-shared-slice-read-number : tie.Need-shared-slice-read-number
-shared-slice-read-number c =
-    let past = c .before .before .before .before .before in
-    let a = past .args in
-    let i : headAfter (a .t .now) (a .first) (a .child - a .next) + 1 < 12288 = past .pre .1 .inside (a .child - a .next) (c .before .before .if2 .left) in
-    omega (arith, i, c .before .head-after .ensures, past .pre .0)
+next-head-requires : tie.Need-next-head-requires
+next-head-requires c κs = inside (c .before)
 
-number-requires : tie.Need-number-requires
-number-requires c κs = search needs
+sub-t12 : tie.Need-sub-t12
+sub-t12 c = search needs
 
-mul-number-2 : tie.Need-mul-number-2
-mul-number-2 c =
-    let past = c .before .before .before .before .before .before in
-    let a = past .args in
-    let i : headAfter (a .t .now) (a .first) (a .child - a .next) + 1 < 12288 = past .pre .1 .inside (a .child - a .next) (c .before .before .before .if2 .left) in
-    omega (arith, i, c .before .before .head-after .ensures)
-
-shared-slice-read-number-2 : tie.Need-shared-slice-read-number-2
-shared-slice-read-number-2 c =
-    let past = c .before .before .before .before .before .before .before in
-    let a = past .args in
-    let i : headAfter (a .t .now) (a .first) (a .child - a .next) + 1 < 12288 = past .pre .1 .inside (a .child - a .next) (c .before .before .before .before .if2 .left) in
-    omega (arith, i, c .before .before .before .head-after .ensures, past .pre .0)
-
-number-requires-2 : tie.Need-number-requires-2
-number-requires-2 c κs = search needs
-
-mul-after : tie.Need-mul-after
-mul-after c = search needs
-
-add-after : tie.Need-add-after
-add-after c = search needs
-
-add-after-2 : tie.Need-add-after-2
-add-after-2 c =
-    let past = c .before .before .before .before .before in
-    let a = past .before .before .before .args in
-    let i : headAfter (a .t .now) (a .first) (a .child - a .next) + 1 < 12288 = past .before .before .before .pre .1 .inside (a .child - a .next) (past .if2 .left) in
-    omega (arith, i, c .before .before .before .before .head-after .ensures, c .number2 .ensures .1)
-
-sub-t11 : tie.Need-sub-t11
-sub-t11 c = search needs
-
-sub-t17 : tie.Need-sub-t17
-sub-t17 c = search needs
+sub-t13 : tie.Need-sub-t13
+sub-t13 c = search needs
 
 returns-3 : tie.Need-returns-3
 returns-3 c =
-    let past = c .before .before .before .before .before in
+    let past = c .before .before .before in
     let a = past .before .before .before .args in
-    a-maker-picked (a .t .now) (a .first) (a .left) (a .next) (a .child) (c .before .before .before .before .head-after .result) _ _ (past .before .if1 .left) (past .if2 .left) (c .before .before .before .before .head-after .ensures)
-    (c .before .before .number .ensures .0) (rw (c .number2 .ensures .0))
+    a-maker-picked (a .t .now) (a .first) (a .left) (a .next) (a .child) (c .before .before .head-after .result) _ _ (past .before .if1 .left) (past .if2 .left) (c .before .before .head-after .ensures)
+    (c .before .head-at .ensures .1) (c .next-head .ensures)
 
 pub pick-spec : {M : Type 1} → statement M
 pick-spec =
@@ -99,16 +64,8 @@ pick-spec =
     no-maker-requires-2
     returns-2
     head-after-requires
-    add-number
-    mul-number
-    shared-slice-read-number
-    number-requires
-    mul-number-2
-    shared-slice-read-number-2
-    number-requires-2
-    mul-after
-    add-after
-    add-after-2
-    sub-t11
-    sub-t17
+    head-at-requires
+    next-head-requires
+    sub-t12
+    sub-t13
     returns-3)

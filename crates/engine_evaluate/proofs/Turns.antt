@@ -5,43 +5,23 @@ use mathlib.Core.List.{List, _∷_}
 use Prim.Native.Nat.{ℕ, zero, suc, _+_, _*_, _-_, _≤_, _<_}
 use native.Mathlib.Omega.{arith}
 use lib.ListN.{length, getD}
-use borrow.Author.Tests.{ltb-true, eqb-true}
+use borrow.Author.Tests.{eqb-true}
 use Rattle.listing.specs.Lists.{all}
-use Rattle.listing.specs.Listing.{Piece, literal, valueOf, writtenMark, plus, minus, times, less}
-use Rattle.listing.specs.Expressions.{leavesOneFrom}
+use Rattle.listing.specs.Expressions.{effectOf, mayCome, heldWith, leavesOneFrom}
+use Rattle.listing.proofs.Effects.{held-most}
 use Rattle.listing.specs.Questions.{pieceIsThere}
 use Rattle.table.specs.Decode.{pieceAt, cellsAt, piecesAt}
 use Rattle.walk.specs.Memory.{top, evaluatePieces, evaluateBy}
 use Rattle.engine_blocks.specs.Store.{storeOf}
-use Rattle.engine_evaluate.specs.Bound.{Bound, bindingsOf, variableNamed, FromNames}
-use Rattle.engine_evaluate.specs.Values.{held, mayCome, countAfter}
+use Rattle.engine_evaluate.specs.Bound.{Bound, bindingsOf, variableNamed}
+use Rattle.engine_evaluate.specs.Values.{held}
 use Rattle.engine_evaluate.specs.Evaluable.{Evaluable, MayCome, Past}
 use Rattle.engine_evaluate.specs.Evaluable.{Evaluates}
 
 -- ── the pieces from one on ───────────────────────────────────────────────────────
-form-split : (count : ℕ) (p : Piece) (rest : List Piece) → leavesOneFrom count (p ∷ rest) ≡ mayCome count p && leavesOneFrom (countAfter count p) rest
-unfolding leavesOneFrom mayCome countAfter
-form-split count (literal v) rest = refl
-form-split count (valueOf n) rest = refl
-form-split count (writtenMark n) rest = refl
-form-split count plus rest = refl
-form-split count minus rest = refl
-form-split count times rest = refl
-form-split count less rest = refl
-
 both : (x y : Bool) → x && y ≡ true → (x ≡ true) × (y ≡ true)
 both true y h = (refl, h)
 both false y h = let z : _≡_ {A = ℕ} 0 1 = cc in absurd (omega arith)
-
-count-most : (count : ℕ) (p : Piece) → mayCome count p ≡ true → count ≤ 8 → countAfter count p ≤ 8
-unfolding mayCome countAfter
-count-most count (literal v) h most = let l = ltb-true count 8 h in omega arith
-count-most count (valueOf n) h most = let l = ltb-true count 8 h in omega arith
-count-most count (writtenMark n) h most = let l = ltb-true count 8 h in omega arith
-count-most count plus h most = omega arith
-count-most count minus h most = omega arith
-count-most count times h most = omega arith
-count-most count less h most = omega arith
 
 first-piece : (t : List ℕ) (at left : ℕ) → 0 < left → piecesAt t at left ≡ pieceAt t at ∷ piecesAt t (at + 2) (left - 1)
 unfolding cellsAt
@@ -66,8 +46,9 @@ module _ {t m : List ℕ} {me cells pieces : ℕ} where
 
   module _ {values : List ℕ} {count at left : ℕ} (so-far : Before t m me cells pieces values count at left) where
     module _ (some : 0 < left) where
-      split : (mayCome count (pieceAt t at) ≡ true) × (leavesOneFrom (countAfter count (pieceAt t at)) (piecesAt t (at + 2) (left - 1)) ≡ true)
-      split = both _ _ (sym (form-split count (pieceAt t at) (piecesAt t (at + 2) (left - 1))) ∙ (rw (first-piece t at left some) at (so-far .form)))
+      split : (mayCome count (effectOf (pieceAt t at)) ≡ true) × (leavesOneFrom (heldWith count (effectOf (pieceAt t at))) (piecesAt t (at + 2) (left - 1)) ≡ true)
+      unfolding leavesOneFrom
+      split = both _ _ (rw (first-piece t at left some) at (so-far .form))
 
       there : (pieceIsThere (length (bindingsOf m me)) (pieceAt t at) ≡ true) × (all (pieceIsThere (length (bindingsOf m me))) (piecesAt t (at + 2) (left - 1)) ≡ true)
       unfolding all
@@ -83,7 +64,7 @@ module _ {t m : List ℕ} {me cells pieces : ℕ} where
           record {
             place = omega (arith, so-far .place);
             places = past .size;
-            most = rw (past .counted) (count-most count (pieceAt t at) (split .0) (so-far .most));
+            most = rw (past .counted) (held-most count (effectOf (pieceAt t at)) (split .0) (so-far .most));
             form = rw (past .counted) (split .1);
             names = there .1;
             value = λ moment n bound. ap (λ (h : List ℕ). top (evaluatePieces moment (variableNamed n m me) (piecesAt t (at + 2) (left - 1)) h)) (past .values moment .equal n bound)

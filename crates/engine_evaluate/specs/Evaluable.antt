@@ -6,11 +6,11 @@ use mathlib.Core.Path.{_≡_}
 use Prim.Native.Nat.{ℕ, _+_, _*_, _≤_, _<_}
 use lib.ListN.{length}
 use Rattle.listing.specs.Lists.{all}
-use Rattle.listing.specs.Expressions.{leavesOne}
+use Rattle.listing.specs.Expressions.{effectOf, mayCome, heldWith, leavesOne}
 use Rattle.listing.specs.Questions.{pieceIsThere}
 use Rattle.table.specs.Decode.{pieceAt, piecesAt}
 use Rattle.engine_evaluate.specs.Bound.{bindingsOf, FromNames}
-use Rattle.engine_evaluate.specs.Values.{held, mayCome, countAfter}
+use Rattle.engine_evaluate.specs.Values.{held}
 use Rattle.walk.specs.Memory.{evaluatePiece, evaluateBy}
 use Rattle.listing.specs.Listing.{Piece}
 
@@ -29,13 +29,13 @@ pub record MayCome (t m : List ℕ) (me a : ℕ) (values : List ℕ) (count : �
   pub inside : a + 2 ≤ length t
   pub places : length values ≡ 8
   pub most : count ≤ 8
-  pub room : mayCome count (pieceAt t a) ≡ true
+  pub room : mayCome count (effectOf (pieceAt t a)) ≡ true
   pub name : pieceIsThere (length (bindingsOf m me)) (pieceAt t a) ≡ true
 
 -- What is held after the piece is what it makes of the `count` values held before; r is their number.
 pub record Past (t m : List ℕ) (me a : ℕ) (before : List ℕ) (count : ℕ) (after : List ℕ) (r : ℕ) : Type 0 where
   pub size : length after ≡ 8
-  pub counted : r ≡ countAfter count (pieceAt t a)
+  pub counted : r ≡ heldWith count (effectOf (pieceAt t a))
   pub values : (moment : ℕ) → FromNames m me (λ names. evaluatePiece moment names (pieceAt t a) (held before count)) (held after r)
 
 -- r is the expression's value, at any moment.

@@ -12,7 +12,11 @@ use engine_variables::owner;
 use engine_variables::value;
 use engine_variables::written;
 use table::CELL_WORDS;
+use table::LESS;
 use table::LITERAL;
+use table::MINUS;
+use table::PLUS;
+use table::TIMES;
 use table::VALUE_OF;
 use table::WRITTEN_MARK;
 
@@ -48,7 +52,11 @@ fn piece(t: &[u32], m: &[u32], me: usize, at: usize, values: &mut [u32; 8], coun
         LITERAL => push(values, count, t[at + 1]),
         VALUE_OF => push(values, count, value_of(m, me, t[at + 1])),
         WRITTEN_MARK => push(values, count, mark_of(m, me, t[at + 1])),
-        _ => operate(values, count, kind),
+        PLUS => operate(values, count, kind),
+        MINUS => operate(values, count, kind),
+        TIMES => operate(values, count, kind),
+        LESS => operate(values, count, kind),
+        _ => push(values, count, 0),
     }
 }
 

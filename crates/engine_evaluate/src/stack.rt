@@ -4,6 +4,7 @@ ghost use mathlib.Core.Path.{_≡_};
 ghost use Prim.Native.Nat.{_≤_, _<_};
 ghost use lib.ListN.{length};
 ghost use Rattle.engine_evaluate.specs.Values.{Pushed, Operated, signOf};
+use table::LESS;
 use table::MINUS;
 use table::PLUS;
 use table::TIMES;
@@ -29,7 +30,8 @@ fn sign(kind: u32, left: u32, right: u32) -> u32
         PLUS => wrapping_add(left, right),
         MINUS => wrapping_subtract(left, right),
         TIMES => wrapping_multiply(left, right),
-        _ => signed_less(left, right),
+        LESS => signed_less(left, right),
+        _ => 0,
     }
 }
 

@@ -12,6 +12,7 @@ use engine_steps::Running;
 use engine_steps::Stepped;
 use table::ASSIGN;
 use table::BRANCH;
+use table::END;
 use table::FORK;
 use table::JUMP;
 use table::SCHEDULE;
@@ -65,6 +66,10 @@ fn execute(t: &[u32], m: &mut [u32], present: Moment, running: Running, entry: E
         FORK => {
             return engine_fork::fork_step(t, m, running, cells, first);
         }
+        END => {
+            return engine_steps::end_step(m, running);
+        }
+        // No other number passes question 6; it is read as an `E`.
         _ => {
             return engine_steps::end_step(m, running);
         }

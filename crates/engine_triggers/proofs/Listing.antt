@@ -8,7 +8,7 @@ use lib.Dec.{eqb}
 use lib.ListN.{length}
 use borrow.Author.Tests.{ne-eqb}
 use Rattle.listing.specs.Listing.{Listing, assign, schedule, branch, jump, fork, end}
-use Rattle.table.specs.Decode.{word, cellsAt, nameAt, namesAt, piecesAt, callsAt, instructionOf, instructionAtEntry}
+use Rattle.table.specs.Decode.{word, cellsAt, nameAt, namesAt, piecesAt, callsAt, noInstruction, instructionOf, instructionAtEntry}
 use Rattle.engine_rows.specs.Rows.{Owner, Row, ownerOf}
 use Rattle.engine_rows.specs.Triggers.{sameOwner, consIf, awaited, awaitedBy, listNames, listIf, triggersBelow}
 use Rattle.engine_blocks.proofs.RowChanges.{row-of}
@@ -52,17 +52,18 @@ awaited-wait t e h = rw h
 
 other-kinds : (t : List ℕ) (kind operand cells first second : ℕ) → (kind ≡ 5 → ⊥) → awaited (instructionOf t kind operand cells first second) ≡ []
 unfolding instructionOf awaited
-other-kinds t kind operand cells first second h = rw (ne-eqb kind 5 h) (go (eqb kind 1) (eqb kind 2) (eqb kind 3) (eqb kind 4) (eqb kind 6))
+other-kinds t kind operand cells first second h = rw (ne-eqb kind 5 h) (go (eqb kind 1) (eqb kind 2) (eqb kind 3) (eqb kind 4) (eqb kind 6) (eqb kind 7))
   where
-    go : (p q r s u : Bool) →
+    go : (p q r s u v : Bool) →
         awaited (cond p (assign operand (piecesAt t cells first)) (cond q (schedule operand (piecesAt t cells first) (piecesAt t (cells + 2 * first) second))
-        (cond r (branch (piecesAt t cells first) operand) (cond s (jump operand) (cond u (fork (callsAt t cells first)) end))))) ≡ []
-    go true q r s u = refl
-    go false true r s u = refl
-    go false false true s u = refl
-    go false false false true u = refl
-    go false false false false true = refl
-    go false false false false false = refl
+        (cond r (branch (piecesAt t cells first) operand) (cond s (jump operand) (cond u (fork (callsAt t cells first)) (cond v end noInstruction)))))) ≡ []
+    go true q r s u v = refl
+    go false true r s u v = refl
+    go false false true s u v = refl
+    go false false false true u v = refl
+    go false false false false true v = refl
+    go false false false false false true = refl
+    go false false false false false false = refl
 
 pub awaited-none : (t : List ℕ) (e : ℕ) → (word t (e + 0) ≡ 5 → ⊥) → awaited (instructionAtEntry t e) ≡ []
 unfolding instructionAtEntry

@@ -1,4 +1,5 @@
 pub mod Tests
+pub mod Effects
 pub mod Splits
 pub mod Figures
 pub mod Separators

@@ -11,7 +11,7 @@ use lib.ListN.{length, length-append, length-map}
 use borrow.Author.Tests.{lt-ltb, ltb-true, ltb-false, leb-true, eqb-true}
 use Rattle.listing.specs.Lists.{all, total}
 use Rattle.listing.specs.Bytes.{Bytes, tab, space, digits, figure, join}
-use Rattle.listing.specs.Expressions.{halfRange, wordRange, mostValuesHeld, leavesOneFrom, leavesOne}
+use Rattle.listing.specs.Expressions.{halfRange, wordRange, mostValuesHeld, effectOf, mayCome, heldWith, leavesOneFrom, leavesOne}
 use Rattle.listing.specs.Form.{Field, oneTo, mostNamesAwaited}
 use Rattle.listing.specs.Text.{signedFigure, pieceText, kindText, kindsText, kindsField, letterField, figureField, expressionField, callField, instructionFields, lineFields, joinFields, lineText}
 use Rattle.listing.specs.Limits.{bytesOn, nameLimit, routineLimit, instructionLimit, callPieces, instructionPieces}
@@ -118,7 +118,7 @@ module _ (names : ℕ) (few : names ≤ nameLimit) where
   writtenMark-length n h = omega (arith, name-length n h)
 
   expression-cost : (held : ℕ) (e : Expression) → all pieceHasForm e ≡ true → all (pieceIsThere names) e ≡ true → leavesOneFrom held e ≡ true → Cost held e
-  unfolding sizes leavesOneFrom pieceText
+  unfolding sizes effectOf mayCome heldWith leavesOneFrom pieceText
   expression-cost held [] f t h = let z : held ≡ 1 = eqb-true held 1 h in omega arith
   expression-cost held (literal v ∷ e) f t h =
       value-cost held (literal v) e (literal-length v (all-head pieceHasForm (literal v) e f))

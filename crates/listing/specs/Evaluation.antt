@@ -20,7 +20,8 @@ unfoldable pub load : Bytes → Loading
 unfolding Lists.all Lists.allButLast Lists.lastOr Lists.present Lists.total Lists.runningTotals Lists.both Lists.firstNoFrom
     Listing.codeOf Listing.routinesOf Listing.listingOf
     Bytes.extend Bytes.split Bytes.isFigure Bytes.readOn Bytes.readFigure
-    Expressions.each Expressions.alone Expressions.readLiteral Expressions.readPiece Expressions.leavesOneFrom Expressions.readExpression
+    Expressions.each Expressions.alone Expressions.readLiteral Expressions.readPiece Expressions.readExpression
+    Expressions.effectOf Expressions.mayCome Expressions.heldWith Expressions.leavesOneFrom
     Form.fieldsOf Form.nextField Form.noneLeft Form.onePiece Form.oneTo Form.readKind Form.readKinds
     Form.readNames Form.readCall Form.readLetter Form.readByLetter Form.readRecord Form.mayStandOn Form.readLine
     Limits.routinesOn Limits.instructionsOn Limits.namesOn Limits.instructionPieces Limits.piecesOn Limits.within Limits.limitAnswers

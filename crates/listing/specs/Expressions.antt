@@ -62,17 +62,33 @@ readPiece (byte ∷ rest) =
 abbrev pub mostValuesHeld : ℕ
 mostValuesHeld = 8
 
+-- what a piece does to the values held: it adds one, or takes two and leaves one
+pub data Effect : Type 0 where
+  adds joins : Effect
+
+unfoldable pub effectOf : Piece → Effect
+effectOf (literal v) = adds
+effectOf (valueOf n) = adds
+effectOf (writtenMark n) = adds
+effectOf plus = joins
+effectOf minus = joins
+effectOf times = joins
+effectOf less = joins
+
+-- if so many are held, is there room for one more, are there two to take?
+unfoldable pub mayCome : ℕ → Effect → Bool
+mayCome held adds = ltb held mostValuesHeld
+mayCome held joins = leb 2 held
+
+-- how many are held then
+unfoldable pub heldWith : ℕ → Effect → ℕ
+heldWith held adds = suc held
+heldWith held joins = held - 1
+
 -- do these pieces leave one value, and hold at most 8, if so many are held before them?
--- a literal, a value and a mark add one; an operator takes two and leaves one
 unfoldable pub leavesOneFrom : ℕ → Expression → Bool
 leavesOneFrom held [] = eqb held 1
-leavesOneFrom held (literal v ∷ rest) = ltb held mostValuesHeld && leavesOneFrom (suc held) rest
-leavesOneFrom held (valueOf n ∷ rest) = ltb held mostValuesHeld && leavesOneFrom (suc held) rest
-leavesOneFrom held (writtenMark n ∷ rest) = ltb held mostValuesHeld && leavesOneFrom (suc held) rest
-leavesOneFrom held (plus ∷ rest) = leb 2 held && leavesOneFrom (held - 1) rest
-leavesOneFrom held (minus ∷ rest) = leb 2 held && leavesOneFrom (held - 1) rest
-leavesOneFrom held (times ∷ rest) = leb 2 held && leavesOneFrom (held - 1) rest
-leavesOneFrom held (less ∷ rest) = leb 2 held && leavesOneFrom (held - 1) rest
+leavesOneFrom held (p ∷ rest) = mayCome held (effectOf p) && leavesOneFrom (heldWith held (effectOf p)) rest
 
 abbrev pub leavesOne : Expression → Bool
 leavesOne expression = leavesOneFrom 0 expression

@@ -12,10 +12,14 @@ abbrev pub word : List ℕ → ℕ → ℕ
 word w address = getD w address 0
 
 -- ── cells ────────────────────────────────────────────────────────────────────────
+-- what stands for a piece where the number is that of none: `#0`
+abbrev pub noPiece : Piece
+noPiece = literal 0
+
 unfoldable pub pieceOf : ℕ → ℕ → Piece
 pieceOf kind value =
     cond (eqb kind 0) (literal value) (cond (eqb kind 1) (valueOf value) (cond (eqb kind 2) (writtenMark value)
-    (cond (eqb kind 3) plus (cond (eqb kind 4) minus (cond (eqb kind 5) times less)))))
+    (cond (eqb kind 3) plus (cond (eqb kind 4) minus (cond (eqb kind 5) times (cond (eqb kind 6) less noPiece))))))
 
 unfoldable pub pieceAt : List ℕ → ℕ → Piece
 pieceAt w a = pieceOf (word w (a + 0)) (word w (a + 1))
@@ -52,6 +56,10 @@ headAfter w a zero = a
 headAfter w a (suc k) = headAfter w (afterCall w a) k
 
 -- ── instructions ─────────────────────────────────────────────────────────────────
+-- what stands for an instruction where the number is that of none: `E`, as past a routine's last one
+abbrev pub noInstruction : Instruction
+noInstruction = end
+
 -- by the five words of its entry
 unfoldable pub instructionOf : List ℕ → ℕ → ℕ → ℕ → ℕ → ℕ → Instruction
 instructionOf w kind operand cells first second =
@@ -60,7 +68,8 @@ instructionOf w kind operand cells first second =
     (cond (eqb kind 3) (branch (piecesAt w cells first) operand)
     (cond (eqb kind 4) (jump operand)
     (cond (eqb kind 5) (wait (namesAt w cells first))
-    (cond (eqb kind 6) (fork (callsAt w cells first)) end)))))
+    (cond (eqb kind 6) (fork (callsAt w cells first))
+    (cond (eqb kind 7) end noInstruction))))))
 
 -- the instruction whose entry stands at e
 unfoldable pub instructionAtEntry : List ℕ → ℕ → Instruction

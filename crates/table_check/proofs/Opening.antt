@@ -1,17 +1,17 @@
 -- What a routine's entry tells, word by word.
-use mathlib.Core.Path.{_≡_, refl, sym, ap, _∙_}
+use mathlib.Core.Path.{_≡_, refl, sym, _∙_}
 use mathlib.Core.Bool.{Bool, true, false, cond, _&&_, not}
 use mathlib.Core.List.{List, [], _∷_}
 use Prim.Native.Nat.{ℕ, zero, suc, _+_, _*_, _≤_, _<_, _/_, _%_, _-_}
 use native.Mathlib.Omega.{arith}
-use lib.Dec.{eqb, ltb, leb}
+use lib.Dec.{eqb, leb}
 use lib.ListN.{length}
-use borrow.Author.Tests.{eq-eqb, ne-eqb, eqb-true, eqb-false, lt-ltb, le-leb, lt-leb, leb-true}
+use borrow.Author.Tests.{eq-eqb, ne-eqb, eqb-true, eqb-false, le-leb, leb-true}
 use Rattle.listing.specs.Lists.{all, isEmpty, allYes}
-use Rattle.listing.specs.Listing.{Instruction, end, Kind, byReference, byValue, Routine}
+use Rattle.listing.specs.Listing.{Kind, byReference, byValue, Routine}
 use Rattle.listing.specs.Questions.{isByReference, opensAsStated, mayBeLast, lastAnswers}
-use Rattle.table.specs.Areas.{operands, kindBits, routineWords}
-use Rattle.table.specs.Decode.{word, instructionOf, instructionAtEntry, codeAtEntry, kindsOfBits, routineEntry, routineAtEntry, tableListing}
+use Rattle.table.specs.Areas.{kindBits, routineWords}
+use Rattle.table.specs.Decode.{word, noInstruction, instructionOf, instructionAtEntry, codeAtEntry, kindsOfBits, routineEntry, routineAtEntry, tableListing}
 use Rattle.table.proofs.Reach.{code-count, kinds-count}
 use Rattle.table.proofs.Tests.{and-left, and-right, and-no, and-yes, same-answer}
 use Rattle.table_check_cells.specs.Pass.{sameAt}
@@ -167,49 +167,19 @@ unfolding codeAtEntry lastAnswers all
 last-answers w zero e = let z : e + 5 * 0 ≡ e = omega arith in rw z (and-yes (mayBeLast (instructionAtEntry w e)))
 last-answers w (suc n) e = let z : e + 5 + 5 * n ≡ e + 5 * suc n = omega arith in last-answers w n (e + 5) ∙ rw z
 
-module _ (w : List ℕ) (e : ℕ) where
-  abbrev kind : ℕ
-  kind = word w (e + 0)
+-- ── an instruction by the number of its kind ─────────────────────────────────────
+-- a number that is no kind's
+pub record NoKind (kind : ℕ) : Type 0 where
+  pub not1 : kind ≡ 1 → ⊥
+  pub not2 : kind ≡ 2 → ⊥
+  pub not3 : kind ≡ 3 → ⊥
+  pub not4 : kind ≡ 4 → ⊥
+  pub not5 : kind ≡ 5 → ⊥
+  pub not6 : kind ≡ 6 → ⊥
+  pub not7 : kind ≡ 7 → ⊥
 
-  abbrev instructionOfKind : ℕ → Instruction
-  instructionOfKind k = instructionOf w k (word w (e + 1)) (word w (e + 2)) (word w (e + 3)) (word w (e + 4))
-
-  other-kind : (k : ℕ) → 6 < k → instructionOfKind k ≡ end
-  unfolding instructionOf
-  other-kind k h =
-      let n : (j : ℕ) → j ≤ 6 → eqb k j ≡ false = λ j l. ne-eqb k j (λ (e : k ≡ j). omega arith) in
-      rw (n 1 (omega arith), n 2 (omega arith), n 3 (omega arith), n 4 (omega arith), n 5 (omega arith), n 6 (omega arith))
-
-  -- `E` or `G`, or no kind at all
-  pub may-be-last : mayBeLast (instructionAtEntry w e) ≡ cond (eqb kind 0) true (cond (eqb kind 4) true (ltb 6 kind))
-  unfolding instructionAtEntry instructionOf mayBeLast
-  may-be-last = go kind
-    where
-      go : (k : ℕ) → mayBeLast (instructionOfKind k) ≡ cond (eqb k 0) true (cond (eqb k 4) true (ltb 6 k))
-      go zero = refl
-      go (suc zero) = refl
-      go (suc (suc zero)) = refl
-      go (suc (suc (suc zero))) = refl
-      go (suc (suc (suc (suc zero)))) = refl
-      go (suc (suc (suc (suc (suc zero))))) = refl
-      go (suc (suc (suc (suc (suc (suc zero)))))) = refl
-      go (suc (suc (suc (suc (suc (suc (suc j))))))) =
-          let k = suc (suc (suc (suc (suc (suc (suc j)))))) in
-          ap mayBeLast (other-kind k (omega arith)) ∙ sym (rw (ne-eqb k 0 (λ (z : k ≡ 0). omega arith), ne-eqb k 4 (λ (z : k ≡ 4). omega arith), lt-ltb 6 k (omega arith)) refl)
-
-  -- `S`, `A`, `U` and `G` have an operand
-  pub operands-of-kind : operands (instructionAtEntry w e) ≡ cond (eqb kind 0) 0 (cond (leb kind 4) 1 0)
-  unfolding instructionAtEntry instructionOf operands
-  operands-of-kind = go kind
-    where
-      go : (k : ℕ) → operands (instructionOfKind k) ≡ cond (eqb k 0) 0 (cond (leb k 4) 1 0)
-      go zero = refl
-      go (suc zero) = refl
-      go (suc (suc zero)) = refl
-      go (suc (suc (suc zero))) = refl
-      go (suc (suc (suc (suc zero)))) = refl
-      go (suc (suc (suc (suc (suc zero))))) = refl
-      go (suc (suc (suc (suc (suc (suc zero)))))) = refl
-      go (suc (suc (suc (suc (suc (suc (suc j))))))) =
-          let k = suc (suc (suc (suc (suc (suc (suc j)))))) in
-          ap operands (other-kind k (omega arith)) ∙ sym (rw (ne-eqb k 0 (λ (z : k ≡ 0). omega arith), lt-leb k 4 (omega arith)) refl)
+pub no-instruction : (w : List ℕ) (e : ℕ) → NoKind (word w (e + 0)) → instructionAtEntry w e ≡ noInstruction
+unfolding instructionAtEntry instructionOf
+no-instruction w e n =
+    let k = word w (e + 0) in
+    rw (ne-eqb k 1 (n .not1), ne-eqb k 2 (n .not2), ne-eqb k 3 (n .not3), ne-eqb k 4 (n .not4), ne-eqb k 5 (n .not5), ne-eqb k 6 (n .not6), ne-eqb k 7 (n .not7))

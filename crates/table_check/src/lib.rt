@@ -14,6 +14,9 @@ ghost use Rattle.table.specs.Decode.{word, instructionAtEntry, kindsOfBits, rou
 ghost use Rattle.table.specs.Question6.{isTable};
 ghost use Rattle.table_check.specs.Check.{zerosAt, entryTest, openingTest, routinePast, operandCount, tailTest, passFrom};
 use table::ARGUMENTS;
+use table::ASSIGN;
+use table::BRANCH;
+use table::END;
 use table::ENTRIES;
 use table::ENTRY_WORDS;
 use table::FIRST_ENTRY;
@@ -24,8 +27,10 @@ use table::KIND_BITS;
 use table::LOCALS;
 use table::ROUTINE_WORDS;
 use table::ROUTINES;
+use table::SCHEDULE;
 use table::SIZE;
 use table::TABLE_WORDS;
+use table::WAIT;
 use table_check_code::code_past;
 use table_read::environment_size;
 
@@ -119,13 +124,16 @@ fn may_end(t: &[u32], e: usize) -> bool
     ensures { λ r. ⌜ r ≡ mayBeLast (instructionAtEntry (now (t .entry)) e) ⌝ }
 {
     let kind = t[e + KIND];
-    if kind == 0 {
-        return true;
+    match kind {
+        ASSIGN => false,
+        SCHEDULE => false,
+        BRANCH => false,
+        JUMP => true,
+        WAIT => false,
+        FORK => false,
+        END => true,
+        _ => true,
     }
-    if kind == JUMP {
-        return true;
-    }
-    kind > FORK
 }
 
 // The address behind the cells of routine `number`, 0 if the answer is no.
@@ -175,13 +183,16 @@ fn operands_at(t: &[u32], e: usize) -> usize
     ensures { λ r. ⌜ r ≡ operands (instructionAtEntry (now (t .entry)) e) ⌝ }
 {
     let kind = t[e + KIND];
-    if kind == 0 {
-        return 0;
+    match kind {
+        ASSIGN => 1,
+        SCHEDULE => 1,
+        BRANCH => 1,
+        JUMP => 1,
+        WAIT => 0,
+        FORK => 0,
+        END => 0,
+        _ => 0,
     }
-    if kind <= JUMP {
-        return 1;
-    }
-    0
 }
 
 // Those of all `n` instructions.

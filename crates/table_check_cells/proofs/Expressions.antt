@@ -1,145 +1,134 @@
 -- The check of an expression, piece by piece.
-use mathlib.Core.Path.{_≡_, refl, sym, _∙_}
+use mathlib.Core.Path.{_≡_, refl, sym, ap, _∙_}
 use mathlib.Core.Bool.{Bool, true, false, cond, _&&_}
-use mathlib.Core.List.{List, _∷_}
+use mathlib.Core.List.{List}
 use Prim.Native.Nat.{ℕ, zero, suc, _+_, _-_, _≤_, _<_}
 use native.Mathlib.Omega.{arith}
-use lib.Dec.{eqb, ltb, leb}
-use borrow.Author.Tests.{ne-eqb, leb-true, lt-ltb, le-ltb, ltb-true}
+use lib.Dec.{eqb, leb}
+use lib.ListN.{getD}
+use borrow.Author.Tests.{ne-eqb, le-leb}
 use Rattle.listing.specs.Lists.{all}
 use Rattle.listing.specs.Listing.{Piece, literal, valueOf, writtenMark, plus, minus, times, less}
-use Rattle.listing.specs.Expressions.{leavesOneFrom}
+use Rattle.listing.specs.Expressions.{effectOf, mayCome, heldWith, leavesOneFrom}
 use Rattle.listing.specs.Questions.{pieceIsThere}
+use Rattle.listing.proofs.Effects.{held-most}
+use Rattle.listing_effect.specs.Held.{heldAfter}
+use Rattle.listing_effect.proofs.Held.{after-effect}
 use Rattle.table.specs.Areas.{wordsOfEach, pieceWords}
-use Rattle.table.specs.Decode.{word, pieceOf, pieceAt, cellsAt, piecesAt}
+use Rattle.table.specs.Decode.{word, noPiece, pieceOf, pieceAt, cellsAt, piecesAt}
 use Rattle.table.proofs.Lengths.{piece-two}
 use Rattle.table.proofs.Tests.{and-no, and-yes}
-use Rattle.table_check_cells.specs.Pass.{sameAt, pushed, joined, heldWith, heldPast, heldAfter, expressionTest}
-use Rattle.table_check_cells.proofs.Words.{same-split, same-number}
+use Rattle.table_check_cells.specs.Pass.{sameAt, effectBy, pieceTest, heldPast, expressionTest}
+use Rattle.table_check_cells.proofs.Words.{same-split}
 
--- ── one piece, by the kind word ──────────────────────────────────────────────────
-module _ (w : List ℕ) (names held a : ℕ) where
-  abbrev Gives : ℕ → Type 0
-  Gives n = heldAfter w names held a ≡ n
+-- ── a piece by the number of its kind ────────────────────────────────────────────
+-- a number that is no kind's
+pub record NoKind (kind : ℕ) : Type 0 where
+  pub not0 : kind ≡ 0 → ⊥
+  pub not1 : kind ≡ 1 → ⊥
+  pub not2 : kind ≡ 2 → ⊥
+  pub not3 : kind ≡ 3 → ⊥
+  pub not4 : kind ≡ 4 → ⊥
+  pub not5 : kind ≡ 5 → ⊥
+  pub not6 : kind ≡ 6 → ⊥
 
-  abbrev given : ℕ → ℕ → ℕ
-  given k v = heldPast w names held a (pieceOf k v)
+no-piece : (kind value : ℕ) → NoKind kind → pieceOf kind value ≡ noPiece
+unfolding pieceOf
+no-piece k v n =
+    rw (ne-eqb k 0 (n .not0), ne-eqb k 1 (n .not1), ne-eqb k 2 (n .not2), ne-eqb k 3 (n .not3), ne-eqb k 4 (n .not4), ne-eqb k 5 (n .not5), ne-eqb k 6 (n .not6))
 
-  first : word w (a + 0) ≡ word w a
-  first = let z : a + 0 ≡ a = omega arith in rw z
+pub effect-none : (kind : ℕ) → NoKind kind → effectBy 0 ≡ effectBy kind
+unfolding effectBy pieceOf
+effect-none k n = rw (no-piece k 0 n)
 
-  pub after-literal : word w a ≡ 0 → Gives (pushed held)
-  unfolding heldAfter heldPast pieceAt pieceOf pieceWords sameAt pieceIsThere heldWith
-  after-literal h = rw first (go (word w a) refl h)
-    where
-      go : (k : ℕ) → word w a ≡ k → k ≡ 0 → given k (word w (a + 1)) ≡ pushed held
-      go zero e h = rw (e, same-number (word w (a + 1)))
-      go (suc k) e h = absurd (omega arith)
+pub test-none : (names kind value : ℕ) → NoKind kind → false ≡ pieceTest names kind value
+unfolding pieceTest pieceIsThere pieceWords
+test-none names k v n = rw (no-piece k v n, ne-eqb k 0 (n .not0))
 
-  after-named : 1 ≤ word w a → word w a ≤ 2 → Gives (cond (ltb (word w (a + 1)) names) (pushed held) 0)
-  unfolding heldAfter heldPast pieceAt pieceOf pieceWords sameAt pieceIsThere heldWith
-  after-named l h = rw first (go (word w a) refl l h)
-    where
-      go : (k : ℕ) → word w a ≡ k → 1 ≤ k → k ≤ 2 → given k (word w (a + 1)) ≡ cond (ltb (word w (a + 1)) names) (pushed held) 0
-      go zero e l h = absurd (omega arith)
-      go (suc zero) e l h = rw (e, same-number (word w (a + 1)), and-yes (ltb (word w (a + 1)) names))
-      go (suc (suc zero)) e l h = rw (e, same-number (word w (a + 1)), and-yes (ltb (word w (a + 1)) names))
-      go (suc (suc (suc k))) e l h = absurd (omega arith)
-
-  pub after-name : 1 ≤ word w a → word w a ≤ 2 → word w (a + 1) < names → Gives (pushed held)
-  after-name l h there = after-named l h ∙ rw (lt-ltb (word w (a + 1)) names there)
-
-  pub after-no-name : 1 ≤ word w a → word w a ≤ 2 → names ≤ word w (a + 1) → Gives 0
-  after-no-name l h past = after-named l h ∙ rw (le-ltb (word w (a + 1)) names past)
-
-  after-signed : 2 < word w a → word w a ≤ 6 → Gives (cond (eqb (word w (a + 1)) 0) (joined held) 0)
-  unfolding heldAfter heldPast pieceAt pieceOf pieceWords sameAt pieceIsThere heldWith
-  after-signed l h = rw first (go (word w a) refl l h)
-    where
-      go : (k : ℕ) → word w a ≡ k → 2 < k → k ≤ 6 → given k (word w (a + 1)) ≡ cond (eqb (word w (a + 1)) 0) (joined held) 0
-      go zero e l h = absurd (omega arith)
-      go (suc zero) e l h = absurd (omega arith)
-      go (suc (suc zero)) e l h = absurd (omega arith)
-      go (suc (suc (suc zero))) e l h = rw (e, and-yes (eqb (word w (a + 1)) 0))
-      go (suc (suc (suc (suc zero)))) e l h = rw (e, and-yes (eqb (word w (a + 1)) 0))
-      go (suc (suc (suc (suc (suc zero))))) e l h = rw (e, and-yes (eqb (word w (a + 1)) 0))
-      go (suc (suc (suc (suc (suc (suc zero)))))) e l h = rw (e, and-yes (eqb (word w (a + 1)) 0))
-      go (suc (suc (suc (suc (suc (suc (suc k))))))) e l h = absurd (omega arith)
-
-  pub after-sign : 2 < word w a → word w a ≤ 6 → word w (a + 1) ≡ 0 → Gives (joined held)
-  after-sign l h z = after-signed l h ∙ rw z
-
-  pub after-marked-sign : 2 < word w a → word w a ≤ 6 → (word w (a + 1) ≡ 0 → ⊥) → Gives 0
-  after-marked-sign l h n = after-signed l h ∙ rw (ne-eqb (word w (a + 1)) 0 n)
-
-  pub after-no-piece : 6 < word w a → Gives 0
-  unfolding heldAfter heldPast pieceAt pieceOf pieceWords sameAt pieceIsThere heldWith
-  after-no-piece h =
-      let k = word w a in
-      let n : (j : ℕ) → j ≤ 6 → eqb k j ≡ false = λ j l. ne-eqb k j (λ (e : k ≡ j). omega arith) in
-      rw (first, n 0 (omega arith), n 1 (omega arith), n 2 (omega arith), n 3 (omega arith), n 4 (omega arith), n 5 (omega arith), n 6 (omega arith))
-
-pub pushed-most : (held : ℕ) → pushed held ≤ 8
-unfolding pushed
-pushed-most held = go (ltb held 8) refl
+-- the effect does not depend on the value
+effect-kind : (kind value : ℕ) → effectOf (pieceOf kind value) ≡ effectOf (pieceOf kind 0)
+unfolding pieceOf effectOf
+effect-kind k v = go (eqb k 0) (eqb k 1) (eqb k 2) _
   where
-    go : (b : Bool) → ltb held 8 ≡ b → cond b (suc held) 0 ≤ 8
-    go true h = let l = ltb-true held 8 h in omega arith
-    go false h = omega arith
+    go : (x y z : Bool) (p : Piece) → effectOf (cond x (literal v) (cond y (valueOf v) (cond z (writtenMark v) p))) ≡ effectOf (cond x (literal 0) (cond y (valueOf 0) (cond z (writtenMark 0) p)))
+    go true y z p = refl
+    go false true z p = refl
+    go false false true p = refl
+    go false false false p = refl
+
+same-pair : (w : List ℕ) (a : ℕ) (p : Piece) → sameAt w a (pieceWords p) ≡ (eqb (word w a) (getD (pieceWords p) 0 0) && eqb (word w (a + 1)) (getD (pieceWords p) 1 0))
+unfolding sameAt pieceWords
+same-pair w a (literal v) = rw (and-yes (eqb (word w (a + 1)) v))
+same-pair w a (valueOf v) = rw (and-yes (eqb (word w (a + 1)) v))
+same-pair w a (writtenMark v) = rw (and-yes (eqb (word w (a + 1)) v))
+same-pair w a plus = rw (and-yes (eqb (word w (a + 1)) 0))
+same-pair w a minus = rw (and-yes (eqb (word w (a + 1)) 0))
+same-pair w a times = rw (and-yes (eqb (word w (a + 1)) 0))
+same-pair w a less = rw (and-yes (eqb (word w (a + 1)) 0))
+
+-- what is held after the cell at a, by its two words
+pub held-by-words : (w : List ℕ) (names held a : ℕ) → heldPast w names held a ≡ cond (pieceTest names (word w (a + 0)) (word w (a + 1))) (heldAfter held (effectBy (word w (a + 0)))) 9
+unfolding heldPast pieceAt pieceTest effectBy
+held-by-words w names held a =
+    let k = word w (a + 0) in
+    let v = word w (a + 1) in
+    let z : a ≡ a + 0 = omega arith in
+    let first : word w a ≡ k = ap (λ (j : ℕ). word w j) z in
+    rw (same-pair w a (pieceOf k v), first, after-effect held (effectOf (pieceOf k 0)), effect-kind k v)
 
 -- ── a row of pieces ──────────────────────────────────────────────────────────────
 pub expression-none : (w : List ℕ) (names held a : ℕ) → expressionTest w names held a 0 ≡ eqb held 1
 unfolding expressionTest cellsAt leavesOneFrom all wordsOfEach sameAt
 expression-none w names held a = and-yes (eqb held 1)
 
--- x: room for the piece; m the values held then; there, same: its tests; f, others: the rest's
-one-more : (x there same : Bool) (m : ℕ) (f : ℕ → Bool) (theres sames : Bool) → (x ≡ true → 1 ≤ m)
+-- x: may the piece come; m the values held then; there, same: its tests; f, others: the rest's
+one-more : (x there same : Bool) (m : ℕ) (f : ℕ → Bool) (theres sames : Bool) → (x ≡ true → m ≤ 8)
     → ((x && f m) && ((there && theres) && (same && sames)))
-    ≡ cond (eqb (cond (there && same) (cond x m 0) 0) 0) false (f (cond (there && same) (cond x m 0) 0) && (theres && sames))
+    ≡ cond (eqb (cond (there && same) (cond (x && true) m 9) 9) 9) false (f (cond (there && same) (cond (x && true) m 9) 9) && (theres && sames))
 one-more false there same m f theres sames h = go (there && same)
   where
-    go : (b : Bool) → false ≡ cond (eqb (cond b 0 0) 0) false (f (cond b 0 0) && (theres && sames))
+    go : (b : Bool) → false ≡ cond (eqb (cond b 9 9) 9) false (f (cond b 9 9) && (theres && sames))
     go true = refl
     go false = refl
 one-more true false same m f theres sames h = simp and-no
 one-more true true false m f theres sames h = simp and-no
-one-more true true true m f theres sames h = let l : 1 ≤ m = h refl in rw (ne-eqb m 0 (λ (z : m ≡ 0). omega arith))
+one-more true true true m f theres sames h = let l : m ≤ 8 = h refl in rw (ne-eqb m 9 (λ (z : m ≡ 9). omega arith))
 
-pub expression-more : (w : List ℕ) (names held a n : ℕ) → expressionTest w names held a (suc n)
-    ≡ cond (eqb (heldAfter w names held a) 0) false (expressionTest w names (heldAfter w names held a) (a + 2) n)
-unfolding expressionTest cellsAt leavesOneFrom all wordsOfEach heldAfter heldPast heldWith pushed joined
-expression-more w names held a n =
+expression-more : (w : List ℕ) (names held a n : ℕ) → held ≤ 8 → expressionTest w names held a (suc n)
+    ≡ cond (eqb (heldPast w names held a) 9) false (expressionTest w names (heldPast w names held a) (a + 2) n)
+unfolding expressionTest cellsAt leavesOneFrom all wordsOfEach heldPast
+expression-more w names held a n h =
+    let p = pieceAt w a in
     let e = piecesAt w (a + 2) n in
-    rw (same-split w a (pieceWords (pieceAt w a)) (wordsOfEach pieceWords e), piece-two (pieceAt w a)) (go (pieceAt w a))
-  where
-    room : leb 2 held ≡ true → 1 ≤ held - 1
-    room h = let l = leb-true 2 held h in omega arith
+    rw (same-split w a (pieceWords p) (wordsOfEach pieceWords e), piece-two p, le-leb held 8 h)
+    (one-more (mayCome held (effectOf p)) (pieceIsThere names p) (sameAt w a (pieceWords p)) (heldWith held (effectOf p)) (λ m. leavesOneFrom m e) _ _
+    (λ t. held-most held (effectOf p) t h))
 
-    go : (p : Piece) → (leavesOneFrom held (p ∷ piecesAt w (a + 2) n) &&
-        ((pieceIsThere names p && all (pieceIsThere names) (piecesAt w (a + 2) n)) &&
-        (sameAt w a (pieceWords p) && sameAt w (a + 2) (wordsOfEach pieceWords (piecesAt w (a + 2) n)))))
-        ≡ cond (eqb (heldPast w names held a p) 0) false
-        (leavesOneFrom (heldPast w names held a p) (piecesAt w (a + 2) n) &&
-        (all (pieceIsThere names) (piecesAt w (a + 2) n) && sameAt w (a + 2) (wordsOfEach pieceWords (piecesAt w (a + 2) n))))
-    go (literal v) = one-more (ltb held 8) (pieceIsThere names (literal v)) (sameAt w a (pieceWords (literal v))) (suc held) (λ m. leavesOneFrom m (piecesAt w (a + 2) n)) _ _ (λ h. omega arith)
-    go (valueOf v) = one-more (ltb held 8) (pieceIsThere names (valueOf v)) (sameAt w a (pieceWords (valueOf v))) (suc held) (λ m. leavesOneFrom m (piecesAt w (a + 2) n)) _ _ (λ h. omega arith)
-    go (writtenMark v) = one-more (ltb held 8) (pieceIsThere names (writtenMark v)) (sameAt w a (pieceWords (writtenMark v))) (suc held) (λ m. leavesOneFrom m (piecesAt w (a + 2) n)) _ _ (λ h. omega arith)
-    go plus = one-more (leb 2 held) (pieceIsThere names plus) (sameAt w a (pieceWords plus)) (held - 1) (λ m. leavesOneFrom m (piecesAt w (a + 2) n)) _ _ room
-    go minus = one-more (leb 2 held) (pieceIsThere names minus) (sameAt w a (pieceWords minus)) (held - 1) (λ m. leavesOneFrom m (piecesAt w (a + 2) n)) _ _ room
-    go times = one-more (leb 2 held) (pieceIsThere names times) (sameAt w a (pieceWords times)) (held - 1) (λ m. leavesOneFrom m (piecesAt w (a + 2) n)) _ _ room
-    go less = one-more (leb 2 held) (pieceIsThere names less) (sameAt w a (pieceWords less)) (held - 1) (λ m. leavesOneFrom m (piecesAt w (a + 2) n)) _ _ room
+held-past-most : (w : List ℕ) (names held a : ℕ) → held ≤ 8 → heldPast w names held a ≤ 9
+unfolding heldPast
+held-past-most w names held a h =
+    let p = pieceAt w a in go (pieceIsThere names p && sameAt w a (pieceWords p)) (mayCome held (effectOf p)) refl (leb held 8)
+  where
+    go : (b x : Bool) → mayCome held (effectOf (pieceAt w a)) ≡ x → (y : Bool) → cond b (cond (x && y) (heldWith held (effectOf (pieceAt w a))) 9) 9 ≤ 9
+    go false x e y = omega arith
+    go true false e y = omega arith
+    go true true e false = omega arith
+    go true true e true = let l = held-most held (effectOf (pieceAt w a)) e h in omega arith
 
 -- ── the turns of the check, with so many pieces left ─────────────────────────────
-module _ (w : List ℕ) (names held a : ℕ) where
-  pub expression-stop : (left : ℕ) → 0 < left → heldAfter w names held a ≡ 0 → expressionTest w names held a left ≡ false
+module _ (w : List ℕ) (names held a : ℕ) (most : held ≤ 8) where
+  pub expression-stop : (left : ℕ) → 0 < left → heldPast w names held a ≡ 9 → expressionTest w names held a left ≡ false
   expression-stop zero l h = absurd (omega arith)
-  expression-stop (suc n) l h = expression-more w names held a n ∙ rw h
+  expression-stop (suc n) l h = expression-more w names held a n most ∙ rw h
 
-  pub expression-turn : (left next : ℕ) → 0 < left → next ≡ heldAfter w names held a → (next ≡ 0 → ⊥)
+  pub expression-turn : (left next : ℕ) → 0 < left → next ≡ heldPast w names held a → (next ≡ 9 → ⊥)
       → expressionTest w names next (a + 2) (left - 1) ≡ expressionTest w names held a left
   expression-turn zero next l q h = absurd (omega arith)
   expression-turn (suc n) next l q h =
-      let z : suc n - 1 ≡ n = omega arith in sym (expression-more w names held a n ∙ rw (← q, ne-eqb next 0 h, z))
+      let z : suc n - 1 ≡ n = omega arith in sym (expression-more w names held a n most ∙ rw (← q, ne-eqb next 9 h, z))
 
-  pub expression-end : (left : ℕ) → left ≡ 0 → expressionTest w names held a left ≡ eqb held 1
-  expression-end left z = rw z (expression-none w names held a)
+  pub next-most : (next : ℕ) → next ≡ heldPast w names held a → (next ≡ 9 → ⊥) → next ≤ 8
+  next-most next q h = let m = held-past-most w names held a most in omega arith
+
+pub expression-end : (w : List ℕ) (names held a left : ℕ) → left ≡ 0 → expressionTest w names held a left ≡ eqb held 1
+expression-end w names held a left z = rw z (expression-none w names held a)

@@ -2,16 +2,18 @@
 -- The words are compared with those of what they decode to, and what they decode to is asked question 6's conditions.
 use mathlib.Core.Bool.{Bool, true, cond, _&&_}
 use mathlib.Core.List.{List, [], _∷_}
-use Prim.Native.Nat.{ℕ, zero, suc, _+_, _*_, _-_, _<_}
+use Prim.Native.Nat.{ℕ, zero, suc, _+_, _*_, _<_}
 use lib.Dec.{eqb, ltb, leb}
-use lib.ListN.{length}
+use lib.ListN.{length, getD}
 use Rattle.listing.specs.Lists.{all}
-use Rattle.listing.specs.Listing.{Piece, literal, valueOf, writtenMark, plus, minus, times, less, Instruction, Routine}
-use Rattle.listing.specs.Expressions.{leavesOneFrom}
+use Rattle.listing.specs.Listing.{Instruction, Routine}
+use Rattle.listing.specs.Expressions.{effectOf, leavesOneFrom}
 use Rattle.listing.specs.Questions.{pieceIsThere, callIsThere, isThere}
 use Rattle.listing.specs.WellFormed.{instructionHasForm}
+use Rattle.listing_effect.specs.Held.{heldBy, asEffect}
+use Rattle.listing_effect.specs.declared.Effect.{Effect}
 use Rattle.table.specs.Areas.{cellEnd, wordsOfEach, pieceWords, nameWords, callWords, cellWords, entryWords, allCells, allEntries}
-use Rattle.table.specs.Decode.{word, pieceAt, piecesAt, namesAt, callsAt, instructionAtEntry, tableListing}
+use Rattle.table.specs.Decode.{word, pieceOf, pieceAt, piecesAt, namesAt, callsAt, instructionAtEntry, tableListing}
 
 -- every word has 32 bits
 abbrev pub Words : List ℕ → Type 0
@@ -26,28 +28,18 @@ abbrev pub routinesIn : List ℕ → List Routine
 routinesIn w = tableListing w .routines
 
 -- ── expressions ──────────────────────────────────────────────────────────────────
--- the values held after one is pushed, and after two are made one; 0 for a no
-unfoldable pub pushed : ℕ → ℕ
-pushed held = cond (ltb held 8) (suc held) 0
+-- what a piece of this kind does to the values held
+unfoldable pub effectBy : ℕ → Effect
+effectBy kind = asEffect (effectOf (pieceOf kind 0))
 
-unfoldable pub joined : ℕ → ℕ
-joined held = cond (leb 2 held) (held - 1) 0
+-- the two words of a cell: the piece that they stand for has its name there, and these are its words
+unfoldable pub pieceTest : ℕ → ℕ → ℕ → Bool
+pieceTest names kind value = let p = pieceOf kind value in pieceIsThere names p && (eqb kind (getD (pieceWords p) 0 0) && eqb value (getD (pieceWords p) 1 0))
 
-unfoldable pub heldWith : ℕ → Piece → ℕ
-heldWith held (literal v) = pushed held
-heldWith held (valueOf n) = pushed held
-heldWith held (writtenMark n) = pushed held
-heldWith held plus = joined held
-heldWith held minus = joined held
-heldWith held times = joined held
-heldWith held less = joined held
-
--- the values held after a piece that stands at a; 0 for a no
-unfoldable pub heldPast : List ℕ → ℕ → ℕ → ℕ → Piece → ℕ
-heldPast w names held a p = cond (pieceIsThere names p && sameAt w a (pieceWords p)) (heldWith held p) 0
-
-unfoldable pub heldAfter : List ℕ → ℕ → ℕ → ℕ → ℕ
-heldAfter w names held a = heldPast w names held a (pieceAt w a)
+-- the values held after the piece at a; 9 for a no
+unfoldable pub heldPast : List ℕ → ℕ → ℕ → ℕ → ℕ
+heldPast w names held a =
+    let p = pieceAt w a in cond (pieceIsThere names p && sameAt w a (pieceWords p)) (heldBy held (effectOf p)) 9
 
 -- n pieces from a on, with so many values held before them
 unfoldable pub expressionTest : List ℕ → ℕ → ℕ → ℕ → ℕ → Bool

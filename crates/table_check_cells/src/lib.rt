@@ -7,62 +7,70 @@ ghost use Prim.Native.Nat.{_+_, _*_, _≤_};
 ghost use lib.ListN.{length};
 ghost use Rattle.table.specs.Areas.{TableLong};
 ghost use Rattle.table.specs.Decode.{word};
-ghost use Rattle.table_check_cells.specs.Pass.{pushed, joined, heldAfter, expressionTest, namesTest, headTest, callsPast};
+ghost use Rattle.table_check_cells.specs.Pass.{effectBy, pieceTest, heldPast, expressionTest, namesTest, headTest, callsPast};
+use listing_effect::Effect;
+use listing_effect::OUT_OF_FORM;
+use listing_effect::held_after;
 use table::ARGUMENTS;
 use table::CELL_END;
 use table::CELL_WORDS;
 use table::LESS;
 use table::LITERAL;
+use table::MINUS;
+use table::PLUS;
 use table::ROUTINE_COUNT;
 use table::ROUTINE_WORDS;
 use table::ROUTINES;
+use table::TIMES;
+use table::VALUE_OF;
 use table::WRITTEN_MARK;
 use table_read::head_at;
 use table_read::next_head;
 use words::number;
 
-// The number of values held once one is pushed, 0 for a no.
-fn push(held: u32) -> u32
-    ensures { λ r. ⌜ r ≡ pushed held ⌝ }
+// What a piece of this kind does to the values held.
+fn effect_of(kind: u32) -> Effect
+    ensures { λ r. ⌜ r ≡ effectBy kind ⌝ }
 {
-    if held < 8 {
-        return held + 1;
+    match kind {
+        LITERAL => Effect::Adds,
+        VALUE_OF => Effect::Adds,
+        WRITTEN_MARK => Effect::Adds,
+        PLUS => Effect::Joins,
+        MINUS => Effect::Joins,
+        TIMES => Effect::Joins,
+        LESS => Effect::Joins,
+        _ => Effect::Adds,
     }
-    0
 }
 
-// The number of values held once a sign made one of two, 0 for a no.
-fn join(held: u32) -> u32
-    ensures { λ r. ⌜ r ≡ joined held ⌝ }
+// Is it a piece, its name there, and a sign's value 0?
+fn piece_passes(names: u32, kind: u32, value: u32) -> bool
+    ensures { λ r. ⌜ r ≡ pieceTest names kind value ⌝ }
 {
-    if held >= 2 {
-        return held - 1;
+    match kind {
+        LITERAL => true,
+        VALUE_OF => value < names,
+        WRITTEN_MARK => value < names,
+        PLUS => value == 0,
+        MINUS => value == 0,
+        TIMES => value == 0,
+        LESS => value == 0,
+        _ => false,
     }
-    0
 }
 
-// The number of values held after the piece at `a`, 0 for a no.
-fn held_after(t: &[u32], names: u32, held: u32, a: usize) -> u32
+// The number of values held after the piece at `a`.
+fn held_past(t: &[u32], names: u32, held: u8, a: usize) -> u8
     requires { ⌜ a + 2 ≤ length (now t) ⌝ }
-    ensures { λ r. ⌜ r ≡ heldAfter (now (t .entry)) names held a ⌝ }
+    ensures { λ r. ⌜ r ≡ heldPast (now (t .entry)) names held a ⌝ }
 {
-    let kind = t[a];
+    let kind = t[a + 0];
     let value = t[a + 1];
-    if kind == LITERAL {
-        return push(held);
+    if piece_passes(names, kind, value) {
+        return held_after(held, effect_of(kind));
     }
-    if kind <= WRITTEN_MARK {
-        if value < names {
-            return push(held);
-        }
-        return 0;
-    }
-    if kind <= LESS {
-        if value == 0 {
-            return join(held);
-        }
-    }
-    0
+    OUT_OF_FORM
 }
 
 // Do the `n` pieces from `a` on make an expression?
@@ -70,12 +78,12 @@ pub fn expression_passes(t: &[u32], names: u32, a: usize, n: usize) -> bool
     requires { ⌜ a + 2 * n ≤ length (now t) ⌝ }
     ensures { λ r. ⌜ r ≡ expressionTest (now (t .entry)) names 0 a n ⌝ }
 {
-    let mut held: u32 = 0;
+    let mut held: u8 = 0;
     let mut at = a;
     let mut left = n;
     while left > 0 {
-        held = held_after(t, names, held, at);
-        if held == 0 {
+        held = held_past(t, names, held, at);
+        if held == OUT_OF_FORM {
             return false;
         }
         at += CELL_WORDS;

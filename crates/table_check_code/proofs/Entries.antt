@@ -2,19 +2,19 @@
 use mathlib.Core.Path.{_≡_, refl, ap, _∙_}
 use mathlib.Core.Bool.{Bool, true, false, cond, _&&_}
 use mathlib.Core.List.{List, [], _∷_}
-use Prim.Native.Nat.{ℕ, zero, suc, _+_, _*_, _≤_, _<_}
+use Prim.Native.Nat.{ℕ, zero, suc, _+_, _*_, _<_}
 use native.Mathlib.Omega.{arith}
 use lib.Dec.{eqb, ltb, leb}
 use lib.ListN.{length, length-append}
 use borrow.Author.Tests.{eq-eqb, ne-eqb, lt-ltb, eqb-true, ltb-true}
 use Rattle.listing.specs.Lists.{all}
-use Rattle.listing.specs.Listing.{Piece, literal, times, less, Instruction, assign, schedule, branch, jump, wait, fork, end}
+use Rattle.listing.specs.Listing.{Piece, literal, valueOf, writtenMark, plus, minus, times, less, Instruction, assign, schedule, branch, jump, wait, fork, end}
 use Rattle.listing.specs.Expressions.{leavesOneFrom}
 use Rattle.listing.specs.Form.{oneTo}
 use Rattle.listing.specs.Questions.{pieceIsThere, callIsThere, isThere}
 use Rattle.listing.specs.WellFormed.{pieceHasForm, instructionHasForm}
 use Rattle.table.specs.Areas.{wordsOfEach, pieceWords, nameWords, callWords, cellWords, entryWords}
-use Rattle.table.specs.Decode.{word, pieceOf, pieceAt, nameAt, cellsAt, piecesAt, namesAt, callsAt, instructionOf, instructionAtEntry}
+use Rattle.table.specs.Decode.{word, noPiece, pieceOf, pieceAt, nameAt, cellsAt, piecesAt, namesAt, callsAt, instructionOf, instructionAtEntry}
 use Rattle.table.proofs.Lengths.{piece-two, name-two, each-two}
 use Rattle.table.proofs.Reach.{cells-count, calls-count}
 use Rattle.table.proofs.Tests.{and-no, and-yes, same-answer}
@@ -25,23 +25,20 @@ use Rattle.table_check_cells.proofs.Cells.{cond-cond}
 -- ── a literal is a word ──────────────────────────────────────────────────────────
 piece-has-form : (w : List ℕ) → Words w → (a : ℕ) → pieceHasForm (pieceAt w a) ≡ true
 unfolding pieceAt pieceOf pieceHasForm
-piece-has-form w small a = go (word w (a + 0)) (word w (a + 1)) (small (a + 1))
+piece-has-form w small a =
+    let k = word w (a + 0) in
+    go (word w (a + 1)) (small (a + 1)) (eqb k 0) (eqb k 1) (eqb k 2) (eqb k 3) (eqb k 4) (eqb k 5) (eqb k 6)
   where
-    no : (b : Bool) (v : ℕ) → pieceHasForm (cond b times less) ≡ true
-    no true v = refl
-    no false v = refl
-
-    go : (k v : ℕ) → v < 4294967296 → pieceHasForm (pieceOf k v) ≡ true
-    go zero v h = lt-ltb v 4294967296 h
-    go (suc zero) v h = refl
-    go (suc (suc zero)) v h = refl
-    go (suc (suc (suc zero))) v h = refl
-    go (suc (suc (suc (suc zero)))) v h = refl
-    go (suc (suc (suc (suc (suc zero))))) v h = refl
-    go (suc (suc (suc (suc (suc (suc k)))))) v h =
-        let j = 6 + k in
-        let ne : (i : ℕ) → i ≤ 5 → eqb (suc (suc (suc (suc (suc (suc k)))))) i ≡ false = λ i l. ne-eqb (suc (suc (suc (suc (suc (suc k)))))) i (λ (e : suc (suc (suc (suc (suc (suc k))))) ≡ i). omega arith) in
-        rw (ne 0 (omega arith), ne 1 (omega arith), ne 2 (omega arith), ne 3 (omega arith), ne 4 (omega arith), ne 5 (omega arith))
+    go : (v : ℕ) → v < 4294967296 → (a b c d e f g : Bool) →
+        pieceHasForm (cond a (literal v) (cond b (valueOf v) (cond c (writtenMark v) (cond d plus (cond e minus (cond f times (cond g less noPiece))))))) ≡ true
+    go v h true b c d e f g = lt-ltb v 4294967296 h
+    go v h false true c d e f g = refl
+    go v h false false true d e f g = refl
+    go v h false false false true e f g = refl
+    go v h false false false false true f g = refl
+    go v h false false false false false true g = refl
+    go v h false false false false false false true = refl
+    go v h false false false false false false false = refl
 
 pieces-have-form : (w : List ℕ) → Words w → (n a : ℕ) → all pieceHasForm (piecesAt w a n) ≡ true
 unfolding cellsAt all
@@ -248,4 +245,4 @@ module _ (w : List ℕ) (small : Words w) (names size e at : ℕ) where
   unfolding entryPast instructionTest instructionAtEntry instructionOf entryWords
   past-no-kind n1 n2 n3 n4 n5 n6 n7 =
       let k = word w (e + 0) in
-      rw (ne-eqb k 1 n1, ne-eqb k 2 n2, ne-eqb k 3 n3, ne-eqb k 4 n4, ne-eqb k 5 n5, ne-eqb k 6 n6, five-kind w e 7 0 at 0 0 (ne-eqb k 7 n7)) (simp and-no)
+      rw (ne-eqb k 1 n1, ne-eqb k 2 n2, ne-eqb k 3 n3, ne-eqb k 4 n4, ne-eqb k 5 n5, ne-eqb k 6 n6, ne-eqb k 7 n7, five-kind w e 7 0 at 0 0 (ne-eqb k 7 n7)) (simp and-no)

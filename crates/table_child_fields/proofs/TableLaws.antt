@@ -11,7 +11,7 @@ use native.Mathlib.Numerals.{add-one}
 use Rattle.listing.specs.Listing.{Kind, byReference, byValue, Instruction, wait, fork, end}
 use Rattle.walk.specs.Walk.{routineAt, instructionAt}
 use Rattle.walk.specs.Question7.{ownedCount, ownedBy}
-use Rattle.table.specs.Decode.{headAfter, word, afterCall, callsAt, namesAt, instructionOf, instructionAtEntry, kindsOfBits, instructionEntry, tableListing}
+use Rattle.table.specs.Decode.{headAfter, word, afterCall, callsAt, namesAt, noInstruction, instructionOf, instructionAtEntry, kindsOfBits, instructionEntry, tableListing}
 use Rattle.table.proofs.Reach.{owned-by-number, code-length-by-number, instruction-by-address}
 use Rattle.machine.specs.Records.{Frame, Scan, asleepAt}
 use Rattle.table_child_fields.specs.Tables.{TableBounds, Seen, at-wait, at-fork, at-other, pastLine, lineAt}
@@ -99,7 +99,7 @@ module _ (w : List ℕ) (bounds : TableBounds w) (r : ℕ) (there : r < word w 2
     no-sleep kind a b c d f g now level go frames =
         rw (ne-eqb kind 5 f, ne-eqb kind 6 g)
         (either now level go frames (eqb kind 1) _ _ refl (either now level go frames (eqb kind 2) _ _ refl
-        (either now level go frames (eqb kind 3) _ _ refl (either now level go frames (eqb kind 4) _ end refl refl))))
+        (either now level go frames (eqb kind 3) _ _ refl (either now level go frames (eqb kind 4) _ _ refl (either now level go frames (eqb kind 7) end noInstruction refl refl)))))
 
     is-wait : (kind a b c d : ℕ) → kind ≡ 5 → instructionOf w kind a b c d ≡ wait (namesAt w b c)
     unfolding instructionOf

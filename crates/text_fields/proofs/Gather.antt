@@ -3,21 +3,24 @@ use mathlib.Core.Path.{_≡_, refl, sym, ap, _∙_}
 use mathlib.Core.Bool.{Bool, true, false, cond, _&&_}
 use mathlib.Core.List.{List, [], _∷_}
 use mathlib.Core.Option.{Option, none, some}
-use Prim.Native.Nat.{ℕ, suc, _+_, _-_, _≤_, min}
+use Prim.Native.Nat.{ℕ, suc, _+_, _≤_, min}
 use native.Mathlib.Omega.{arith}
-use lib.Dec.{eqb, ltb, leb}
+use lib.Dec.{eqb, ltb}
 use lib.ListN.{length, getD}
 use lib.Seq.{slice}
 use borrow.Author.Tests.{lt-ltb, le-ltb, le-leb, ne-eqb, ltb-true, ltb-false, eqb-false, eqb-true}
 use Rattle.listing.specs.Lists.{all}
-use Rattle.listing.specs.Expressions.{bind, when, each, readPiece, mostValuesHeld, leavesOneFrom, leavesOne, readExpression}
+use Rattle.listing.specs.Expressions.{bind, when, each, readPiece, mostValuesHeld, effectOf, mayCome, heldWith, leavesOneFrom, leavesOne, readExpression}
+use Rattle.listing.proofs.Effects.{held-most}
 use Rattle.listing.specs.Form.{nextField}
 use Rattle.listing.specs.Questions.{pieceIsThere}
 use Rattle.listing.specs.Listing as L
 use Rattle.text_place.specs.Texts.{fieldsLeft, fieldEnd, fieldPieces}
 use Rattle.text_place.specs.Places.{passed, takenAt}
-use Rattle.text_piece.specs.Pieces.{cap, asPiece, pieceAnswer}
-use Rattle.text_fields.specs.Gather.{pushed, joined, heldAfter, isThereBy, isValue, valueIn, nothing, gatherOne, gatherAll, piecesAnswer, asExpression, expressionAnswer}
+use Rattle.listing_effect.specs.Held.{heldBy, heldAfter, asEffect}
+use Rattle.listing_effect.proofs.Held.{after-effect, nine-stays}
+use Rattle.text_piece.specs.Pieces.{cap, asPiece, pieceAnswer, effectIn}
+use Rattle.text_fields.specs.Gather.{isThereBy, isValue, valueIn, nothing, gatherOne, gatherAll, piecesAnswer, asExpression, expressionAnswer}
 use Rattle.text_place.specs.declared.place.Place.{Place}
 use Rattle.text_piece.specs.declared.piece.Piece.{Piece}
 use Rattle.text_fields.specs.declared.gathering.Gathering.{Gathering}
@@ -35,16 +38,23 @@ absurd-read e = absurd (let z : _≡_ {A = ℕ} 0 1 = cc in omega arith)
 -- ── the values held ──────────────────────────────────────────────────────────────
 unfoldable pub heldOver : L.Expression → ℕ → ℕ
 heldOver [] n = n
-heldOver (p ∷ e) n = heldOver e (heldAfter (asPiece (some p)) n)
+heldOver (p ∷ e) n = heldOver e (heldAfter n (effectIn (asPiece (some p))))
 
-after-nine : (p : L.Piece) → heldAfter (asPiece (some p)) 9 ≡ 9
-after-nine (L.Piece.literal v) = refl
-after-nine (L.Piece.valueOf n) = refl
-after-nine (L.Piece.writtenMark n) = refl
-after-nine L.Piece.plus = refl
-after-nine L.Piece.minus = refl
-after-nine L.Piece.times = refl
-after-nine L.Piece.less = refl
+effect-read : (p : L.Piece) → effectIn (asPiece (some p)) ≡ asEffect (effectOf p)
+unfolding effectOf
+effect-read (L.Piece.literal v) = refl
+effect-read (L.Piece.valueOf n) = refl
+effect-read (L.Piece.writtenMark n) = refl
+effect-read L.Piece.plus = refl
+effect-read L.Piece.minus = refl
+effect-read L.Piece.times = refl
+effect-read L.Piece.less = refl
+
+held-read : (n : ℕ) (p : L.Piece) → heldAfter n (effectIn (asPiece (some p))) ≡ heldBy n (effectOf p)
+held-read n p = ap (heldAfter n) (effect-read p) ∙ after-effect n (effectOf p)
+
+after-nine : (p : L.Piece) → heldAfter 9 (effectIn (asPiece (some p))) ≡ 9
+after-nine p = held-read 9 p ∙ nine-stays (effectOf p)
 
 over-nine : (e : L.Expression) → heldOver e 9 ≡ 9
 unfolding heldOver
@@ -52,31 +62,20 @@ over-nine [] = refl
 over-nine (p ∷ e) = rw (after-nine p) (over-nine e)
 
 -- an expression leaves one value exactly if one is held after it
-module _ (e : L.Expression) (n : ℕ) (h : n ≤ mostValuesHeld) (i : (m : ℕ) → m ≤ mostValuesHeld → leavesOneFrom m e ≡ eqb (heldOver e m) 1) where
-  after-value : (ltb n mostValuesHeld && leavesOneFrom (suc n) e) ≡ eqb (heldOver e (pushed n)) 1
-  after-value = go (ltb n mostValuesHeld) refl
-    where
-      go : (t : Bool) → ltb n mostValuesHeld ≡ t → (t && leavesOneFrom (suc n) e) ≡ eqb (heldOver e (cond t (suc n) 9)) 1
-      go true f = i (suc n) (omega (arith, ltb-true n mostValuesHeld f))
-      go false f = rw (over-nine e)
-
-  after-sign : (leb 2 n && leavesOneFrom (n - 1) e) ≡ eqb (heldOver e (joined n)) 1
-  after-sign = rw (le-leb n mostValuesHeld h) (go (leb 2 n))
-    where
-      go : (t : Bool) → (t && leavesOneFrom (n - 1) e) ≡ eqb (heldOver e (cond (t && true) (n - 1) 9)) 1
-      go true = i (n - 1) (omega arith)
-      go false = rw (over-nine e)
+after-piece : (p : L.Piece) (e : L.Expression) (n : ℕ) → n ≤ mostValuesHeld → ((m : ℕ) → m ≤ mostValuesHeld → leavesOneFrom m e ≡ eqb (heldOver e m) 1)
+    → leavesOneFrom n (p ∷ e) ≡ eqb (heldOver (p ∷ e) n) 1
+unfolding leavesOneFrom heldOver
+after-piece p e n h i = rw (held-read n p, le-leb n mostValuesHeld h) (go (mayCome n (effectOf p)) refl)
+  where
+    go : (t : Bool) → mayCome n (effectOf p) ≡ t
+        → (t && leavesOneFrom (heldWith n (effectOf p)) e) ≡ eqb (heldOver e (cond (t && true) (heldWith n (effectOf p)) 9)) 1
+    go true f = i (heldWith n (effectOf p)) (held-most n (effectOf p) f h)
+    go false f = rw (over-nine e)
 
 leaves-held : (e : L.Expression) (n : ℕ) → n ≤ mostValuesHeld → leavesOneFrom n e ≡ eqb (heldOver e n) 1
 unfolding leavesOneFrom heldOver
 leaves-held [] n h = refl
-leaves-held (L.Piece.literal v ∷ e) n h = after-value e n h (leaves-held e)
-leaves-held (L.Piece.valueOf m ∷ e) n h = after-value e n h (leaves-held e)
-leaves-held (L.Piece.writtenMark m ∷ e) n h = after-value e n h (leaves-held e)
-leaves-held (L.Piece.plus ∷ e) n h = after-sign e n h (leaves-held e)
-leaves-held (L.Piece.minus ∷ e) n h = after-sign e n h (leaves-held e)
-leaves-held (L.Piece.times ∷ e) n h = after-sign e n h (leaves-held e)
-leaves-held (L.Piece.less ∷ e) n h = after-sign e n h (leaves-held e)
+leaves-held (p ∷ e) n h = after-piece p e n h (leaves-held e)
 
 -- ── names that are there ─────────────────────────────────────────────────────────
 pub capped-below : (n names : ℕ) → names ≤ cap → ltb (min n cap) names ≡ ltb n names
@@ -106,9 +105,9 @@ unfolding gatherAll
 held-nine names g [] e = e
 held-nine names g (w ∷ ws) e = held-nine names (gatherOne names g (pieceAnswer w)) ws (go (readPiece w))
   where
-    go : (o : Option L.Piece) → heldAfter (asPiece o) (g .held) ≡ 9
+    go : (o : Option L.Piece) → heldAfter (g .held) (effectIn (asPiece o)) ≡ 9
     go none = refl
-    go (some p) = ap (heldAfter (asPiece (some p))) e ∙ after-nine p
+    go (some p) = ap (λ (n : ℕ). heldAfter n (effectIn (asPiece (some p)))) e ∙ after-nine p
 
 module _ (names : ℕ) where
   pub data Run (g : Gathering) (ws : List (List ℕ)) : Option L.Expression → Type 0 where
@@ -123,13 +122,13 @@ module _ (names : ℕ) where
     run-more g w ws p none i (out e) = out e
     run-more g w ws p (some ps) i (ran e l t) =
         let a : pieceAnswer w ≡ asPiece (some p) = ap asPiece i in
-        ran {e = p ∷ ps} (e ∙ ap (λ (q : Piece). heldOver ps (heldAfter q (g .held))) a) (l ∙ (let m : g .count + 1 + length ps ≡ g .count + suc (length ps) = omega arith in m))
+        ran {e = p ∷ ps} (e ∙ ap (λ (q : Piece). heldOver ps (heldAfter (g .held) (effectIn q))) a) (l ∙ (let m : g .count + 1 + length ps ≡ g .count + suc (length ps) = omega arith in m))
         (t ∙ ap (λ (q : Piece). (g .there && isThereBy names q) && all (pieceIsThere names) ps) a ∙ rw (there-by names h p, and-assoc))
 
     run-step : (g : Gathering) (w : List ℕ) (ws : List (List ℕ)) (o : Option L.Piece) → readPiece w ≡ o
         → Run (gatherOne names g (pieceAnswer w)) ws (each readPiece ws) → Run g (w ∷ ws) (bind o (λ p. bind (each readPiece ws) (λ e. some (p ∷ e))))
     unfolding gatherAll
-    run-step g w ws none e r = out (held-nine names (gatherOne names g (pieceAnswer w)) ws (ap (λ (o : Option L.Piece). heldAfter (asPiece o) (g .held)) e))
+    run-step g w ws none e r = out (held-nine names (gatherOne names g (pieceAnswer w)) ws (ap (λ (o : Option L.Piece). heldAfter (g .held) (effectIn (asPiece o))) e))
     run-step g w ws (some p) e r = run-more g w ws p (each readPiece ws) e r
 
     pub run-of : (g : Gathering) (ws : List (List ℕ)) → Run g ws (each readPiece ws)
@@ -183,7 +182,7 @@ expression-by names h s p stop r e = ap expressionBy e ∙ go (eqb stop 9) refl
     go false i = sym (expression-shut names s p stop (eqb-false stop 9 i))
 
 -- ── one piece more ───────────────────────────────────────────────────────────────
-module _ (names : ℕ) (g : Gathering) (p : Piece) (held : ℕ) (value figures known there : Bool) (h : held ≡ heldAfter p (g .held)) (v : value ≡ isValue p)
+module _ (names : ℕ) (g : Gathering) (p : Piece) (held : ℕ) (value figures known there : Bool) (h : held ≡ heldAfter (g .held) (effectIn p)) (v : value ≡ isValue p)
     (f : figures ≡ (g .figures && value)) (k : known ≡ isThereBy names p) (t : there ≡ (g .there && known)) where
   pub gather-first : (first : ℕ) → first ≡ valueIn p → g .count ≡ 0
       → record { count = 1; held = held; figures = figures; first = first; others = g .others; there = there } ≡ gatherOne names g p

@@ -2,18 +2,19 @@
 use mathlib.Core.Bool.{Bool, true, false, cond, _&&_}
 use mathlib.Core.List.{List, [], _∷_}
 use mathlib.Core.Option.{Option, none, some}
-use Prim.Native.Nat.{ℕ, suc, _+_, _-_}
-use lib.Dec.{eqb, ltb, leb}
+use Prim.Native.Nat.{ℕ, _+_}
+use lib.Dec.{eqb, ltb}
 use lib.ListN.{length, getD, drop}
 use Rattle.listing.specs.Lists.{all}
 use Rattle.listing.specs.Bytes.{Bytes, tab}
-use Rattle.listing.specs.Expressions.{mostValuesHeld, readExpression}
+use Rattle.listing.specs.Expressions.{readExpression}
 use Rattle.listing.specs.Form.{nextField}
 use Rattle.listing.specs.Questions.{pieceIsThere}
 use Rattle.listing.specs.Listing as L
 use Rattle.text_place.specs.Texts.{fieldEnd, fieldPieces, fieldsLeft}
 use Rattle.text_place.specs.Places.{passed}
-use Rattle.text_piece.specs.Pieces.{pieceAnswer}
+use Rattle.listing_effect.specs.Held.{heldAfter}
+use Rattle.text_piece.specs.Pieces.{pieceAnswer, effectIn}
 use Rattle.text_place.specs.declared.place.Place.{Place}
 use Rattle.text_piece.specs.declared.piece.Piece.{Piece}
 use Rattle.text_piece.specs.declared.piece.Piece.the-variants as PV
@@ -24,23 +25,6 @@ use Rattle.text_fields.specs.declared.field.Expression.{Expression}
 use Rattle.text_fields.specs.declared.field.Expression.the-variants as EV
 use Rattle.text_fields.specs.declared.field.Figures.{Figures}
 use Rattle.text_fields.specs.declared.field.Figures.the-variants as GV
-
--- the values held after a value, and after a sign; 9 once the expression is out of form
-abbrev pub pushed : ℕ → ℕ
-pushed n = cond (ltb n mostValuesHeld) (suc n) 9
-
-abbrev pub joined : ℕ → ℕ
-joined n = cond (leb 2 n && leb n mostValuesHeld) (n - 1) 9
-
-abbrev pub heldAfter : Piece → ℕ → ℕ
-heldAfter (PV.Literal v) n = pushed n
-heldAfter (PV.Value v) n = pushed n
-heldAfter (PV.Mark v) n = pushed n
-heldAfter PV.Plus n = joined n
-heldAfter PV.Minus n = joined n
-heldAfter PV.Times n = joined n
-heldAfter PV.Less n = joined n
-heldAfter PV.Bad n = 9
 
 -- whether a piece's name is one of so many
 abbrev pub isThereBy : ℕ → Piece → Bool
@@ -82,7 +66,7 @@ abbrev pub gatherOne : ℕ → Gathering → Piece → Gathering
 gatherOne names g p =
     record {
       count = g .count + 1;
-      held = heldAfter p (g .held);
+      held = heldAfter (g .held) (effectIn p);
       figures = g .figures && isValue p;
       first = cond (eqb (g .count) 0) (valueIn p) (g .first);
       others = cond (eqb (g .count) 0) (g .others) (g .others && isThereBy names p);

@@ -1,9 +1,11 @@
 // What is gathered from the pieces of a field, one after another: as an expression, and as a row of names.
 ghost use mathlib.Core.Path.{_≡_};
 ghost use Prim.Native.Nat.{_<_};
-ghost use Rattle.text_fields.specs.Gather.{pushed, joined, heldAfter, isThereBy, isValue, valueIn, gatherOne};
+ghost use Rattle.text_fields.specs.Gather.{isThereBy, isValue, valueIn, gatherOne};
 use crate::answers::both;
+use listing_effect::held_after;
 use text_piece::Piece;
+use text_piece::effect_of;
 
 pub struct Gathering {
     // how many pieces
@@ -18,43 +20,6 @@ pub struct Gathering {
     pub others: bool,
     // whether all names are there
     pub there: bool,
-}
-
-fn pushed_on(n: u8) -> u8
-    ensures { λ r. ⌜ r ≡ pushed n ⌝ }
-{
-    if n < 8 {
-        return n + 1;
-    }
-    9
-}
-
-fn joined_on(n: u8) -> u8
-    ensures { λ r. ⌜ r ≡ joined n ⌝ }
-{
-    if n < 2 {
-        return 9;
-    }
-    if n <= 8 {
-        return n - 1;
-    }
-    9
-}
-
-// The values held after a piece: "It leaves one value and never holds more than 8".
-fn held_after(p: Piece, n: u8) -> u8
-    ensures { λ r. ⌜ r ≡ heldAfter p n ⌝ }
-{
-    match p {
-        Piece::Literal(_) => pushed_on(n),
-        Piece::Value(_) => pushed_on(n),
-        Piece::Mark(_) => pushed_on(n),
-        Piece::Plus => joined_on(n),
-        Piece::Minus => joined_on(n),
-        Piece::Times => joined_on(n),
-        Piece::Less => joined_on(n),
-        Piece::Bad => 9,
-    }
 }
 
 // Whether a piece's name is one of so many.
@@ -108,7 +73,7 @@ pub fn gathered(g: Gathering, p: Piece, names: u8) -> Gathering
     requires { ⌜ g .count < 18446744073709551615 ⌝ }
     ensures { λ r. ⌜ r ≡ gatherOne names g p ⌝ }
 {
-    let held = held_after(p, g.held);
+    let held = held_after(g.held, effect_of(p));
     let figures = both(g.figures, is_value(p));
     let known = is_there(p, names);
     let there = both(g.there, known);

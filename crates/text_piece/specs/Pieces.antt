@@ -6,6 +6,8 @@ use lib.Dec.{eqb, ltb, leb}
 use Rattle.listing.specs.Bytes.{Bytes, readFigure}
 use Rattle.listing.specs.Expressions.{halfRange, wordRange, readPiece}
 use Rattle.listing.specs.Listing as L
+use Rattle.listing_effect.specs.declared.Effect.{Effect}
+use Rattle.listing_effect.specs.declared.Effect.the-variants as EV
 use Rattle.text_piece.specs.declared.figure.Figure.{Figure}
 use Rattle.text_piece.specs.declared.figure.Figure.the-variants as FV
 use Rattle.text_piece.specs.declared.piece.Piece.{Piece}
@@ -36,6 +38,17 @@ asPiece (some L.Piece.less) = PV.Less
 
 abbrev pub pieceAnswer : Bytes → Piece
 pieceAnswer piece = asPiece (readPiece piece)
+
+-- what a piece does to the values held
+abbrev pub effectIn : Piece → Effect
+effectIn (PV.Literal v) = EV.Adds
+effectIn (PV.Value n) = EV.Adds
+effectIn (PV.Mark n) = EV.Adds
+effectIn PV.Plus = EV.Joins
+effectIn PV.Minus = EV.Joins
+effectIn PV.Times = EV.Joins
+effectIn PV.Less = EV.Joins
+effectIn PV.Bad = EV.Unknown
 
 -- a piece, if nothing is left of its text
 abbrev pub ifAlone : ℕ → ℕ → Piece → Piece

@@ -7,4 +7,5 @@ pub use figure::figure_of;
 pub use figure::is_digit;
 pub use figure::wide;
 pub use piece::Piece;
+pub use piece::effect_of;
 pub use piece::piece_of;

@@ -6,9 +6,10 @@ ghost use lib.Dec.{leb};
 ghost use lib.ListN.{length};
 ghost use lib.Seq.{slice};
 ghost use Rattle.listing.specs.Expressions.{halfRange, readLiteral};
-ghost use Rattle.text_piece.specs.Pieces.{asPiece, pieceAnswer, ifAlone, negative, positive};
+ghost use Rattle.text_piece.specs.Pieces.{asPiece, pieceAnswer, effectIn, ifAlone, negative, positive};
 use crate::figure::Figure;
 use crate::figure::figure_of;
+use listing_effect::Effect;
 
 pub enum Piece {
     Literal(u32),
@@ -19,6 +20,22 @@ pub enum Piece {
     Times,
     Less,
     Bad,
+}
+
+// What a piece does to the values held.
+pub fn effect_of(p: Piece) -> Effect
+    ensures { λ r. ⌜ r ≡ effectIn p ⌝ }
+{
+    match p {
+        Piece::Literal(_) => Effect::Adds,
+        Piece::Value(_) => Effect::Adds,
+        Piece::Mark(_) => Effect::Adds,
+        Piece::Plus => Effect::Joins,
+        Piece::Minus => Effect::Joins,
+        Piece::Times => Effect::Joins,
+        Piece::Less => Effect::Joins,
+        Piece::Bad => Effect::Unknown,
+    }
 }
 
 // Whether a minus may stand before a figure. Document 01: "never `-0`".

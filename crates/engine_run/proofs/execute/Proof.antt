@@ -1,8 +1,5 @@
 -- `execute` meets its contract: each kind of instruction by what was read of it.
 use denote.Ref.{now}
-use mathlib.Core.Path.{_≡_}
-use Prim.Native.Nat.{ℕ, _+_, _*_, _≤_, _<_}
-use native.Mathlib.Omega.{arith}
 use borrow.Author.Needs.{needs}
 use Rattle.engine_rows.specs.Rows.{Row}
 use Rattle.engine_blocks.specs.Blocks.{rowsOf}
@@ -134,18 +131,22 @@ same-length-7 c =
 returns-7 : tie.Need-returns-7
 returns-7 c =
     let past = c .before .before .before .before .before .before .before in
-    let least = past .pre .1 .least in
-    let most = past .pre .1 .most in
-    let rest = c .before .before .before .before .match .rest in
-    let n1 : past .args .entry .kind ≡ 1 → ⊥ = rest .0 .0 .0 .0 .0 .1 in
-    let n2 : past .args .entry .kind ≡ 2 → ⊥ = rest .0 .0 .0 .0 .1 in
-    let n3 : past .args .entry .kind ≡ 3 → ⊥ = rest .0 .0 .0 .1 in
-    let n4 : past .args .entry .kind ≡ 4 → ⊥ = rest .0 .0 .1 in
-    let n5 : past .args .entry .kind ≡ 5 → ⊥ = rest .0 .1 in
-    let n6 : past .args .entry .kind ≡ 6 → ⊥ = rest .1 in
-    let seven : past .args .entry .kind ≡ 7 = last-kind _ least most n1 n2 n3 n4 n5 n6 in
-    let e = past .pre .1 .ends seven in
+    let e = past .pre .1 .ends (c .before .before .before .before .match .keys7) in
     as-read (e .is) (c .before .before .end-step .ensures (tableListing (now (past .args .t))) (past .args .present .0))
+
+end-step-requires-2 : tie.Need-end-step-requires-2
+end-step-requires-2 c κs =
+    may-end (c .before .before .before .before .pre .0)
+
+same-length-8 : tie.Need-same-length-8
+same-length-8 c =
+    search needs
+
+returns-8 : tie.Need-returns-8
+returns-8 c =
+    let known = c .before .before .before .before .before .before .before .pre .1 in
+    let rest = c .before .before .before .before .match .rest in
+    absurd (rest .1 (last-kind _ (known .least) (known .most) (rest .0 .0 .0 .0 .0 .0 .1) (rest .0 .0 .0 .0 .0 .1) (rest .0 .0 .0 .0 .1) (rest .0 .0 .0 .1) (rest .0 .0 .1) (rest .0 .1)))
 
 pub execute-spec : {M : Type 1} → statement M
 execute-spec =
@@ -173,4 +174,7 @@ execute-spec =
     returns-6
     end-step-requires
     same-length-7
-    returns-7)
+    returns-7
+    end-step-requires-2
+    same-length-8
+    returns-8)

@@ -35,8 +35,13 @@ returns-3 c =
 returns-4 : tie.Need-returns-4
 unfolding signOf
 returns-4 c =
-    let none = c .before .match .rest in
-    rw (ne-eqb _ _ (none .0 .0 .1), ne-eqb _ _ (none .0 .1), ne-eqb _ _ (none .1)) (c .signed-less .ensures)
+    rw (c .before .match .keys4) (c .signed-less .ensures)
+
+returns-5 : tie.Need-returns-5
+unfolding signOf
+returns-5 c =
+    let none = c .match .rest in
+    rw (ne-eqb _ _ (none .0 .0 .0 .1), ne-eqb _ _ (none .0 .0 .1), ne-eqb _ _ (none .0 .1), ne-eqb _ _ (none .1))
 
 pub sign-spec : {M : Type 1} → statement M
 sign-spec =
@@ -49,4 +54,5 @@ sign-spec =
     returns
     returns-2
     returns-3
-    returns-4)
+    returns-4
+    returns-5)

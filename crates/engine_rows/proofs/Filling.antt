@@ -114,9 +114,9 @@ calls-of : (listing : Listing) (z : Bool) (p : List Entry) (b n : ℕ) (x : Reco
 unfolding callsAt rowFor aboveOf
 calls-of listing z p b n x = refl
 
-caller-of : (listing : Listing) (z : Bool) (p : List Entry) (b n : ℕ) (y : Record) (σ : Rows) (environment : List Variable) →
-    σ (y .slot) ≡ rowFor z p b n y →
-    callerAt σ environment (y .slot) (childCount ((aboveOf listing y) .calls)) ≡
+-- The routine of record y as a caller, at path p with its own variables from address b on.
+abbrev callerBelow : Listing → List Entry → ℕ → Record → (ℕ → Variable) → Caller
+callerBelow listing p b y name =
     record {
       slot = y .slot;
       level = suc (length p);
@@ -124,8 +124,13 @@ caller-of : (listing : Listing) (z : Bool) (p : List Entry) (b n : ℕ) (y : Rec
       low = (aboveOf listing y) .low;
       bits = (aboveOf listing y) .bits;
       bindings = ownersAt (record { slot = y .slot; base = b } ∷ p) (y .names);
-      name = named σ environment (ownersAt (record { slot = y .slot; base = b } ∷ p) (y .names));
+      name = name;
     }
+
+caller-of : (listing : Listing) (z : Bool) (p : List Entry) (b n : ℕ) (y : Record) (σ : Rows) (environment : List Variable) →
+    σ (y .slot) ≡ rowFor z p b n y →
+    callerAt σ environment (y .slot) (childCount ((aboveOf listing y) .calls)) ≡
+    callerBelow listing p b y (named σ environment (ownersAt (record { slot = y .slot; base = b } ∷ p) (y .names)))
 unfolding callerAt rowFor aboveOf
 caller-of listing z p b n y σ environment e = rw e
 
@@ -198,15 +203,7 @@ module _ (listing : Listing) (environment : List Variable) where
         name = named σ environment (ownersAt (record { slot = y .slot; base = b } ∷ p) (y .names))
 
         caller : Caller
-        caller = record {
-          slot = y .slot;
-          level = suc (length p);
-          base = b + length (y .own);
-          low = (aboveOf listing y) .low;
-          bits = (aboveOf listing y) .bits;
-          bindings = ownersAt (record { slot = y .slot; base = b } ∷ p) (y .names);
-          name = name;
-        }
+        caller = callerBelow listing p b y name
 
     kept-from : {x : Record} {level : ℕ} (σ : Rows) → σ (x .slot) ≡ σ₀ (x .slot) → KeptRow σ₀ level x → KeptRow σ level x
     kept-from σ e k = record {

@@ -105,26 +105,32 @@ callerAt rows environment me n =
       name = named rows environment (r .bindings);
     }
 
+-- The row of child number i of a caller, made by child field c, in slot s: asleep or not, at this place, with these variables.
+abbrev pub rowUnder : Listing → Caller → Call → ℕ → ℕ → Bool → ℕ → List Variable → Row
+rowUnder listing caller c i s asleep place own =
+    let called = routineAt listing (c .callee) in
+    record {
+      used = true;
+      asleep = asleep;
+      level = caller .level;
+      parent = caller .slot;
+      child = i;
+      base = caller .base;
+      children = 0;
+      low = caller .low + i * 2 ^ caller .bits;
+      bits = caller .bits;
+      routine = c .callee;
+      place = place;
+      bindings = childBindings (called .kinds) (c .arguments) (called .locals) (caller .bindings) s 0;
+      own = own;
+    }
+
 module _ (listing : Listing) (now : ℕ) where
   -- The whole row of the routine that child field c, number i, makes in slot s at `now`.
   unfoldable pub childRow : Caller → Call → ℕ → ℕ → Row
   childRow caller c i s =
       let called = routineAt listing (c .callee) in
-      record {
-        used = true;
-        asleep = false;
-        level = caller .level;
-        parent = caller .slot;
-        child = i;
-        base = caller .base;
-        children = 0;
-        low = caller .low + i * 2 ^ caller .bits;
-        bits = caller .bits;
-        routine = c .callee;
-        place = 0;
-        bindings = childBindings (called .kinds) (c .arguments) (called .locals) (caller .bindings) s 0;
-        own = ownVariables now (called .kinds) (c .arguments) (called .locals) (caller .name);
-      }
+      rowUnder listing caller c i s false 0 (ownVariables now (called .kinds) (c .arguments) (called .locals) (caller .name))
 
   -- The rows with one new child of `me`, one of n, in the lowest free slot.
   unfoldable pub rowsWithChild : Rows → List Variable → ℕ → ℕ → Call → ℕ → Rows

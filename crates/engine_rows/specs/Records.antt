@@ -2,16 +2,16 @@
 -- are filled in by one pass in walking order. A routine's parent is the last slot seen one level up; its `F` gives the rest.
 use mathlib.Core.Bool.{Bool, true, false}
 use mathlib.Core.List.{List, [], _∷_, _++_}
-use Prim.Native.Nat.{ℕ, zero, suc, _+_, _*_, _^_}
+use Prim.Native.Nat.{ℕ, zero, suc}
 use lib.Dec.{eqb}
 use lib.ListN.{getD}
 use Rattle.listing.specs.Listing.{Listing, Routine, Call, Instruction, assign, schedule, branch, jump, wait, fork, end}
 use Rattle.walk.specs.State.{Variable, Node, Forest}
-use Rattle.walk.specs.Walk.{routineAt, instructionAt, childCount}
+use Rattle.walk.specs.Walk.{instructionAt, childCount}
 use Rattle.walk.specs.Instant.{mainCall}
 use Rattle.walk.specs.Question7.{Asleep, waits, joins, LiveChildren, no-more, ended, lives}
 use Rattle.engine_rows.specs.Rows.{Row, Rows, withRow, withChildren}
-use Rattle.engine_rows.specs.Engine.{childBindings, Caller, callerAt}
+use Rattle.engine_rows.specs.Engine.{Caller, callerAt, rowUnder}
 use Rattle.engine_rows.specs.Beginning.{environmentCaller}
 
 unfoldable pub isWait : Instruction → Bool
@@ -51,22 +51,7 @@ module _ (listing : Listing) where
   -- The kept row x of slot s, filled in: it was made by child field c of this caller.
   unfoldable pub filledRow : Caller → Call → Row → ℕ → Row
   filledRow caller c x s =
-      let called = routineAt listing (c .callee) in
-      record {
-        used = true;
-        asleep = isWait (instructionAt listing (c .callee) (x .place));
-        level = caller .level;
-        parent = caller .slot;
-        child = x .child;
-        base = caller .base;
-        children = 0;
-        low = caller .low + x .child * 2 ^ caller .bits;
-        bits = caller .bits;
-        routine = c .callee;
-        place = x .place;
-        bindings = childBindings (called .kinds) (c .arguments) (called .locals) (caller .bindings) s 0;
-        own = x .own;
-      }
+      rowUnder listing caller c (x .child) s (isWait (instructionAt listing (c .callee) (x .place))) (x .place) (x .own)
 
   -- Main's caller is the environment; any other's is the routine in the slot p seen last one level up, which has one live child more.
   unfoldable pub filledAt : Rows → List Variable → (ℕ → ℕ) → ℕ → ℕ → Rows

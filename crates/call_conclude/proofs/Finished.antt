@@ -20,7 +20,7 @@ use Rattle.engine_rows.specs.Order.{walkingOrder}
 use Rattle.engine_rows.specs.Beginning.{nextDueOfRows}
 use Rattle.engine_blocks.specs.Tabulate.{tabulateFrom}
 use Rattle.engine_blocks.specs.Blocks.{block, variableIn, variablesIn, rowsOf, environmentOf}
-use Rattle.engine_writes.specs.Outputs.{Listed}
+use Rattle.engine_outputs.specs.Outputs.{Listed}
 use Rattle.engine_finish.specs.Ended.{Ended}
 use Rattle.engine_finish.proofs.EndedIsRead.{ended-is-read}
 use Rattle.call_conclude.specs.declared.answers.Due.{Due}

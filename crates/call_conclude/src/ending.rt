@@ -40,7 +40,7 @@ fn finished(
 {
     let inputs = number(table[0]);
     let outputs = number(table[1]);
-    let listed = engine_writes::list_outputs(machine, inputs, outputs, numbers, values);
+    let listed = engine_outputs::list_outputs(machine, inputs, outputs, numbers, values);
     let soonest = engine_finish::finish(machine, present, inputs + outputs);
     let due = due_at(soonest);
     Answer::Done(Figures {

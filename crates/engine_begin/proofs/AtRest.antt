@@ -19,7 +19,7 @@ use Rattle.engine_blocks.proofs.RowChanges.{row-of}
 use Rattle.engine_blocks.proofs.Tabulated.{getD-tabulate}
 use Rattle.engine_clean.specs.Clean.{Clean}
 use Rattle.engine_finish.proofs.EndedIsRead.{zero-of}
-use Rattle.engine_writes.specs.Reaching.{Unwritten, NothingWritten}
+use Rattle.engine_due.specs.Reaching.{Unwritten, NothingWritten}
 use Rattle.engine_begin.proofs.Found.{no-row}
 use Rattle.engine_begin.proofs.NotDue.{used-no-marks}
 

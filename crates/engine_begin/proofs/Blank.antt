@@ -27,7 +27,7 @@ use Rattle.engine_blocks.proofs.RowChanges.{row-of}
 use Rattle.engine_clean.specs.Clean.{CleanBlock, CleanSlot, CleanEnvironment, Clean}
 use Rattle.engine_triggers.specs.Chains.{triggersAt}
 use Rattle.engine_triggers.proofs.Chaining.{chained-none, lists-stay}
-use Rattle.engine_fill.specs.MainRoutine.{MainIs}
+use Rattle.engine_main_row.specs.MainRoutine.{MainIs}
 use Rattle.machine_halt.specs.Zeroed.{blankWords}
 use Rattle.engine_ready.specs.Slots.{slotsOf}
 use Rattle.engine_steps.specs.declared.running.Running.{Running}

@@ -37,10 +37,10 @@ use Rattle.engine_ready.specs.Slots.{slotsOf}
 use Rattle.engine_ready.specs.Ordered.{Ordered, ordered-none}
 use Rattle.engine_triggers.specs.Chains.{triggersAt, NoTriggers, OnlyTriggers}
 use Rattle.engine_triggers.specs.Awaited.{Sleepers, NamesOf}
-use Rattle.engine_fill.specs.Filling.{orderOf, portsOf, FillsRows, MayFillAll}
-use Rattle.engine_writes.specs.Beginnings.{DueMade, DuesTell, InputsWritten, NumbersBelow}
-use Rattle.engine_writes.proofs.InputNumbers.{rising-numbers-below}
-use Rattle.engine_writes.specs.Reaching.{ReadySoFar, Reaches, NothingWritten}
+use Rattle.engine_fill_row.specs.Filling.{orderOf, portsOf, FillsRows, MayFillAll}
+use Rattle.engine_due.specs.Beginnings.{DueMade, DuesTell, InputsWritten, NumbersBelow}
+use Rattle.engine_inputs.proofs.InputNumbers.{rising-numbers-below}
+use Rattle.engine_due.specs.Reaching.{ReadySoFar, Reaches, NothingWritten}
 use Rattle.engine_begin.specs.Queue.{Queued}
 use Rattle.engine_begin.proofs.QueuedWords.{queued-clean, may-fill-queued, filled-queued}
 use Rattle.engine_begin.specs.Begun.{MayBegin, BegunFrom, Begun}

@@ -25,7 +25,7 @@ use Rattle.engine_rows.proofs.RowBounds.{holds-bounds}
 use Rattle.engine_rows.proofs.Holds.{Holds}
 use Rattle.engine_rows.proofs.CallOnRows.{Keeps, pass-holds}
 use Rattle.engine_blocks.specs.Blocks.{rowsOf}
-use Rattle.engine_fill.specs.Filling.{orderOf, portsOf, Fillable, MayFillAll}
+use Rattle.engine_fill_row.specs.Filling.{orderOf, portsOf, Fillable, MayFillAll}
 use Rattle.engine_begin.proofs.Sitting.{holds-sits}
 use Rattle.engine_begin.proofs.AtInstructions.{used-goes-on}
 use Rattle.engine_begin.proofs.Passing.{fillable-all}

@@ -35,7 +35,7 @@ use Rattle.engine_blocks.specs.Blocks.{block, nonzero, rowAt, rowsOf, environme
 use Rattle.engine_blocks.proofs.RowChanges.{row-of}
 use Rattle.engine_blocks.proofs.Tabulated.{getD-tabulate, length-tabulate}
 use Rattle.engine_triggers.specs.Chains.{NoTriggers}
-use Rattle.engine_fill.specs.Filling.{orderOf}
+use Rattle.engine_fill_row.specs.Filling.{orderOf}
 use Rattle.engine_finish.proofs.EndedIsRead.{first-block}
 use Rattle.engine_finish.proofs.KeptRecords.{toRecord, toRecords, forest-records, rowRecord, kept-length, kept-at, slot-in, place-of}
 use Rattle.engine_begin.proofs.Queueing.{Rests}

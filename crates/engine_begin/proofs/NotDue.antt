@@ -33,11 +33,11 @@ use Rattle.engine_rows.proofs.Begun.{Settled, at-wait, at-fork, state-settled}
 use Rattle.engine_rows.proofs.Holds.{Holds, holds-due}
 use Rattle.engine_blocks.specs.Blocks.{block, nonzero, variablesIn, rowAt, rowsOf, environmentOf}
 use Rattle.engine_blocks.proofs.RowChanges.{row-of}
-use Rattle.engine_finish.proofs.DueSlots.{block-due}
+use Rattle.engine_order.proofs.DueSlots.{block-due}
 use Rattle.engine_finish.proofs.EndedIsRead.{first-block}
-use Rattle.engine_writes.specs.Beginnings.{DuesTell}
-use Rattle.engine_writes.specs.Reaching.{NothingWritten}
-use Rattle.engine_writes.proofs.PassedOver.{both-after, variables-passed-over, slot-passed-over}
+use Rattle.engine_due.specs.Beginnings.{DuesTell}
+use Rattle.engine_due.specs.Reaching.{NothingWritten}
+use Rattle.engine_due.proofs.PassedOver.{both-after, variables-passed-over, slot-passed-over}
 
 -- ── moments ───────────────────────────────────────────────────────────────────────────────────────
 not-before : (t : ℕ) (x : NextDue) → 0 < t → dueBefore x t ≡ false → DueOnlyAfter (t - 1) x

@@ -25,8 +25,8 @@ use Rattle.engine_rows.proofs.Folding.{Distinct, distinct-put}
 use Rattle.engine_rows.proofs.Steady.{TableFits}
 use Rattle.engine_rows.proofs.RowBounds.{RowBounds}
 use Rattle.engine_evaluate.proofs.Standing.{table-names}
-use Rattle.engine_children.specs.NewRow.{MayDivide}
-use Rattle.engine_fill.specs.Filling.{MayFillMain, MayFillChild, MayFill, fills-main, fills-child, Fillable, fillable-none, fillable-next}
+use Rattle.engine_new_rows.specs.NewRow.{MayDivide}
+use Rattle.engine_fill_row.specs.Filling.{MayFillMain, MayFillChild, MayFill, fills-main, fills-child, Fillable, fillable-none, fillable-next}
 use Rattle.engine_run.specs.Placed.{GoesOn}
 use Rattle.engine_begin.proofs.Sitting.{Hangs, at-top, under, Sits}
 use Rattle.words.proofs.ForkBits.{fork-bits-are-at-most-three}

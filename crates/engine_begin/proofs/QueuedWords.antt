@@ -25,7 +25,7 @@ use Rattle.engine_blocks.specs.Changes.{putIn}
 use Rattle.engine_blocks.proofs.Puts.{put-other, put-same}
 use Rattle.engine_blocks.proofs.Tabulated.{tabulate-same}
 use Rattle.engine_clean.specs.Clean.{CleanSlot, CleanEnvironment, Clean}
-use Rattle.engine_fill.specs.Filling.{orderOf, portsOf, FillsRows, MayFillAll}
+use Rattle.engine_fill_row.specs.Filling.{orderOf, portsOf, FillsRows, MayFillAll}
 use Rattle.engine_begin.specs.Queue.{flagOf, Queued}
 use Rattle.engine_begin.proofs.Queueing.{noted-clean}
 use Rattle.engine_begin.proofs.NotDue.{slot-due, environment-due}

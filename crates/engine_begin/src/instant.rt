@@ -2,11 +2,11 @@
 // are written": after the trigger lists are made, so that each of these writes reaches just the routines that wait on its variable.
 ghost use Rattle.engine_begin.specs.Begun.{MayBegin, Begun};
 use crate::queue::queue_waiting;
+use engine_due::make_due_at;
 use engine_fill::fill_rows;
+use engine_inputs::write_inputs;
 use engine_ready::ReadyList;
 use engine_triggers::list_sleepers;
-use engine_writes::make_due_at;
-use engine_writes::write_inputs;
 use table_read::environment_size;
 use words::Moment;
 

@@ -4,7 +4,7 @@ ghost use mathlib.Core.Bool.{true};
 ghost use Rattle.machine.specs.Words.{HasMachine};
 ghost use Rattle.table.specs.Question6.{isTable};
 ghost use Rattle.engine_begin.specs.Begun.{BegunStart};
-use engine_fill::main_row;
+use engine_main_row::main_row;
 use engine_steps::Running;
 use machine_halt::blank;
 

@@ -2,6 +2,5 @@ pub mod Tabulated
 pub mod Puts
 pub mod InBlocks
 pub mod RowChanges
-pub mod Readings
 pub mod Staying
 pub mod Queued

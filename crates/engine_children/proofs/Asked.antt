@@ -9,8 +9,8 @@ use Rattle.engine_rows.specs.Rows.{Row, Rows}
 use Rattle.engine_blocks.specs.Blocks.{block, nonzero, rowAt, rowsOf}
 use Rattle.engine_blocks.proofs.RowChanges.{row-of}
 use Rattle.engine_clean.specs.Clean.{Clean}
-use Rattle.engine_children.specs.NewRow.{MayDivide}
-use Rattle.engine_children.proofs.Passing.{no-variables}
+use Rattle.engine_new_rows.specs.NewRow.{MayDivide}
+use Rattle.engine_new_names.proofs.Passing.{no-variables}
 use Rattle.words.proofs.ForkBits.{fork-bits-are-at-most-three}
 
 -- Three bits a level are at most taken from 32: a routine at level 9 or above has bits for its children.

@@ -13,8 +13,8 @@ use Rattle.engine_blocks.proofs.InBlocks.{same-outside, same-triggers}
 use Rattle.engine_blocks.proofs.RowChanges.{row-of, with-row-other, rows-in-block, environment-stays}
 use Rattle.engine_clean.specs.Clean.{Blank, CleanSlot}
 use Rattle.engine_clean.proofs.Whole.{slot-keeps-clean}
-use Rattle.engine_children.specs.declared.rows.Parent.{Parent}
-use Rattle.engine_children.specs.NewRow.{keptBlock, workingBlock}
+use Rattle.engine_new_rows.specs.declared.rows.Parent.{Parent}
+use Rattle.engine_new_rows.specs.NewRow.{keptBlock, workingBlock}
 use Rattle.engine_children.specs.NewChild.{MakesChild}
 use Rattle.engine_children.proofs.NewChild.{Stored, to₄, word-stored, value-word, zero-word, few, whole-row}
 

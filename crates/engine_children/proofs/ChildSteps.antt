@@ -15,11 +15,11 @@ use Rattle.engine_rows.specs.Rows.{Row, Rows}
 use Rattle.engine_blocks.specs.Blocks.{block, rowsOf}
 use Rattle.engine_blocks.specs.Changes.{InBlock}
 use Rattle.engine_evaluate.specs.Bound.{bindingsOf}
-use Rattle.engine_children.specs.Naming.{MayBind}
-use Rattle.engine_children.specs.Passing.{MayPass}
-use Rattle.engine_children.specs.NewRow.{MayDivide}
+use Rattle.engine_new_names.specs.Naming.{MayBind}
+use Rattle.engine_new_names.specs.Passing.{MayPass}
+use Rattle.engine_new_rows.specs.NewRow.{MayDivide}
 use Rattle.engine_children.specs.NewChild.{MayMake}
-use Rattle.engine_children.proofs.CallerNames.{caller-row-stays}
+use Rattle.engine_new_names.proofs.CallerNames.{caller-row-stays}
 
 pub table-size : (t : List ℕ) → isTable t ≡ true → length t ≡ 12288
 table-size t h = bounds t h .words

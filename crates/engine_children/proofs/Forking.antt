@@ -26,7 +26,7 @@ use Rattle.engine_evaluate.specs.Bound.{numberOf, Bound, bindingsOf}
 use Rattle.engine_children.specs.declared.fork.NewSlots.{NewSlots}
 use Rattle.engine_children.specs.NewChild.{MayMake, MakesChild}
 use Rattle.engine_children.specs.Fork.{MayFork, MakesChildren}
-use Rattle.engine_children.proofs.Lists.{moved-over}
+use Rattle.engine_new_names.proofs.Lists.{moved-over}
 use Rattle.engine_children.proofs.ChildSteps.{divides-same}
 use Rattle.engine_children.proofs.FreeBlock.{free-blank, blank-owns-none}
 

@@ -1,11 +1,4 @@
-pub mod Lists
-pub mod FreeSlot
 pub mod FreeBlock
-pub mod Naming
-pub mod OwnNames
-pub mod CallerNames
-pub mod Passing
-pub mod Priorities
 pub mod ChildSteps
 pub mod NewChild
 pub mod ChildMade

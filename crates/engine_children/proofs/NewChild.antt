@@ -14,15 +14,15 @@ use Rattle.engine_blocks.specs.Changes.{InBlock, putIn}
 use Rattle.engine_blocks.proofs.Puts.{put-other}
 use Rattle.engine_blocks.proofs.RowChanges.{variable-same}
 use Rattle.engine_evaluate.specs.Bound.{Bound, bindingsOf, variableNamed}
-use Rattle.engine_children.specs.declared.rows.Parent.{Parent}
-use Rattle.engine_children.specs.Naming.{NamesBound}
-use Rattle.engine_children.specs.Passing.{ValuesPassed}
-use Rattle.engine_children.specs.NewRow.{ParentIs, keptBlock, workingBlock}
+use Rattle.engine_new_rows.specs.declared.rows.Parent.{Parent}
+use Rattle.engine_new_names.specs.Naming.{NamesBound}
+use Rattle.engine_new_names.specs.Passing.{ValuesPassed}
+use Rattle.engine_new_rows.specs.NewRow.{ParentIs, keptBlock, workingBlock}
 use Rattle.engine_children.specs.NewChild.{MayMake}
-use Rattle.engine_children.proofs.Lists.{tabulate-tail}
-use Rattle.engine_children.proofs.OwnNames.{changed-then}
-use Rattle.engine_children.proofs.CallerNames.{caller-row-stays}
-use Rattle.engine_children.proofs.Passing.{fresh-variable}
+use Rattle.engine_new_names.proofs.Lists.{tabulate-tail}
+use Rattle.engine_new_names.proofs.OwnNames.{changed-then}
+use Rattle.engine_new_names.proofs.CallerNames.{caller-row-stays}
+use Rattle.engine_new_names.proofs.Passing.{fresh-variable}
 use Rattle.engine_children.proofs.ChildSteps.{argument-count}
 use Rattle.walk.specs.State.{newVariable}
 use Rattle.words.specs.ForkBits.{forkBits}

@@ -15,7 +15,7 @@ use Rattle.engine_blocks.specs.Changes.{SameOutside, SameTriggers}
 use Rattle.engine_clean.specs.Clean.{Clean}
 use Rattle.engine_evaluate.specs.Bound.{Bound, bindingsOf}
 use Rattle.engine_children.specs.declared.fork.NewSlots.{NewSlots}
-use Rattle.engine_children.specs.NewRow.{MayDivide}
+use Rattle.engine_new_rows.specs.NewRow.{MayDivide}
 
 -- The slots of the new children, in order.
 abbrev pub slotsIn : NewSlots → List ℕ

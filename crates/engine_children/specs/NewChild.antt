@@ -15,7 +15,7 @@ use Rattle.engine_blocks.specs.Store.{storeOf, withSlot}
 use Rattle.engine_blocks.specs.Changes.{SameOutside, SameTriggers}
 use Rattle.engine_clean.specs.Clean.{Clean}
 use Rattle.engine_evaluate.specs.Bound.{Bound, bindingsOf}
-use Rattle.engine_children.specs.NewRow.{MayDivide}
+use Rattle.engine_new_rows.specs.NewRow.{MayDivide}
 
 -- The child field fits its caller, and slot s is blank, as a free slot is.
 pub record MayMake (t m : List ℕ) (me head i s n : ℕ) : Type 0 where

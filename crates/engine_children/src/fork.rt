@@ -2,12 +2,12 @@
 // names of the caller."
 ghost use Rattle.engine_children.specs.NewChild.{MayMake, MakesChild};
 ghost use Rattle.engine_children.specs.Fork.{MayFork, MakesChildren};
-use crate::names::bind_names;
-use crate::rows::parent_of;
-use crate::rows::put_kept;
-use crate::rows::put_working;
-use crate::slots::free_slot;
-use crate::values::pass_values;
+use engine_new_names::bind_names;
+use engine_new_names::pass_values;
+use engine_new_rows::free_slot;
+use engine_new_rows::parent_of;
+use engine_new_rows::put_kept;
+use engine_new_rows::put_working;
 use table::CELL_WORDS;
 use table_read::head_at;
 use table_read::next_head;

@@ -1,10 +1,2 @@
-pub mod Asked
-pub mod Fetching
-pub mod Fields
-pub mod WorkingRows
-pub mod CleanFilled
-pub mod ChildFilled
-pub mod MainNames
-pub mod MainRows
 pub mod Passes
 pub mod PassSteps

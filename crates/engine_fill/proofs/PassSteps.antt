@@ -6,9 +6,9 @@ use native.Mathlib.Omega.{arith}
 use lib.ListN.{getD, set}
 use Rattle.machine.specs.Words.{slotOf}
 use Rattle.engine_blocks.specs.Blocks.{rowsOf}
-use Rattle.engine_fill.specs.Filling.{MayFillAll}
+use Rattle.engine_fill_row.specs.Filling.{MayFillAll}
 use Rattle.engine_fill.specs.Pass.{MayFillSlot, SlotFilled, aboveIn}
-use Rattle.engine_fill.proofs.MainNames.{ports-length}
+use Rattle.engine_main_row.proofs.MainNames.{ports-length}
 use Rattle.engine_fill.proofs.Passes.{Passing, slot-read, may-now, pass-next, other-default}
 
 module _ {t before m above : List ℕ} {k : ℕ} (M : MayFillAll t before) (P : Passing t before m above k) (more : k < getD before 3 0) where

@@ -22,9 +22,9 @@ use Rattle.engine_blocks.specs.Blocks.{rowsOf, environmentOf}
 use Rattle.engine_blocks.specs.Changes.{SameOutside, SameTriggers}
 use Rattle.engine_blocks.proofs.Staying.{outside-start, outside-then, triggers-start, triggers-then}
 use Rattle.engine_clean.specs.Clean.{Clean}
-use Rattle.engine_fill.specs.Filling.{orderOf, portsOf, MayFill, fills-main, fills-child, Fillable, fillable-next, FillsRows, MayFillAll}
-use Rattle.engine_fill.specs.Row.{ChildFilled}
-use Rattle.engine_fill.specs.MainRoutine.{MainIs}
+use Rattle.engine_fill_row.specs.Filling.{orderOf, portsOf, MayFill, fills-main, fills-child, Fillable, fillable-next, FillsRows, MayFillAll}
+use Rattle.engine_fill_row.specs.Row.{ChildFilled}
+use Rattle.engine_main_row.specs.MainRoutine.{MainIs}
 use Rattle.engine_fill.specs.Pass.{MayFillSlot, SlotFilled, aboveIn}
 
 -- ── one slot ──────────────────────────────────────────────────────────────────────────────────────

@@ -11,7 +11,7 @@ use Rattle.engine_rows.specs.Records.{filledAt}
 use Rattle.engine_blocks.specs.Blocks.{rowsOf, environmentOf}
 use Rattle.engine_blocks.specs.Changes.{SameOutside, SameTriggers}
 use Rattle.engine_clean.specs.Clean.{Clean}
-use Rattle.engine_fill.specs.Filling.{MayFillMain, MayFillChild}
+use Rattle.engine_fill_row.specs.Filling.{MayFillMain, MayFillChild}
 
 pub record MayFillSlot (t : List ℕ) (rows : Rows) (level p s : ℕ) : Type 0 where
   pub main : level ≡ 0 → MayFillMain t rows s

@@ -9,10 +9,10 @@ ghost use Rattle.table.specs.Decode.{tableListing};
 ghost use Rattle.table.specs.Question6.{isTable};
 ghost use Rattle.engine_rows.specs.Records.{filledRows};
 ghost use Rattle.engine_blocks.specs.Blocks.{rowsOf};
-ghost use Rattle.engine_fill.specs.Filling.{MayFillAll, FillsRows, portsOf, orderOf};
+ghost use Rattle.engine_fill_row.specs.Filling.{MayFillAll, FillsRows, portsOf, orderOf};
 ghost use Rattle.engine_fill.specs.Pass.{MayFillSlot, SlotFilled};
-use crate::main_routine::fill_main;
-use crate::row::fill_child;
+use engine_fill_row::fill_child;
+use engine_main_row::fill_main;
 use machine::LIVE;
 use machine::ORDER;
 use words::byte_number;
@@ -47,7 +47,7 @@ pub fn fill_rows(t: &[u32], m: &mut [u32])
     let mut k: usize = 0;
     while k < n {
         let s = header(m, ORDER + k);
-        let level = engine_blocks::level(m, s) as usize;
+        let level = engine_row::level(m, s) as usize;
         let p = byte_number(above[level]);
         fill_slot(t, m, level, p, s);
         above[level + 1] = s as u8;

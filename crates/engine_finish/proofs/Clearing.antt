@@ -8,8 +8,8 @@ use native.Mathlib.Omega.{arith}
 use Rattle.engine_blocks.specs.Blocks.{block}
 use Rattle.engine_blocks.specs.Changes.{InBlock}
 use Rattle.engine_blocks.proofs.InBlocks.{other-block, same-outside}
-use Rattle.engine_writes.specs.Passes.{Mapped}
-use Rattle.engine_writes.proofs.Passing.{one-more-mapped}
+use Rattle.engine_due.specs.Passes.{Mapped}
+use Rattle.engine_due.proofs.Passing.{one-more-mapped}
 use Rattle.engine_finish.specs.Ended.{idleBlock, WorkingCleared}
 
 pub one-more-cleared : (a m m′ : List ℕ) (s : ℕ) → s < 64 → Mapped s idleBlock a m → InBlock s m m′ (idleBlock (block m s)) → Mapped (s + 1) idleBlock a m′

@@ -13,10 +13,10 @@ use Rattle.machine.specs.Layout.{headerWords}
 use Rattle.engine_blocks.specs.Blocks.{Block, block, rowsOf}
 use Rattle.engine_blocks.specs.Changes.{putIn}
 use Rattle.engine_finish.specs.Ended.{idleBlock, restingBlock, WorkingCleared, stored, Ended}
-use Rattle.engine_finish.specs.Listed.{listedIn, SlotsBelow, OrderBuilt}
-use Rattle.engine_finish.specs.Placed.{PlacesSet, HeaderCleared}
-use Rattle.engine_finish.proofs.Ordering.{listed-length, listed-word}
-use Rattle.engine_finish.proofs.OrderTurns.{same-block, same-rows, built-below}
+use Rattle.engine_order.specs.Listed.{listedIn, SlotsBelow, OrderBuilt}
+use Rattle.engine_order.specs.Placed.{PlacesSet, HeaderCleared}
+use Rattle.engine_order.proofs.Ordering.{listed-length, listed-word}
+use Rattle.engine_order.proofs.OrderTurns.{same-block, same-rows, built-below}
 
 drop-same : (n : ℕ) (l k : List ℕ) → length l ≡ length k → ((j : ℕ) → n ≤ j → getD l j 0 ≡ getD k j 0) → drop n l ≡ drop n k
 drop-same n l k e h =

@@ -2,9 +2,6 @@ pub mod VariableWords
 pub mod RestingBlocks
 pub mod KeptRecords
 pub mod EndedIsRead
-pub mod Ordering
-pub mod OrderTurns
 pub mod PlaceTurns
 pub mod Clearing
 pub mod Composed
-pub mod DueSlots

@@ -16,11 +16,11 @@ use Rattle.machine.specs.Words.{blockAt}
 use Rattle.engine_blocks.specs.Blocks.{Block, block, rowsOf}
 use Rattle.engine_blocks.specs.Changes.{InBlock, putIn}
 use Rattle.engine_blocks.proofs.InBlocks.{other-block}
-use Rattle.engine_finish.specs.Listed.{listedIn, SlotsBelow, OrderBuilt}
-use Rattle.engine_finish.specs.Placed.{SlotsDiffer, PlacesSet, HeaderCleared}
+use Rattle.engine_order.specs.Listed.{listedIn, SlotsBelow, OrderBuilt}
+use Rattle.engine_order.specs.Placed.{SlotsDiffer, PlacesSet, HeaderCleared}
 use Rattle.engine_finish.proofs.KeptRecords.{PlaceOf, place-of, distinct-places}
-use Rattle.engine_finish.proofs.Ordering.{listed-length, listed-word}
-use Rattle.engine_finish.proofs.OrderTurns.{order-below}
+use Rattle.engine_order.proofs.Ordering.{listed-length, listed-word}
+use Rattle.engine_order.proofs.OrderTurns.{order-below}
 
 -- ── the header ────────────────────────────────────────────────────────────────────────────────────
 pub none-cleared : (m : List ℕ) → HeaderCleared 0 m m

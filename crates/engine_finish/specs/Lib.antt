@@ -1,3 +1,1 @@
 pub mod Ended
-pub mod Listed
-pub mod Placed

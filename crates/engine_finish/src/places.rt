@@ -1,8 +1,8 @@
 // The header's words, and the place in the walking order that each live routine's block knows.
 ghost use Prim.Native.Nat.{_≤_};
 ghost use Rattle.machine.specs.Words.{HasMachine};
-ghost use Rattle.engine_finish.specs.Listed.{listedIn, SlotsBelow};
-ghost use Rattle.engine_finish.specs.Placed.{SlotsDiffer, PlacesSet, HeaderCleared};
+ghost use Rattle.engine_order.specs.Listed.{listedIn, SlotsBelow};
+ghost use Rattle.engine_order.specs.Placed.{SlotsDiffer, PlacesSet, HeaderCleared};
 use machine::BLOCKS;
 use machine::ORDER;
 

@@ -3,7 +3,7 @@ ghost use Prim.Native.Nat.{_≤_};
 ghost use Rattle.machine.specs.Words.{HasMachine};
 ghost use Rattle.engine_blocks.specs.Blocks.{block};
 ghost use Rattle.engine_blocks.specs.Changes.{InBlock};
-ghost use Rattle.engine_writes.specs.Passes.{Mapped};
+ghost use Rattle.engine_due.specs.Passes.{Mapped};
 ghost use Rattle.engine_finish.specs.Ended.{idleBlock, WorkingCleared};
 use machine::BLOCK_WORDS;
 use machine::ENVIRONMENT;

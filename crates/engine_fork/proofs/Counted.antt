@@ -19,11 +19,11 @@ use Rattle.table.specs.Decode.{headAfter}
 use Rattle.engine_clean.specs.Clean.{Clean}
 use Rattle.engine_clean.proofs.Whole.{slot-keeps-clean, working-slot}
 use Rattle.engine_evaluate.specs.Bound.{numberOf, Bound, bindingsOf}
-use Rattle.engine_children.specs.NewRow.{MayDivide}
+use Rattle.engine_new_rows.specs.NewRow.{MayDivide}
 use Rattle.engine_children.specs.Fork.{MayFork}
 use Rattle.engine_steps.specs.declared.running.Running.{Running}
 use Rattle.engine_steps.proofs.Stores.{rows-changed, environment-kept, row-changed, live-word}
-use Rattle.engine_steps.proofs.Joining.{row-elsewhere}
+use Rattle.engine_end_step.proofs.Joining.{row-elsewhere}
 use Rattle.engine_fork.specs.Asked.{MayForkStep}
 
 -- The parent's block with its children counted is clean.

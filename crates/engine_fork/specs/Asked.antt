@@ -14,7 +14,7 @@ use Rattle.engine_blocks.specs.Blocks.{rowsOf}
 use Rattle.engine_blocks.specs.Store.{storeOf}
 use Rattle.engine_clean.specs.Clean.{Clean}
 use Rattle.engine_evaluate.specs.Bound.{Bound, bindingsOf}
-use Rattle.engine_children.specs.NewRow.{MayDivide}
+use Rattle.engine_new_rows.specs.NewRow.{MayDivide}
 use Rattle.engine_steps.specs.declared.running.Running.{Running}
 use Rattle.engine_steps.specs.Asked.{MayPop}
 

@@ -24,13 +24,13 @@ pub fn fork_step(t: &[u32], m: &mut [u32], running: Running, cells: usize, n: us
             running,
         };
     }
-    if engine_blocks::level(m, me) > 9 {
+    if engine_row::level(m, me) > 9 {
         return Stepped {
             answer: Answer::Halts(15),
             running,
         };
     }
-    engine_blocks::set_children(m, me, count);
+    engine_row_changes::set_children(m, me, count);
     let new = engine_children::fork_children(t, m, me, cells, n);
     let places = new.places;
     let made = new.count;

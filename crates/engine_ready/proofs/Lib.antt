@@ -1,4 +1,3 @@
 pub mod Falling
-pub mod Insertion
 pub mod Distinct
 pub mod SameLows

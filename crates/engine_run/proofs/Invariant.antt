@@ -30,7 +30,7 @@ use Rattle.engine_triggers.specs.Chains.{triggersAt}
 use Rattle.engine_evaluate.specs.Bound.{Bound, bindingsOf}
 use Rattle.engine_evaluate.proofs.Bound.{running-bound}
 use Rattle.engine_evaluate.proofs.Standing.{table-names}
-use Rattle.engine_children.specs.NewRow.{MayDivide}
+use Rattle.engine_new_rows.specs.NewRow.{MayDivide}
 use Rattle.engine_steps.specs.declared.running.Running.{Running}
 use Rattle.engine_steps.specs.Asked.{MayPop}
 use Rattle.engine_steps.specs.Outcome.{Reading}

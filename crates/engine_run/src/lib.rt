@@ -40,10 +40,10 @@ fn execute(t: &[u32], m: &mut [u32], present: Moment, running: Running, entry: E
     let second = entry.second;
     match kind {
         ASSIGN => {
-            return engine_steps::assign_step(t, m, running, operand, cells, first);
+            return engine_write_steps::assign_step(t, m, running, operand, cells, first);
         }
         SCHEDULE => {
-            return engine_steps::schedule_step(
+            return engine_write_steps::schedule_step(
                 t,
                 m,
                 present,
@@ -67,11 +67,11 @@ fn execute(t: &[u32], m: &mut [u32], present: Moment, running: Running, entry: E
             return engine_fork::fork_step(t, m, running, cells, first);
         }
         END => {
-            return engine_steps::end_step(m, running);
+            return engine_end_step::end_step(m, running);
         }
         // No other number passes question 6; it is read as an `E`.
         _ => {
-            return engine_steps::end_step(m, running);
+            return engine_end_step::end_step(m, running);
         }
     }
 }
@@ -84,8 +84,8 @@ pub fn step(t: &[u32], m: &mut [u32], present: Moment, running: Running) -> Step
         (now (m .entry)) (now (m .exit)) running r ⌝ }
 {
     let me = running.me;
-    let routine = number(engine_blocks::routine(m, me));
-    let place = number(engine_blocks::place(m, me));
+    let routine = number(engine_row::routine(m, me));
+    let place = number(engine_row::place(m, me));
     let entry = table_read::fetch(t, routine, place);
     execute(t, m, present, running, entry)
 }

@@ -1,5 +1,2 @@
 pub mod Stores
 pub mod Going
-pub mod Writing
-pub mod Changing
-pub mod Joining

@@ -17,7 +17,7 @@ pub fn jump_step(m: &mut [u32], running: Running, k: u32) -> Stepped
     ensures { λ r. ⌜ ((listing : Listing) (moment : ℕ) → Executes listing moment (jump k) (now (m .entry)) (now (m .exit)) running r) ⌝ }
 {
     let me = running.me;
-    engine_blocks::set_place(m, me, k);
+    engine_row_changes::set_place(m, me, k);
     Stepped {
         answer: Answer::Goes,
         running,
@@ -42,7 +42,7 @@ pub fn branch_step(
     if condition == 0 {
         return jump_step(m, running, k);
     }
-    let next = engine_blocks::place(m, me) + 1;
+    let next = engine_row::place(m, me) + 1;
     jump_step(m, running, next)
 }
 

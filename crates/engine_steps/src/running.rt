@@ -40,9 +40,9 @@ pub fn next_ready(m: &mut [u32], running: Running) -> Stepped
     let popped = engine_ready::pop(q);
     let s = popped.slot;
     let rest = popped.rest;
-    let place = engine_blocks::place(m, s);
-    if engine_blocks::asleep(m, s) {
-        engine_blocks::set_place(m, s, place + 1);
+    let place = engine_row::place(m, s);
+    if engine_row::asleep(m, s) {
+        engine_row_changes::set_place(m, s, place + 1);
         return Stepped {
             answer: Answer::Goes,
             running: Running {
@@ -53,7 +53,7 @@ pub fn next_ready(m: &mut [u32], running: Running) -> Stepped
             },
         };
     }
-    engine_blocks::set_place(m, s, place);
+    engine_row_changes::set_place(m, s, place);
     Stepped {
         answer: Answer::Goes,
         running: Running {

@@ -63,11 +63,11 @@ fn list_slot(m: &mut [u32], t: &[u32], s: usize)
         → Chains (now (m .exit)) (4 * suc s) (λ o. listIf ((rowsOf (now (m .entry)) s) .asleep) ((rowsOf (now (m .entry)) s) .bindings) s
         (awaitedNames (now (t .entry)) (rowsOf (now (m .entry)) s)) o (lists o))) ⌝ }
 {
-    if !engine_blocks::asleep(m, s) {
+    if !engine_row::asleep(m, s) {
         return;
     }
-    let routine = number(engine_blocks::routine(m, s));
-    let place = number(engine_blocks::place(m, s));
+    let routine = number(engine_row::routine(m, s));
+    let place = number(engine_row::place(m, s));
     let entry = fetch(t, routine, place);
     if entry.kind != WAIT {
         return;

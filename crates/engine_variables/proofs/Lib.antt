@@ -1,3 +1,2 @@
 pub mod VariableChanges
-pub mod VariableBlocks
 pub mod Readings

@@ -13,7 +13,7 @@ use Rattle.engine_rows.specs.Rows.{Rows}
 use Rattle.engine_blocks.specs.Blocks.{rowsOf}
 use Rattle.engine_ready.proofs.Distinct.{ordered-insert, ordered-few}
 use Rattle.engine_ready.proofs.Falling.{length-falling, falling-put}
-use Rattle.engine_ready.proofs.Insertion.{insert-first}
+use Rattle.engine_push.proofs.Insertion.{insert-first}
 use Rattle.engine_ready.specs.Ordered.{Ordered, firstLow}
 use Rattle.engine_ready.specs.Slots.{falling}
 use Rattle.engine_triggers.proofs.Chaining.{chained-here, chained-none, chained-from}

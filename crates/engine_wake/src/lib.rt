@@ -19,14 +19,14 @@ fn wake_one(m: &[u32], q: ReadyList, s: usize, from: u64) -> ReadyList
     requires { ⌜ HasMachine (now m) × (s < 64) × (Ordered (rowsOf (now m)) (slotsOf q)) ⌝ }
     ensures { λ r. ⌜ slotsOf r ≡ insertIf (wakes (rowsOf (now (m .entry))) from s) (rowsOf (now (m .entry))) s (slotsOf q) ⌝ }
 {
-    if !engine_blocks::asleep(m, s) {
+    if !engine_row::asleep(m, s) {
         return q;
     }
-    let low = engine_blocks::low(m, s) as u64;
+    let low = engine_row::low(m, s) as u64;
     if low < from {
         return q;
     }
-    engine_ready::push(m, q, s)
+    engine_push::push(m, q, s)
 }
 
 // The ready list after a write to variable `index` of block s, which reaches the sleepers whose lowest priority is `from` or above.
@@ -73,10 +73,10 @@ fn goes_first(m: &[u32], next: usize, most: usize, low: u64) -> bool
         return false;
     }
     let slot = (next - 1) / 4;
-    if !engine_blocks::asleep(m, slot) {
+    if !engine_row::asleep(m, slot) {
         return false;
     }
-    let own = engine_blocks::low(m, slot) as u64;
+    let own = engine_row::low(m, slot) as u64;
     own < low
 }
 
@@ -89,13 +89,13 @@ pub fn wake_all(m: &[u32], q: ReadyList, s: usize, index: usize) -> ReadyList
 {
     let mut next = number(engine_blocks::word_at(m, s, FIRST_TRIGGERS + index));
     let mut most: usize = 256;
-    let mut low = engine_ready::first_low(m, q);
+    let mut low = engine_push::first_low(m, q);
     let mut new = [0u8; 64];
     let mut count: usize = 0;
     while goes_first(m, next, most, low) {
         most = next - 1;
         let slot = most / 4;
-        low = engine_blocks::low(m, slot) as u64;
+        low = engine_row::low(m, slot) as u64;
         new[count] = slot as u8;
         count += 1;
         next = number(engine_blocks::word_at(m, slot, NEXT_TRIGGERS + most % 4));

@@ -11,7 +11,7 @@ use Rattle.walk.specs.Calls.{Machine, halted, running}
 use Rattle.machine.specs.Due.{dueAt}
 use Rattle.machine.specs.ReadMachine.{stoppedWords, readMachine}
 use Rattle.machine_words.specs.Tests.{Dues}
-use Rattle.machine_check_records.specs.Kept.{wordsKept}
+use Rattle.machine_check_slots.specs.Kept.{wordsKept}
 use Rattle.machine_check.specs.declared.MachineCheck.{MachineCheck}
 use Rattle.machine_check.specs.declared.MachineCheck.the-variants.{NotAState, Stopped, Running}
 

@@ -18,7 +18,7 @@ ghost use Rattle.walk.specs.Instant.{environmentSize};
 ghost use Rattle.machine.specs.Words.{runningWords, HasMachine, MachineLong};
 ghost use Rattle.machine.specs.Due.{wordsDue};
 ghost use Rattle.machine_words.specs.Tests.{testOf, tested, Dues};
-ghost use Rattle.machine_check_records.specs.Kept.{wordsKept};
+ghost use Rattle.machine_check_slots.specs.Kept.{wordsKept};
 ghost use Rattle.walk.specs.Calls.{firstWords};
 ghost use Rattle.machine_check.specs.Answer.{Answered};
 

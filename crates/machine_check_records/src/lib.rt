@@ -1,84 +1,32 @@
 // Are the machine's words in place? The part of question 7 that needs no table: the header, the order list, the slots and the blocks.
 // Every function takes the 12,288 words, or an address in them; none changes them.
-
 use machine::BLOCK_WORDS;
 use machine::BLOCKS;
 use machine::ENVIRONMENT;
 use machine::ENVIRONMENT_AT;
-use machine::KEPT_UNUSED;
 use machine::LIVE;
 use machine::ORDER;
 use machine::ORDER_WORDS;
-use machine::OWN;
 use machine::SLOTS;
 use machine::UNUSED;
 use machine_words::Test;
 use machine_words::block_rests;
-use machine_words::due::sooner;
 use machine_words::present_moment;
 use machine_words::zero_from;
-use words::Moment;
 use words::number;
 ghost use mathlib.Core.Path.{_≡_};
 ghost use Prim.Native.Nat.{_≤_, _<_};
 ghost use lib.ListN.{length, getD};
 ghost use mathlib.Core.Bool.{true};
-ghost use Rattle.machine.specs.Words.{slotHolds, slotsHold, knowsPlace, knowPlaces, headerInPlace, blocksInPlace, wordsInPlace, MachineLong};
+ghost use Rattle.machine.specs.Words.{knowsPlace, knowPlaces, headerInPlace, blocksInPlace, wordsInPlace, MachineLong};
 ghost use Rattle.machine.specs.ReadMachine.{stoppedWords};
-ghost use Rattle.machine.specs.Due.{dueAt, wordsDue};
-ghost use Rattle.walk.specs.Instant.{earlier};
-ghost use Rattle.machine_words.specs.Tests.{testOf, tested, slotDue, slotsDue, blocksDue, SlotDues, Dues};
-ghost use Rattle.machine_check_records.specs.Kept.{slotsKept, blocksKept, wordsKept};
-
-// Is slot s free and all 0, or does the order list of n routines lead back to it?
-fn slot_holds(m: &[u32], n: usize, s: usize, present: Moment) -> Test
-    requires { ⌜ MachineLong (now m) × (s < 64) × (n ≤ 64) ⌝ }
-    ensures { λ r. ⌜ testOf r ≡ tested (slotHolds n (present .0) (now (m .entry)) s) (slotDue (now (m .entry)) s) ⌝ }
-{
-    let at = BLOCKS + s * BLOCK_WORDS;
-    let p = number(m[at]);
-    if p == 0 {
-        if !zero_from(m, at, BLOCK_WORDS) {
-            return Test::Fails;
-        }
-        return Test::Passes(0);
-    }
-    if n < p {
-        return Test::Fails;
-    }
-    if number(m[63 + p]) != s {
-        return Test::Fails;
-    }
-    if !zero_from(m, at + KEPT_UNUSED, 3) {
-        return Test::Fails;
-    }
-    let k = number(m[at + OWN]);
-    block_rests(m, at, k, present)
-}
-
-// All slots, with the sooner of a moment due (0: none) and theirs; the soonest of each is kept.
-fn slots_hold(m: &[u32], n: usize, present: Moment, soonest: u64, dues: &mut [u64; 65]) -> Test
-    requires { ⌜ MachineLong (now m) × (n ≤ 64) × (length (now dues) ≡ 65) ⌝ }
-    ensures { λ r. ⌜ (testOf r ≡ tested (slotsHold n (present .0) (now (m .entry)) 64) (earlier (dueAt soonest) (slotsDue (now (m .entry)) 64)))
-        × (length (now (dues .exit)) ≡ 65)
-        × (slotsHold n (present .0) (now (m .entry)) 64 ≡ true → SlotDues 0 (now (m .entry)) (now (dues .entry)) (now (dues .exit)))
-        × (now (dues .exit) ≡ slotsKept n (present .0) (now (m .entry)) 64 (now (dues .entry))) ⌝ }
-{
-    let mut found = soonest;
-    let mut s: usize = SLOTS;
-    while 0 < s {
-        let Test::Passes(here) = slot_holds(m, n, s - 1, present) else {
-            return Test::Fails;
-        };
-        dues[s - 1] = here;
-        found = sooner(found, here);
-        s -= 1;
-    }
-    Test::Passes(found)
-}
+ghost use Rattle.machine.specs.Due.{wordsDue};
+ghost use Rattle.machine_words.specs.Tests.{testOf, tested, blocksDue, Dues};
+ghost use Rattle.machine_check_slots.specs.Kept.{blocksKept, wordsKept};
+use machine_check_slots::slots_hold;
 
 // Is the slot of the k-th routine in order one, and does its block know the place?
-fn knows_place(m: &[u32], k: usize) -> bool
+pub fn knows_place(m: &[u32], k: usize) -> bool
     requires { ⌜ MachineLong (now m) × (k < 64) ⌝ }
     ensures { λ b. ⌜ b ≡ knowsPlace (now (m .entry)) k ⌝ }
 {
@@ -89,7 +37,7 @@ fn knows_place(m: &[u32], k: usize) -> bool
     number(m[BLOCKS + s * BLOCK_WORDS]) == k + 1
 }
 
-fn know_places(m: &[u32], n: usize) -> bool
+pub fn know_places(m: &[u32], n: usize) -> bool
     requires { ⌜ MachineLong (now m) × (n ≤ 64) ⌝ }
     ensures { λ b. ⌜ b ≡ knowPlaces (now (m .entry)) n ⌝ }
 {
@@ -103,7 +51,7 @@ fn know_places(m: &[u32], n: usize) -> bool
     true
 }
 
-fn header_in_place(m: &[u32]) -> bool
+pub fn header_in_place(m: &[u32]) -> bool
     requires { ⌜ MachineLong (now m) ⌝ }
     ensures { λ b. ⌜ b ≡ headerInPlace (now (m .entry)) ⌝ }
 {
@@ -123,7 +71,7 @@ fn header_in_place(m: &[u32]) -> bool
     zero_from(m, ORDER + n, ORDER_WORDS - n)
 }
 
-fn blocks_in_place(m: &[u32], n: usize, size: usize, dues: &mut [u64; 65]) -> Test
+pub fn blocks_in_place(m: &[u32], n: usize, size: usize, dues: &mut [u64; 65]) -> Test
     requires { ⌜ MachineLong (now m) × (n ≤ 64) × (n ≡ getD (now m) 3 0) × (length (now dues) ≡ 65) ⌝ }
     ensures { λ r. ⌜ (testOf r ≡ tested (blocksInPlace size (now (m .entry))) (blocksDue size (now (m .entry))))
         × (length (now (dues .exit)) ≡ 65)

@@ -6,7 +6,7 @@ use Prim.Native.Nat.{ℕ, _+_}
 use lib.Dec.{eqb}
 use borrow.Author.Needs.{needs}
 use Rattle.walk.specs.State.{Variable}
-use Rattle.engine_blocks.proofs.Readings.{nonzero-test}
+use Rattle.engine_row.proofs.Readings.{nonzero-test}
 use Rattle.engine_variables.proofs.Readings.{read-of}
 use Rattle.engine_variables.proofs.written.Statement.{statement}
 use Rattle.engine_blocks.specs.Blocks.{block, variableIn}

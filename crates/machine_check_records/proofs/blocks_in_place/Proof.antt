@@ -6,8 +6,8 @@ use borrow.Author.Tests.{not-true, not-false}
 use Rattle.machine.specs.Words.{momentAt, zeroFrom, blocksInPlace, slotsHold}
 use Rattle.machine_words.specs.Tests.{blocksDue}
 use Rattle.machine_words.proofs.TestLaws.{fails, not-both, has-failed, has-passed}
-use Rattle.machine_check_records.proofs.SlotLaws.{all-kept}
-use Rattle.machine_check_records.proofs.KeptLaws.{environment-unfit, environment-unrested, none-kept, outer-fails, outer-kept}
+use Rattle.machine_check_slots.proofs.SlotLaws.{all-kept}
+use Rattle.machine_check_slots.proofs.KeptLaws.{environment-unfit, environment-unrested, none-kept, outer-fails, outer-kept}
 use borrow.Author.Needs.{needs}
 use Rattle.machine_check_records.proofs.blocks_in_place.Statement.{statement}
 use Rattle.machine_check_records.proofs.blocks_in_place.Tie as tie

@@ -5,7 +5,7 @@ use mathlib.Core.Bool.{true, false}
 use native.Mathlib.Omega.{arith}
 use borrow.Author.Tests.{not-true, not-false}
 use Rattle.machine.specs.Words.{knowPlaces}
-use Rattle.machine_check_records.proofs.Laws.{one-place}
+use Rattle.machine_check_slots.proofs.Laws.{one-place}
 use borrow.Author.Needs.{needs}
 use Rattle.machine_check_records.proofs.know_places.Statement.{statement}
 use Rattle.machine_check_records.proofs.know_places.Tie as tie

@@ -3,10 +3,10 @@ use mathlib.Core.Path.{_≡_, sym, _∙_}
 use mathlib.Core.Bool.{false}
 use borrow.Author.Tests.{not-true, not-false}
 use Rattle.machine.specs.Words.{headerInPlace}
-use Rattle.machine_check_records.proofs.Laws.{few-routines}
+use Rattle.machine_check_slots.proofs.Laws.{few-routines}
 use Rattle.machine_words.proofs.TestLaws.{fails, not-both}
-use Rattle.machine_check_records.proofs.SlotLaws.{words-by-blocks, blocks-of-words}
-use Rattle.machine_check_records.proofs.KeptLaws.{header-unfit, header-fails, header-passes}
+use Rattle.machine_check_slots.proofs.SlotLaws.{words-by-blocks, blocks-of-words}
+use Rattle.machine_check_slots.proofs.KeptLaws.{header-unfit, header-fails, header-passes}
 use borrow.Author.Needs.{needs}
 use Rattle.machine_check_records.proofs.words_in_place.Statement.{statement}
 use Rattle.machine_check_records.proofs.words_in_place.Tie as tie

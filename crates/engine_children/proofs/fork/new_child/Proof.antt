@@ -1,8 +1,8 @@
 -- `engine_children::fork::new_child` meets its contract.
 use native.Mathlib.Omega.{arith}
 use denote.Ref.{now}
-use Rattle.engine_children.proofs.OwnNames.{changed-then}
-use Rattle.engine_children.proofs.Priorities.{reaches-child}
+use Rattle.engine_new_names.proofs.OwnNames.{changed-then}
+use Rattle.engine_new_rows.proofs.Priorities.{reaches-child}
 use Rattle.engine_children.proofs.ChildSteps.{table-size, callee-small, argument-count, head-inside, still-long, may-divide, may-bind, may-pass}
 use Rattle.engine_children.proofs.ChildMade.{child-made}
 use Rattle.engine_children.proofs.fork.new_child.Statement.{statement}

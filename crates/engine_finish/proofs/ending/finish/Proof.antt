@@ -1,7 +1,7 @@
-use Rattle.engine_finish.proofs.OrderTurns.{built-below}
+use Rattle.engine_order.proofs.OrderTurns.{built-below}
 use Rattle.engine_finish.proofs.PlaceTurns.{built-differ}
 use Rattle.engine_finish.proofs.Composed.{instant-ended}
-use Rattle.engine_finish.proofs.DueSlots.{all-due, cleared-clean}
+use Rattle.engine_order.proofs.DueSlots.{all-due, cleared-clean}
 use Rattle.engine_finish.specs.Ended.{Ended}
 use Rattle.engine_rows.specs.Order.{walkingOrder}
 use Rattle.engine_blocks.specs.Blocks.{rowsOf}

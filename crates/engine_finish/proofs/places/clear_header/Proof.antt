@@ -1,5 +1,5 @@
 use Rattle.engine_finish.proofs.PlaceTurns.{none-cleared, one-more-zero}
-use Rattle.engine_finish.specs.Placed.{HeaderCleared}
+use Rattle.engine_order.specs.Placed.{HeaderCleared}
 use Prim.Native.Nat.{_≤_, _-_}
 use mathlib.Core.Path.{_≡_}
 use native.Mathlib.Omega.{arith}

@@ -1,5 +1,5 @@
 use Rattle.engine_finish.proofs.PlaceTurns.{none-placed, slot-small, one-more-placed}
-use Rattle.engine_finish.specs.Placed.{PlacesSet}
+use Rattle.engine_order.specs.Placed.{PlacesSet}
 use Prim.Native.Nat.{_≤_, _-_, _+_}
 use mathlib.Core.Path.{_≡_}
 use native.Mathlib.Omega.{arith}

@@ -1,6 +1,6 @@
 use Rattle.engine_finish.proofs.Clearing.{one-more-cleared}
-use Rattle.engine_writes.proofs.Passing.{none-mapped}
-use Rattle.engine_writes.specs.Passes.{Mapped}
+use Rattle.engine_due.proofs.Passing.{none-mapped}
+use Rattle.engine_due.specs.Passes.{Mapped}
 use Rattle.engine_finish.specs.Ended.{idleBlock}
 use Prim.Native.Nat.{_≤_, _-_}
 use mathlib.Core.Path.{_≡_}

@@ -1,0 +1,6 @@
+pub mod Asked
+pub mod Fetching
+pub mod Fields
+pub mod WorkingRows
+pub mod CleanFilled
+pub mod ChildFilled

@@ -1,0 +1,2 @@
+pub mod InputPass
+pub mod InputNumbers

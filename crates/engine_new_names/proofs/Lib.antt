@@ -1,0 +1,5 @@
+pub mod Lists
+pub mod Naming
+pub mod OwnNames
+pub mod CallerNames
+pub mod Passing

@@ -1,0 +1,2 @@
+pub mod FreeSlot
+pub mod Priorities

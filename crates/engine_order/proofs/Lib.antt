@@ -1,0 +1,3 @@
+pub mod Ordering
+pub mod OrderTurns
+pub mod DueSlots

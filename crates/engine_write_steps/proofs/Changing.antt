@@ -1,0 +1,103 @@
+-- `S` and `A` executed. Letters: a the words before, m the words after, u the running state, v the running state afterwards, x the value written.
+use mathlib.Core.Path.{_≡_, refl, sym, ap, _∙_}
+use mathlib.Core.Bool.{Bool, true, false, cond}
+use mathlib.Core.List.{List}
+use Prim.Native.Nat.{ℕ, zero, suc, _+_, _≤_, _<_}
+use native.Mathlib.Omega.{arith}
+use lib.Dec.{ltb, leb}
+use lib.ListN.{length}
+use Rattle.words.specs.Words.{isPositive}
+use Rattle.words.specs.Moments.{LaterMoment, laterAt, stopsWith, laterMoment}
+use Rattle.listing.specs.Listing.{Listing, Piece, assign, schedule}
+use Rattle.walk.specs.State.{Variable, writtenTo, scheduledOn}
+use Rattle.engine_rows.specs.Rows.{Owner, ownerOf, named}
+use Rattle.engine_rows.specs.Ready.{insertAll}
+use Rattle.engine_rows.specs.Triggers.{triggered}
+use Rattle.engine_rows.specs.Engine.{RowsRunner, orHalt, executeRows}
+use Rattle.engine_blocks.specs.Blocks.{ownerAt, rowsOf, environmentOf}
+use Rattle.engine_variables.specs.Bindings.{BoundTo}
+use Rattle.engine_variables.specs.declared.Binding.{Binding}
+use Rattle.engine_ready.specs.Slots.{slotsOf}
+use Rattle.engine_triggers.specs.Chains.{triggersAt}
+use Rattle.engine_evaluate.specs.Bound.{bindingsOf, FromNames}
+use Rattle.engine_steps.specs.declared.running.Running.{Running}
+use Rattle.engine_steps.specs.declared.running.Answer.the-variants.{Goes, Ends, Halts}
+use Rattle.engine_steps.specs.declared.running.Stepped.{Stepped}
+use Rattle.engine_steps.specs.Outcome.{left-by, RunsLive, Reading, Executes, ChangesName}
+use Rattle.engine_steps.proofs.Stores.{stays-start}
+use Rattle.engine_write_steps.proofs.Writing.{newVariable, rows-named, environment-named}
+use Rattle.walk.specs.Memory.{evaluateBy}
+use Rattle.engine_evaluate.specs.Evaluable.{Evaluates}
+
+-- "`S|n|e` writes expression e to name n", and wakes.
+pub assigns : (listing : Listing) (moment : ℕ) {a m : List ℕ} (u v : Running) (name x : ℕ) (e : List Piece) (binding : Binding)
+    → ChangesName a m u name (λ y. writtenTo moment y x) (record { answer = Goes; running = u })
+    → BoundTo (rowsOf a (u .me)) name binding → name < length (bindingsOf a (u .me)) → Evaluates a (u .me) e x
+    → slotsOf (v .ready) ≡ insertAll (rowsOf a) (triggered (rowsOf a) ((rowsOf a (u .me)) .low) (triggersAt a (binding .block) (binding .index))) (slotsOf (u .ready))
+    → v .live ≡ u .live → v .woken ≡ u .woken → v .me ≡ u .me
+    → Executes listing moment (assign name e) a m u (record { answer = Goes; running = v })
+unfolding left-by executeRows RunsLive named
+assigns listing moment {a} {m} u v name x e binding p bound few value ready live woken me =
+    record {
+      outcome = λ n triggers reading go left.
+          let lists : triggersAt a (binding .block) (binding .index) ≡ triggers (ownerOf (bindingsOf a (u .me)) name) =
+          reading .lists (binding .block) (binding .index) (bound .block) (bound .index) ∙ ap triggers (bound .owner few) in
+          rw (sym (value moment .equal n (reading .bound)), rows-named p n, environment-named p n, ready, lists, live, woken, me);
+      stays = p .stays;
+      clean = λ n triggers reading used. p .clean n (reading .bound) (rw me at used);
+    }
+
+-- ── `A` ───────────────────────────────────────────────────────────────────────────────────────────
+pub positive-some : (d : ℕ) → isPositive d ≡ true → 0 < d
+positive-some zero e = let z : _≡_ {A = ℕ} 0 1 = cc in absurd (omega arith)
+positive-some (suc d) e = omega arith
+
+later-true : (b : Bool) (k t : ℕ) → laterAt k ≡ cond b (laterAt t) (stopsWith 17) → (b ≡ true) × (k ≡ t)
+later-true true k t e = (refl, cc)
+later-true false k t e = let z : _≡_ {A = ℕ} 0 1 = cc in absurd (omega arith)
+
+-- The moment is below 2 to the 64, and is the present one with the delay.
+pub later-at : (present delay k : ℕ) → laterAt k ≡ laterMoment present delay → (ltb (present + delay) 18446744073709551616 ≡ true) × (k ≡ present + delay)
+later-at present delay k e = later-true (ltb (present + delay) 18446744073709551616) k (present + delay) e
+
+later-false : (b : Bool) (t : ℕ) → stopsWith 17 ≡ cond b (laterAt t) (stopsWith 17) → b ≡ false
+later-false true t e = let z : _≡_ {A = ℕ} 0 1 = cc in absurd (omega arith)
+later-false false t e = refl
+
+pub too-late : (present delay : ℕ) → stopsWith 17 ≡ laterMoment present delay → ltb (present + delay) 18446744073709551616 ≡ false
+too-late present delay e = later-false (ltb (present + delay) 18446744073709551616) (present + delay) e
+
+module _ {a : List ℕ} (u : Running) (name delay x present : ℕ) (d e : List Piece) (listing : Listing)
+    (after : Evaluates a (u .me) d delay) where
+  -- 16: "is the delay at least 1?"
+  pub delay-short : isPositive delay ≡ false → Executes listing present (schedule name d e) a a u (record { answer = Halts 16; running = u })
+  unfolding left-by executeRows orHalt
+  delay-short short =
+      record {
+        outcome = λ n triggers reading go left. rw (sym (after present .equal n (reading .bound)), short);
+        stays = stays-start a;
+        clean = λ n triggers reading used clean. clean;
+      }
+
+  module _ (positive : isPositive delay ≡ true) where
+    -- 17: "is the due moment below 2 to the 64?"
+    pub moment-late : ltb (present + delay) 18446744073709551616 ≡ false → Executes listing present (schedule name d e) a a u (record { answer = Halts 17; running = u })
+    unfolding left-by executeRows orHalt
+    moment-late late =
+        record {
+          outcome = λ n triggers reading go left. rw (sym (after present .equal n (reading .bound)), positive, late);
+          stays = stays-start a;
+          clean = λ n triggers reading used clean. clean;
+        }
+
+    -- "`A|n|d|e` puts a waiting write of e on n, d milliseconds from now".
+    pub schedules : {m : List ℕ} (t : ℕ) {r : Stepped} → ChangesName a m u name (λ y. scheduledOn y t x) r → Evaluates a (u .me) e x
+        → ltb (present + delay) 18446744073709551616 ≡ true → t ≡ present + delay → Executes listing present (schedule name d e) a m u r
+    unfolding left-by executeRows orHalt RunsLive named
+    schedules t {r} p value below is =
+        rw (p .goes) (record {
+          outcome = λ n triggers reading go left.
+              rw (sym (after present .equal n (reading .bound)), sym (value present .equal n (reading .bound)), positive, below, rows-named p n, environment-named p n, is);
+          stays = p .stays;
+          clean = λ n triggers reading used. p .clean n (reading .bound) used;
+        })

@@ -1,0 +1,114 @@
+-- `schedule_step` meets its contract.
+use denote.Ref.{now}
+use mathlib.Core.Path.{_≡_, refl, sym, ap, _∙_}
+use mathlib.Core.Bool.{true, false}
+use Prim.Native.Nat.{ℕ, suc, _+_, _*_, _<_}
+use native.Mathlib.Omega.{arith}
+use borrow.Author.Needs.{needs}
+use borrow.Author.Tests.{not-true, not-false}
+use Rattle.words.specs.Words.{isPositive}
+use Rattle.words.specs.Moments.{laterAt, stopsWith, laterMoment, laterOf}
+use Rattle.table.specs.Decode.{piecesAt}
+use Rattle.engine_write_steps.proofs.Changing.{positive-some, later-at, too-late, delay-short, moment-late, schedules}
+use Rattle.engine_write_steps.proofs.writes.schedule_step.Statement.{statement}
+use Rattle.engine_write_steps.proofs.writes.schedule_step.Tie as tie
+
+evaluate-requires : tie.Need-evaluate-requires
+evaluate-requires c κs = search needs
+
+mul-evaluate : tie.Need-mul-evaluate
+mul-evaluate c = search needs
+
+add-evaluate : tie.Need-add-evaluate
+add-evaluate c = search needs
+
+evaluate-requires-2 : tie.Need-evaluate-requires-2
+evaluate-requires-2 c κs = search needs
+
+is-positive-requires : tie.Need-is-positive-requires
+is-positive-requires c κs = search needs
+
+same-length : tie.Need-same-length
+same-length c = search needs
+
+returns : tie.Need-returns
+returns c = λ listing.
+    let a = c .before .before .before .before .before .before .before .before .args in
+    let short : isPositive (c .before .before .before .before .evaluate .result) ≡ false = sym (c .before .is-positive .ensures) ∙ not-true _ (c .if1 .taken) in
+    delay-short (a .running) (a .name) (c .before .before .before .before .evaluate .result) (c .before .before .evaluate2 .result) (a .present .0) (piecesAt (now (a .t)) (a .cells) (a .first))
+    (piecesAt (now (a .t)) (a .cells + 2 * a .first) (a .second)) listing (c .before .before .before .before .evaluate .ensures) short
+
+later-moment-requires : tie.Need-later-moment-requires
+later-moment-requires c κs = search needs
+
+enum-known-moment : tie.Need-enum-known-moment
+enum-known-moment c = search needs
+
+schedule-at-requires : tie.Need-schedule-at-requires
+schedule-at-requires c κs =
+    let past = c .before .before .before .before .before in
+    let earlier = past .before .before .before .before .before .before .before .before in
+    let a = earlier .args in
+    let delay = past .before .before .before .before .evaluate .result in
+    let due = c .before .before .moment .given .0 .0 .0 in
+    let positive : isPositive delay ≡ true = sym (past .before .is-positive .ensures) ∙ not-false _ (past .if1 .left) in
+    let e : laterAt due ≡ laterMoment (a .present .0) delay = sym (ap laterOf (c .before .before .moment .given .1)) ∙ c .before .before .before .before .later-moment .ensures in
+    let l = later-at (a .present .0) delay due e in
+    let some = positive-some delay positive in
+    let is = l .1 in
+    (earlier .pre .0, omega arith)
+
+enum-told : tie.Need-enum-told
+enum-told c = search needs
+
+same-length-2 : tie.Need-same-length-2
+same-length-2 c = search needs
+
+returns-2 : tie.Need-returns-2
+returns-2 c =
+    let past = c .before .before .before .before .before in
+    let earlier = past .before .before .before .before .before in
+    λ listing.
+    let a = earlier .before .before .before .before .before .before .args in
+    let delay = earlier .before .before .evaluate .result in
+    let due = past .moment .given .0 .0 .0 in
+    let positive : isPositive delay ≡ true = sym (past .before .before .before .before .is-positive .ensures) ∙ not-false _ (past .before .before .before .if1 .left) in
+    let e : laterAt due ≡ laterMoment (a .present .0) delay = sym (ap laterOf (past .moment .given .1)) ∙ past .before .before .later-moment .ensures in
+    let l = later-at (a .present .0) delay due e in
+    schedules (a .running) (a .name) delay (earlier .evaluate2 .result) (a .present .0) (piecesAt (now (a .t)) (a .cells) (a .first))
+    (piecesAt (now (a .t)) (a .cells + 2 * a .first) (a .second)) listing (earlier .before .before .evaluate .ensures) positive due (c .before .before .schedule-at .ensures)
+    (earlier .evaluate2 .ensures) (l .0) (l .1)
+
+same-length-3 : tie.Need-same-length-3
+same-length-3 c = search needs
+
+returns-3 : tie.Need-returns-3
+returns-3 c =
+    let past = c .before .before .before .before .before in
+    λ listing.
+    let a = past .before .before .before .before .before .before .args in
+    let delay = past .before .before .evaluate .result in
+    let positive : isPositive delay ≡ true = sym (c .before .before .before .before .is-positive .ensures) ∙ not-false _ (c .before .before .before .if1 .left) in
+    let e : stopsWith 17 ≡ laterMoment (a .present .0) delay = sym (ap laterOf (c .enum-told .given .1)) ∙ c .before .before .later-moment .ensures in
+    moment-late (a .running) (a .name) delay (past .evaluate2 .result) (a .present .0) (piecesAt (now (a .t)) (a .cells) (a .first))
+    (piecesAt (now (a .t)) (a .cells + 2 * a .first) (a .second)) listing (past .before .before .evaluate .ensures) positive (too-late (a .present .0) delay e)
+
+pub schedule-step-spec : {M : Type 1} → statement M
+schedule-step-spec =
+    tie.close
+    (tie.spec
+    evaluate-requires
+    mul-evaluate
+    add-evaluate
+    evaluate-requires-2
+    is-positive-requires
+    same-length
+    returns
+    later-moment-requires
+    enum-known-moment
+    schedule-at-requires
+    enum-told
+    same-length-2
+    returns-2
+    same-length-3
+    returns-3)

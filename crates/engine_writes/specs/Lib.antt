@@ -1,4 +1,0 @@
-pub mod Passes
-pub mod Beginnings
-pub mod Outputs
-pub mod Reaching

@@ -4,7 +4,6 @@ use mathlib.Core.Option.{Option, none, some}
 use Prim.Native.Nat.{ℕ}
 use lib.Dec.{ltb}
 use Rattle.listing.specs.Bytes.{Bytes}
-use Rattle.listing.specs.Expressions.{wordRange}
 use Rattle.words.specs.Moments.{momentRange}
 use Rattle.walk.specs.Trace.{readBelow, readSigned}
 use Rattle.session_trace.specs.declared.figure.Bounded.{Bounded}
@@ -18,11 +17,9 @@ asBounded (some n) = Value n
 abbrev pub appended : ℕ → Bounded
 appended n = cond (ltb n momentRange) (Value n) Bad
 
-abbrev pub momentAnswer : Bytes → Bounded
-momentAnswer piece = asBounded (readBelow momentRange piece)
-
-abbrev pub inputAnswer : Bytes → Bounded
-inputAnswer piece = asBounded (readBelow wordRange piece)
+-- a figure, if its number is below the range
+abbrev pub belowAnswer : ℕ → Bytes → Bounded
+belowAnswer range piece = asBounded (readBelow range piece)
 
 abbrev pub valueAnswer : Bytes → Bounded
 valueAnswer piece = asBounded (readSigned piece)

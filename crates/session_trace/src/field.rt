@@ -1,13 +1,11 @@
 // Fields of one piece, each read from the place past the tab before it.
 ghost use mathlib.Core.Path.{_≡_};
-ghost use Rattle.listing.specs.Expressions.{wordRange};
-ghost use Rattle.words.specs.Moments.{momentRange};
+ghost use Prim.Native.Nat.{_+_};
 ghost use Rattle.walk.specs.Trace.{readBelow, readSigned};
 ghost use Rattle.text_place.specs.Texts.{Within};
 ghost use Rattle.session_trace.specs.Fields.{pieceAnswer, figureAnswer};
 use crate::figure::Bounded;
-use crate::figure::input_of;
-use crate::figure::moment_of;
+use crate::figure::figure_up_to;
 use crate::figure::value_of;
 use text_place::Place;
 use text_place::take_piece;
@@ -43,29 +41,15 @@ pub fn one_piece(s: &[u8], place: Place, stop: u8) -> OnePiece
     OnePiece::Bad
 }
 
-// The next field: a time.
-pub fn time_field(s: &[u8], place: Place, stop: u8) -> Figure
+// The next field: a number up to `most`.
+pub fn figure_field(s: &[u8], place: Place, stop: u8, most: u64) -> Figure
     requires { ⌜ Within (now s) (place .offset) (place .line) ⌝ }
-    ensures { λ r. ⌜ r ≡ figureAnswer (readBelow momentRange) (now (s .entry)) place stop ⌝ }
+    ensures { λ r. ⌜ r ≡ figureAnswer (readBelow (most + 1)) (now (s .entry)) place stop ⌝ }
 {
     let OnePiece::Read(from, to, b, next) = one_piece(s, place, stop) else {
         return Figure::Bad;
     };
-    let Bounded::Value(n) = moment_of(s, from, to) else {
-        return Figure::Bad;
-    };
-    Figure::Read(n, b, next)
-}
-
-// The next field: an input's number.
-pub fn input_field(s: &[u8], place: Place, stop: u8) -> Figure
-    requires { ⌜ Within (now s) (place .offset) (place .line) ⌝ }
-    ensures { λ r. ⌜ r ≡ figureAnswer (readBelow wordRange) (now (s .entry)) place stop ⌝ }
-{
-    let OnePiece::Read(from, to, b, next) = one_piece(s, place, stop) else {
-        return Figure::Bad;
-    };
-    let Bounded::Value(n) = input_of(s, from, to) else {
+    let Bounded::Value(n) = figure_up_to(s, from, to, most) else {
         return Figure::Bad;
     };
     Figure::Read(n, b, next)

@@ -3,11 +3,24 @@ ghost use mathlib.Core.Path.{_≡_};
 ghost use Prim.Native.Nat.{_+_, _*_, _<_, _≤_};
 ghost use lib.ListN.{length};
 ghost use lib.Seq.{slice};
-ghost use Rattle.session_trace.specs.Figures.{momentAnswer, inputAnswer, valueAnswer, appended};
+ghost use Rattle.session_trace.specs.Figures.{belowAnswer, valueAnswer, appended};
 use text_piece::is_digit;
 use text_piece::wide;
 
-// A number of so many bits, or none.
+// The largest numbers of 64 and of 32 bits.
+pub const MOST_64: u64 = 18446744073709551615;
+
+pub const MOST_32: u64 = 4294967295;
+
+// The largest signed value of 32 bits, and the largest after a minus.
+const MOST_PLAIN: u64 = 2147483647;
+
+const MOST_NEGATED: u64 = 2147483648;
+
+// 2 to the 32: -n is the word that lies n below it.
+const SIZE: u64 = 4294967296;
+
+// A number within a bound, or none.
 pub enum Bounded {
     Value(u64),
     Bad,
@@ -18,16 +31,16 @@ fn append_digit(n: u64, d: u64) -> Bounded
     requires { ⌜ d < 10 ⌝ }
     ensures { λ r. ⌜ r ≡ appended (n * 10 + d) ⌝ }
 {
-    if n > (18446744073709551615 - d) / 10 {
+    if n > (MOST_64 - d) / 10 {
         return Bounded::Bad;
     }
     Bounded::Value(n * 10 + d)
 }
 
-// The figure from one offset up to another, of 64 bits.
-pub fn moment_of(s: &[u8], from: usize, to: usize) -> Bounded
+// The figure from one offset up to another, if its number is at most `most`.
+pub fn figure_up_to(s: &[u8], from: usize, to: usize, most: u64) -> Bounded
     requires { ⌜ (from ≤ to) × (to ≤ length (now s)) ⌝ }
-    ensures { λ r. ⌜ r ≡ momentAnswer (slice from to (now (s .entry))) ⌝ }
+    ensures { λ r. ⌜ r ≡ belowAnswer (most + 1) (slice from to (now (s .entry))) ⌝ }
 {
     if from == to {
         return Bounded::Bad;
@@ -51,21 +64,10 @@ pub fn moment_of(s: &[u8], from: usize, to: usize) -> Bounded
         n = more;
         i += 1;
     }
-    Bounded::Value(n)
-}
-
-// A figure of 32 bits.
-pub fn input_of(s: &[u8], from: usize, to: usize) -> Bounded
-    requires { ⌜ (from ≤ to) × (to ≤ length (now s)) ⌝ }
-    ensures { λ r. ⌜ r ≡ inputAnswer (slice from to (now (s .entry))) ⌝ }
-{
-    let Bounded::Value(n) = moment_of(s, from, to) else {
+    if n > most {
         return Bounded::Bad;
-    };
-    if n < 4294967296 {
-        return Bounded::Value(n);
     }
-    Bounded::Bad
+    Bounded::Value(n)
 }
 
 // A signed figure of 32 bits, as its word.
@@ -77,22 +79,13 @@ pub fn value_of(s: &[u8], from: usize, to: usize) -> Bounded
         return Bounded::Bad;
     }
     if s[from] == b'-' {
-        let Bounded::Value(n) = moment_of(s, from + 1, to) else {
+        let Bounded::Value(n) = figure_up_to(s, from + 1, to, MOST_NEGATED) else {
             return Bounded::Bad;
         };
         if n < 1 {
             return Bounded::Bad;
         }
-        if n > 2147483648 {
-            return Bounded::Bad;
-        }
-        return Bounded::Value(4294967296 - n);
+        return Bounded::Value(SIZE - n);
     }
-    let Bounded::Value(n) = moment_of(s, from, to) else {
-        return Bounded::Bad;
-    };
-    if n < 2147483648 {
-        return Bounded::Value(n);
-    }
-    Bounded::Bad
+    figure_up_to(s, from, to, MOST_PLAIN)
 }

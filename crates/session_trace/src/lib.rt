@@ -6,6 +6,7 @@ pub mod figure;
 pub mod group;
 pub mod line;
 
+pub use figure::figure_up_to;
 pub use group::Next;
 pub use group::next_call;
 pub use line::TraceLine;

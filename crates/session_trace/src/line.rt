@@ -5,10 +5,11 @@ ghost use Rattle.text_place.specs.Texts.{Within};
 ghost use Rattle.session_trace.specs.Lines.{restAnswer, lineAnswer};
 use crate::field::Figure;
 use crate::field::OnePiece;
-use crate::field::input_field;
+use crate::field::figure_field;
 use crate::field::one_piece;
-use crate::field::time_field;
 use crate::field::value_field;
+use crate::figure::MOST_32;
+use crate::figure::MOST_64;
 use text_place::Place;
 
 // What a line says, the byte that closes it, 0 at the end of the text, and the place past it.
@@ -25,10 +26,10 @@ fn read_input(s: &[u8], place: Place, stop: u8) -> TraceLine
     requires { ⌜ Within (now s) (place .offset) (place .line) ⌝ }
     ensures { λ r. ⌜ r ≡ restAnswer (now (s .entry)) place stop readInputLine ⌝ }
 {
-    let Figure::Read(time, b1, p1) = time_field(s, place, stop) else {
+    let Figure::Read(time, b1, p1) = figure_field(s, place, stop, MOST_64) else {
         return TraceLine::Bad;
     };
-    let Figure::Read(number, b2, p2) = input_field(s, p1, b1) else {
+    let Figure::Read(number, b2, p2) = figure_field(s, p1, b1, MOST_32) else {
         return TraceLine::Bad;
     };
     let Figure::Read(value, b3, p3) = value_field(s, p2, b2) else {
@@ -44,7 +45,7 @@ fn read_last(s: &[u8], place: Place, stop: u8) -> TraceLine
     requires { ⌜ Within (now s) (place .offset) (place .line) ⌝ }
     ensures { λ r. ⌜ r ≡ restAnswer (now (s .entry)) place stop readLastLine ⌝ }
 {
-    let Figure::Read(time, b1, p1) = time_field(s, place, stop) else {
+    let Figure::Read(time, b1, p1) = figure_field(s, place, stop, MOST_64) else {
         return TraceLine::Bad;
     };
     if b1 == b'\t' {
@@ -65,10 +66,10 @@ pub fn read_trace_line(s: &[u8], place: Place) -> TraceLine
         return TraceLine::Bad;
     }
     let letter = s[from];
-    if letter == 73 {
+    if letter == b'I' {
         return read_input(s, next, b);
     }
-    if letter == 81 {
+    if letter == b'Q' {
         return read_last(s, next, b);
     }
     TraceLine::Bad

@@ -17,11 +17,11 @@ returns c =
 shared-slice-read-if2 : tie.Need-shared-slice-read-if2
 shared-slice-read-if2 c = search needs
 
-add-moment-of : tie.Need-add-moment-of
-add-moment-of c = search needs
+add-figure-up-to : tie.Need-add-figure-up-to
+add-figure-up-to c = search needs
 
-moment-of-requires : tie.Need-moment-of-requires
-moment-of-requires c κs = search needs
+figure-up-to-requires : tie.Need-figure-up-to-requires
+figure-up-to-requires c κs = search needs
 
 enum-known-n : tie.Need-enum-known-n
 enum-known-n c = search needs
@@ -37,7 +37,7 @@ returns-2 c =
     let k : a .to ≤ length s = past .before .before .pre .1 in
     let low : a .from ≤ a .to = past .before .before .pre .0 in
     let first : a .from < a .to = omega (arith, low, past .if1 .left) in
-    sym (bounds.signed-minus s (a .from) (a .to) first k (c .before .before .before .if2 .taken) _ (sym (c .enum-told .given .1) ∙ c .before .before .moment-of .ensures))
+    sym (bounds.signed-minus s (a .from) (a .to) first k (c .before .before .before .if2 .taken) _ (sym (c .enum-told .given .1) ∙ c .before .before .figure-up-to .ensures))
 
 returns-3 : tie.Need-returns-3
 returns-3 c =
@@ -47,71 +47,35 @@ returns-3 c =
     let k : a .to ≤ length s = past .before .before .before .before .pre .1 in
     let low : a .from ≤ a .to = past .before .before .before .before .pre .0 in
     let first : a .from < a .to = omega (arith, low, past .before .before .if1 .left) in
-    sym (bounds.signed-minus s (a .from) (a .to) first k (past .if2 .taken) _ (sym (c .before .before .n .given .1) ∙ c .before .before .before .before .moment-of .ensures) ∙ bounds.negated-zero _ (c .if3 .taken))
+    sym (bounds.signed-minus s (a .from) (a .to) first k (past .if2 .taken) _ (sym (c .before .before .n .given .1) ∙ c .before .before .before .before .figure-up-to .ensures) ∙ bounds.negated-zero _ (c .if3 .taken))
+
+sub-t11 : tie.Need-sub-t11
+sub-t11 c =
+    let small = bounds.below-fits _ _ _ (sym (c .before .before .n .given .1) ∙ c .before .before .before .before .figure-up-to .ensures) in
+    search needs
 
 returns-4 : tie.Need-returns-4
 returns-4 c =
     let past = c .before .before .before .before .before in
-    let earlier = past .before .before .before .before .before in
-    let a = earlier .args in
+    let a = past .before .before .before .before .args in
     let s = now (a .s) in
-    let k : a .to ≤ length s = earlier .pre .1 in
-    let low : a .from ≤ a .to = earlier .pre .0 in
-    let first : a .from < a .to = omega (arith, low, past .before .before .before .if1 .left) in
-    sym (bounds.signed-minus s (a .from) (a .to) first k (past .before .if2 .taken) _ (sym (c .before .before .before .n .given .1) ∙ past .moment-of .ensures) ∙ bounds.negated-large _ (c .if4 .taken))
+    let k : a .to ≤ length s = past .before .before .before .before .pre .1 in
+    let low : a .from ≤ a .to = past .before .before .before .before .pre .0 in
+    let first : a .from < a .to = omega (arith, low, past .before .before .if1 .left) in
+    sym (bounds.signed-minus s (a .from) (a .to) first k (past .if2 .taken) _ (sym (c .before .before .n .given .1) ∙ c .before .before .before .before .figure-up-to .ensures) ∙ bounds.negated-in _ (omega (arith, c .if3 .left)))
 
-sub-t12 : tie.Need-sub-t12
-sub-t12 c = search needs
+figure-up-to-requires-2 : tie.Need-figure-up-to-requires-2
+figure-up-to-requires-2 c κs = search needs
 
 returns-5 : tie.Need-returns-5
 returns-5 c =
-    let past = c .before .before .before .before .before in
-    let earlier = past .before .before .before .before .before in
-    let a = earlier .args in
-    let s = now (a .s) in
-    let k : a .to ≤ length s = earlier .pre .1 in
-    let low : a .from ≤ a .to = earlier .pre .0 in
-    let first : a .from < a .to = omega (arith, low, past .before .before .before .if1 .left) in
-    sym (bounds.signed-minus s (a .from) (a .to) first k (past .before .if2 .taken) _ (sym (c .before .before .before .n .given .1) ∙ past .moment-of .ensures) ∙ bounds.negated-in _ (omega (arith, c .before .if3 .left)) (omega (arith, c .if4 .left)))
-
-moment-of-requires-2 : tie.Need-moment-of-requires-2
-moment-of-requires-2 c κs = search needs
-
-enum-known-n-2 : tie.Need-enum-known-n-2
-enum-known-n-2 c = search needs
-
-enum-told-2 : tie.Need-enum-told-2
-enum-told-2 c = search needs
-
-returns-6 : tie.Need-returns-6
-returns-6 c =
-    let past = c .before .before .before .before .before in
+    let past = c .before .before .before in
     let a = past .before .before .args in
     let s = now (a .s) in
     let k : a .to ≤ length s = past .before .before .pre .1 in
     let low : a .from ≤ a .to = past .before .before .pre .0 in
     let first : a .from < a .to = omega (arith, low, past .if1 .left) in
-    sym (bounds.signed-plain s (a .from) (a .to) first k (c .before .before .before .if2 .left) _ (sym (c .enum-told2 .given .1) ∙ c .before .before .moment-of2 .ensures))
-
-returns-7 : tie.Need-returns-7
-returns-7 c =
-    let past = c .before .before .before .before .before in
-    let a = past .before .before .before .before .args in
-    let s = now (a .s) in
-    let k : a .to ≤ length s = past .before .before .before .before .pre .1 in
-    let low : a .from ≤ a .to = past .before .before .before .before .pre .0 in
-    let first : a .from < a .to = omega (arith, low, past .before .before .if1 .left) in
-    sym (bounds.signed-plain s (a .from) (a .to) first k (past .if2 .left) _ (sym (c .before .before .n2 .given .1) ∙ c .before .before .before .before .moment-of2 .ensures) ∙ bounds.narrowed-in 2147483648 _ (c .if5 .taken))
-
-returns-8 : tie.Need-returns-8
-returns-8 c =
-    let past = c .before .before .before .before .before in
-    let a = past .before .before .before .before .args in
-    let s = now (a .s) in
-    let k : a .to ≤ length s = past .before .before .before .before .pre .1 in
-    let low : a .from ≤ a .to = past .before .before .before .before .pre .0 in
-    let first : a .from < a .to = omega (arith, low, past .before .before .if1 .left) in
-    sym (bounds.signed-plain s (a .from) (a .to) first k (past .if2 .left) _ (sym (c .before .before .n2 .given .1) ∙ c .before .before .before .before .moment-of2 .ensures) ∙ bounds.narrowed-out 2147483648 _ (c .if5 .left))
+    bounds.signed-plain s (a .from) (a .to) first k (c .before .if2 .left) _ (c .figure-up-to2 .ensures)
 
 pub value-of-spec : {M : Type 1} → statement M
 value-of-spec =
@@ -119,18 +83,13 @@ value-of-spec =
     (tie.spec
     returns
     shared-slice-read-if2
-    add-moment-of
-    moment-of-requires
+    add-figure-up-to
+    figure-up-to-requires
     enum-known-n
     enum-told
     returns-2
     returns-3
+    sub-t11
     returns-4
-    sub-t12
-    returns-5
-    moment-of-requires-2
-    enum-known-n-2
-    enum-told-2
-    returns-6
-    returns-7
-    returns-8)
+    figure-up-to-requires-2
+    returns-5)

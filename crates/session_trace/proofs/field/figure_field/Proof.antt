@@ -1,12 +1,12 @@
--- `session_trace::input_field` meets its contract.
+-- `session_trace::figure_field` meets its contract.
 use denote.Ref.{now}
+use Prim.Native.Nat.{_+_}
 use mathlib.Core.Path.{sym, _∙_}
 use borrow.Author.Needs.{needs}
-use Rattle.listing.specs.Expressions.{wordRange}
 use Rattle.walk.specs.Trace.{readBelow}
 use Rattle.session_trace.proofs.Fields as fields
-use Rattle.session_trace.proofs.field.input_field.Statement.{statement}
-use Rattle.session_trace.proofs.field.input_field.Tie as tie
+use Rattle.session_trace.proofs.field.figure_field.Statement.{statement}
+use Rattle.session_trace.proofs.field.figure_field.Tie as tie
 
 one-piece-requires : tie.Need-one-piece-requires
 one-piece-requires c κs = search needs
@@ -20,10 +20,10 @@ enum-told c = search needs
 returns : tie.Need-returns
 returns c =
     let a = c .before .before .before .before .args in
-    fields.figure-none (readBelow wordRange) (now (a .s)) (a .place) (a .stop) (sym (c .enum-told .given .1) ∙ c .before .before .one-piece .ensures)
+    fields.figure-none (readBelow (a .most + 1)) (now (a .s)) (a .place) (a .stop) (sym (c .enum-told .given .1) ∙ c .before .before .one-piece .ensures)
 
-input-of-requires : tie.Need-input-of-requires
-input-of-requires c κs =
+figure-up-to-requires : tie.Need-figure-up-to-requires
+figure-up-to-requires c κs =
     let past = c .before .before .before .before .before in
     let a = past .args in
     let s = now (a .s) in
@@ -42,7 +42,7 @@ returns-2 c =
     let a = past .before .before .args in
     let s = now (a .s) in
     let p = fields.piece-got s (a .place) (a .stop) (past .before .before .pre) _ _ _ _ (sym (c .before .before .before .before .from .given .1) ∙ past .one-piece .ensures) in
-    fields.figure-by (readBelow wordRange) s (a .place) (a .stop) p _ (sym (c .enum-told2 .given .1) ∙ c .before .before .input-of .ensures)
+    fields.figure-by (readBelow (a .most + 1)) s (a .place) (a .stop) p _ (sym (c .enum-told2 .given .1) ∙ c .before .before .figure-up-to .ensures)
 
 returns-3 : tie.Need-returns-3
 returns-3 c =
@@ -50,17 +50,17 @@ returns-3 c =
     let a = past .before .before .before .before .args in
     let s = now (a .s) in
     let p = fields.piece-got s (a .place) (a .stop) (past .before .before .before .before .pre) _ _ _ _ (sym (past .from .given .1) ∙ past .before .before .one-piece .ensures) in
-    fields.figure-by (readBelow wordRange) s (a .place) (a .stop) p _ (sym (c .before .n .given .1) ∙ c .before .before .before .input-of .ensures)
+    fields.figure-by (readBelow (a .most + 1)) s (a .place) (a .stop) p _ (sym (c .before .n .given .1) ∙ c .before .before .before .figure-up-to .ensures)
 
-pub input-field-spec : {M : Type 1} → statement M
-input-field-spec =
+pub figure-field-spec : {M : Type 1} → statement M
+figure-field-spec =
     tie.close
     (tie.spec
     one-piece-requires
     enum-known-from
     enum-told
     returns
-    input-of-requires
+    figure-up-to-requires
     enum-known-n
     enum-told-2
     returns-2

@@ -1,22 +1,22 @@
--- `session_trace::moment_of` meets its contract.
+-- `session_trace::figure_up_to` meets its contract.
 use denote.Ref.{now}
-use Prim.Native.Nat.{_≤_, _-_}
+use Prim.Native.Nat.{_≤_, _<_, _-_}
 use mathlib.Core.Path.{sym, _∙_}
 use native.Mathlib.Omega.{arith}
 use lib.ListN.{length, getD}
 use borrow.Author.Needs.{needs}
 use Rattle.session_trace.proofs.Bounds as bounds
-use Rattle.session_trace.proofs.figure.moment_of.Statement.{statement}
-use Rattle.session_trace.proofs.figure.moment_of.Tie as tie
+use Rattle.session_trace.proofs.figure.figure_up_to.Statement.{statement}
+use Rattle.session_trace.proofs.figure.figure_up_to.Tie as tie
 
 abbrev Inv-loop : tie.InvT-loop
-Inv-loop s from to n₀ i₀ n i = bounds.Reading s from to n i
+Inv-loop s from to most n₀ i₀ n i = bounds.Reading s from to n i
 
 abbrev μ-loop : tie.MeasureT-loop
-μ-loop s from to n₀ i₀ n i = to - i
+μ-loop s from to most n₀ i₀ n i = to - i
 
 returns : tie.Need-returns Inv-loop μ-loop
-returns c = sym (bounds.figure-none (now (c .before .before .args .s)) (c .before .before .args .from) (c .before .before .args .to) (c .if1 .taken))
+returns c = let a = c .before .before .args in sym (bounds.figure-none _ (now (a .s)) (a .from) (a .to) (c .if1 .taken))
 
 shared-slice-read-if2 : tie.Need-shared-slice-read-if2 Inv-loop μ-loop
 shared-slice-read-if2 c = search needs
@@ -30,7 +30,7 @@ returns-2 c =
     let a = past .args in
     let s = now (a .s) in
     let k : a .to ≤ length s = past .pre .1 in
-    sym (bounds.zero-only s (a .from) (a .to) k (c .before .if2 .taken) (c .if3 .taken))
+    sym (bounds.zero-only (a .most) s (a .from) (a .to) k (c .before .if2 .taken) (c .if3 .taken))
 
 returns-3 : tie.Need-returns-3 Inv-loop μ-loop
 returns-3 c =
@@ -38,7 +38,7 @@ returns-3 c =
     let a = past .args in
     let s = now (a .s) in
     let k : a .to ≤ length s = past .pre .1 in
-    sym (bounds.zero-leads s (a .from) (a .to) k (past .pre .0) (c .before .before .before .if1 .left) (c .before .if2 .taken) (c .if3 .left))
+    sym (bounds.zero-leads (a .most) s (a .from) (a .to) k (past .pre .0) (c .before .before .before .if1 .left) (c .before .if2 .taken) (c .if3 .left))
 
 loop-holds : tie.Need-loop-holds Inv-loop μ-loop
 loop-holds c = bounds.reading-begun _ _ _ (c .before .before .before .before .pre .0)
@@ -56,7 +56,7 @@ returns-4 c =
     let s = now (a .s) in
     let k : a .to ≤ length s = past .pre .1 in
     let v = c .before .before .before .before .loop in
-    sym (bounds.reading-bad s (a .from) (a .to) (v .n) (v .i) k (v .inv) (c .before .before .before .loop-test .taken) _ (c .before .is-digit .ensures) (bounds.was-false _ (c .if4 .taken)))
+    sym (bounds.reading-bad s (a .from) (a .to) (a .most) (v .n) (v .i) k (v .inv) (c .before .before .before .loop-test .taken) _ (c .before .is-digit .ensures) (bounds.was-false _ (c .if4 .taken)))
 
 sub-wide : tie.Need-sub-wide Inv-loop μ-loop
 sub-wide c = let d = bounds.digit-low (getD (now (c .before .before .before .before .before .before .before .before .before .args .s)) (c .before .before .before .before .loop .i) 0) _ (c .before .is-digit .ensures) (bounds.was-true _ (c .if4 .left)) in omega (arith, d)
@@ -82,8 +82,9 @@ returns-5 c =
     let a = earlier .args in
     let s = now (a .s) in
     let k : a .to ≤ length s = earlier .pre .1 in
+    let bits : a .most < 18446744073709551616 = search needs in
     let v = past .before .loop in
-    sym (bounds.reading-large s (a .from) (a .to) (v .n) (v .i) k (v .inv) (past .loop-test .taken) _ (c .before .before .before .wide .ensures)
+    sym (bounds.reading-large s (a .from) (a .to) (a .most) (v .n) (v .i) k bits (v .inv) (past .loop-test .taken) _ (c .before .before .before .wide .ensures)
     (sym (c .enum-told .given .1) ∙ c .before .before .append-digit .ensures))
 
 add-i : tie.Need-add-i Inv-loop μ-loop
@@ -100,20 +101,29 @@ loop-again c =
     let s = now (a .s) in
     let k : a .to ≤ length s = earlier .pre .1 in
     let v = past .before .before .before .before .loop in
-    bounds.reading-on s (a .from) (a .to) (v .n) (v .i) k (v .inv) (past .before .before .before .loop-test .taken) _ (past .before .is-digit .ensures) (bounds.was-true _ (past .if4 .left))
+    bounds.reading-on s (a .from) (a .to) (a .most) (v .n) (v .i) k (v .inv) (past .before .before .before .loop-test .taken) _ (past .before .is-digit .ensures) (bounds.was-true _ (past .if4 .left))
     _ (c .before .before .before .before .wide .ensures) _ (sym (c .before .more .given .1) ∙ c .before .before .before .append-digit .ensures)
 
 returns-6 : tie.Need-returns-6 Inv-loop μ-loop
 returns-6 c =
-    let past = c .before .before .before .before .before .before in
+    let past = c .before .before .before .before .before .before .before in
     let a = past .args in
     let s = now (a .s) in
     let k : a .to ≤ length s = past .pre .1 in
-    let v = c .before .loop in
-    bounds.reading-done s (a .from) (a .to) (v .n) (v .i) k (past .pre .0) (v .inv) (c .loop-test .left) (c .before .before .before .before .if1 .left) (c .before .before .if2 .left)
+    let v = c .before .before .loop in
+    sym (bounds.reading-over s (a .from) (a .to) (a .most) (v .n) (v .i) k (v .inv) (c .before .loop-test .left) (c .if5 .taken))
 
-pub moment-of-spec : {M : Type 1} → statement M
-moment-of-spec =
+returns-7 : tie.Need-returns-7 Inv-loop μ-loop
+returns-7 c =
+    let past = c .before .before .before .before .before .before .before in
+    let a = past .args in
+    let s = now (a .s) in
+    let k : a .to ≤ length s = past .pre .1 in
+    let v = c .before .before .loop in
+    bounds.reading-done s (a .from) (a .to) (a .most) (v .n) (v .i) k (past .pre .0) (v .inv) (c .before .loop-test .left) (c .before .before .before .before .before .if1 .left) (c .before .before .before .if2 .left) (c .if5 .left)
+
+pub figure-up-to-spec : {M : Type 1} → statement M
+figure-up-to-spec =
     tie.close
     (tie.spec
     Inv-loop
@@ -136,4 +146,5 @@ moment-of-spec =
     add-i
     loop-less
     loop-again
-    returns-6)
+    returns-6
+    returns-7)

@@ -2,7 +2,7 @@
 -- Letters: l a list of bytes, i a place in it.
 use mathlib.Core.Path.{_≡_, refl, sym, ap, subst, _∙_}
 use mathlib.Core.Bool.{true, false}
-use mathlib.Core.List.{List, [], _∷_, _++_}
+use mathlib.Core.List.{List, [], _∷_, _++_, append-assoc}
 use Prim.Native.Nat.{ℕ, suc, _+_, _-_, _≤_, _<_}
 use native.Mathlib.Omega.{arith}
 use native.Mathlib.Numerals.{add-one}
@@ -14,7 +14,7 @@ use Rattle.listing.specs.Bytes.{figure}
 use Rattle.listing.specs.Text.{signedFigure}
 use Rattle.walk.specs.Events.{Event}
 use Rattle.walk.specs.Session.{writeLine, endLine}
-use Rattle.session_print.specs.Puts.{Puts}
+use Rattle.session_print.specs.Puts.{Puts, front}
 use Rattle.session_print.proofs.Stores.{sets-append}
 
 pub one-byte : (l : List ℕ) (i b : ℕ) (after : List ℕ) → after ≡ set l i b → Puts l i (b ∷ []) after (i + 1)
@@ -43,11 +43,14 @@ pub signed-high : (word : ℕ) → 2147483648 ≤ word → 45 ∷ figure (429496
 unfolding signedFigure
 signed-high word h = rw (le-ltb word 2147483648 h)
 
-pub write-line-is : (e : Event) →
-    (79 ∷ []) ++ ((9 ∷ []) ++ (figure (e .moment) ++ ((9 ∷ []) ++ (figure (e .number) ++ ((9 ∷ []) ++ (signedFigure (e .value) ++ (10 ∷ []))))))) ≡ writeLine e
-unfolding writeLine
-write-line-is e = refl
+front-then : (letter n : ℕ) (rest : List ℕ) → front letter n ++ rest ≡ letter ∷ (9 ∷ (figure n ++ (9 ∷ rest)))
+front-then letter n rest = ap (λ (l : List ℕ). letter ∷ (9 ∷ l)) (append-assoc (figure n) (9 ∷ []) rest)
 
-pub end-line-is : (code moment : ℕ) → (88 ∷ []) ++ ((9 ∷ []) ++ (figure code ++ ((9 ∷ []) ++ (figure moment ++ (10 ∷ []))))) ≡ endLine code moment
+pub write-line-is : (e : Event) →
+    front 79 (e .moment) ++ (figure (e .number) ++ ((9 ∷ []) ++ (signedFigure (e .value) ++ (10 ∷ [])))) ≡ writeLine e
+unfolding writeLine
+write-line-is e = front-then 79 (e .moment) _
+
+pub end-line-is : (code moment : ℕ) → front 88 code ++ (figure moment ++ (10 ∷ [])) ≡ endLine code moment
 unfolding endLine
-end-line-is code moment = refl
+end-line-is code moment = front-then 88 code _

@@ -1,44 +1,18 @@
 -- `session_print::put_end_line` meets its contract.
 use native.Mathlib.Omega.{arith}
-use Prim.Native.Nat.{_+_}
-use denote.Ref.{now}
 use Rattle.session_print.proofs.LineBytes as line
 use borrow.Author.Needs.{needs}
 use Rattle.session_print.proofs.lines.put_end_line.Statement.{statement}
 use Rattle.session_print.proofs.lines.put_end_line.Tie as tie
 
-array-read-put-byte : tie.Need-array-read-put-byte
-array-read-put-byte c = search needs
-
-put-byte-requires : tie.Need-put-byte-requires
-put-byte-requires c κs = search needs
-
-add-put-byte : tie.Need-add-put-byte
-add-put-byte c = search needs
-
-array-read-put-byte-2 : tie.Need-array-read-put-byte-2
-array-read-put-byte-2 c = search needs
-
-put-byte-requires-2 : tie.Need-put-byte-requires-2
-put-byte-requires-2 c κs = search needs
-
-add-put-figure : tie.Need-add-put-figure
-add-put-figure c = search needs
+put-front-requires : tie.Need-put-front-requires
+put-front-requires c κs = search needs
 
 put-figure-requires : tie.Need-put-figure-requires
 put-figure-requires c κs = search needs
 
-put-byte-requires-3 : tie.Need-put-byte-requires-3
-put-byte-requires-3 c κs = search needs
-
-add-put-figure-2 : tie.Need-add-put-figure-2
-add-put-figure-2 c = search needs
-
-put-figure-requires-2 : tie.Need-put-figure-requires-2
-put-figure-requires-2 c κs = search needs
-
-put-byte-requires-4 : tie.Need-put-byte-requires-4
-put-byte-requires-4 c κs = search needs
+put-byte-requires : tie.Need-put-byte-requires
+put-byte-requires c κs = search needs
 
 add-result : tie.Need-add-result
 add-result c = search needs
@@ -49,36 +23,23 @@ same-length c = search needs
 returns : tie.Need-returns
 returns c =
     let past = c .before .before .before .before .before .before in
-    let earlier = past .before .before .before .before .before .before .before .before in
-    let former = earlier .before .before .before .before .before .before .before .before in
-    let a = former .before .before .before .args in
-    let first = earlier .put-figure .ensures in
-    let second = past .put-figure2 .ensures in (
+    let a = past .before .before .before .before .before .before .before .args in
+    let front = past .before .before .before .before .put-front .ensures in
+    let second = past .put-figure .ensures in (
       line.same-bytes (line.end-line-is (a .code) (a .moment))
-          (line.then-bytes (line.one-byte (now (a .out)) (a .at) 88 _ (former .put-byte .ensures))
-          (line.then-bytes (line.one-byte (former .put-byte .last .0) (a .at + 1) 9 _ (earlier .before .before .before .before .put-byte2 .ensures))
-          (line.then-bytes (line.put-at (omega arith) (first .0))
-          (line.then-bytes (line.one-byte (earlier .put-figure .last .0) (earlier .put-figure .result) 9 _ (past .before .before .before .before .put-byte3 .ensures))
+          (line.then-bytes (front .0)
           (line.then-bytes (second .0)
-          (line.one-byte (past .put-figure2 .last .0) (past .put-figure2 .result) 10 _ (c .before .before .put-byte4 .ensures))))))),
-      omega (arith, first .1, second .1),
+          (line.one-byte (past .put-figure .last .0) (past .put-figure .result) 10 _ (c .before .before .put-byte .ensures)))),
+      omega (arith, front .1, second .1),
     )
 
 pub put-end-line-spec : {M : Type 1} → statement M
 put-end-line-spec =
     tie.close
     (tie.spec
-    array-read-put-byte
-    put-byte-requires
-    add-put-byte
-    array-read-put-byte-2
-    put-byte-requires-2
-    add-put-figure
+    put-front-requires
     put-figure-requires
-    put-byte-requires-3
-    add-put-figure-2
-    put-figure-requires-2
-    put-byte-requires-4
+    put-byte-requires
     add-result
     same-length
     returns)

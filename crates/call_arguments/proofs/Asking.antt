@@ -143,24 +143,24 @@ module _ (listing : Listing) (w : List ℕ) (t : ℕ) (ns : List ℕ) (allowance
     places = places;
   }
 
-  pub machine-passed : (r soonest : ℕ) → checkOf (Running soonest) ≡ answerOf (readMachine listing w) →
-      ((next : Outcome) → asked r next ≡ Four (ltb (momentAt w 1) t) (dueBefore (dueAt soonest) t) (numbersRise (listing .inputs) 0 ns) (allowed allowance) next) →
+  pub machine-passed : (r due : ℕ) → checkOf (Running due) ≡ answerOf (readMachine listing w) →
+      ((next : Outcome) → asked r next ≡ Four (ltb (momentAt w 1) t) (dueBefore (dueAt due) t) (numbersRise (listing .inputs) 0 ns) (allowed allowance) next) →
       Dues (environmentSize listing) w dues → MachineAsked listing w t ns allowance dues r
   unfolding found unstopped instantFrom
-  machine-passed r soonest answer asks each =
-      let read = read-by-refusal listing w (sym (refusal-running (readMachine listing w) soonest answer)) in
+  machine-passed r due answer asks each =
+      let read = read-by-refusal listing w (sym (refusal-running (readMachine listing w) due answer)) in
       record {
         outcome = λ vs same.
-            asks _ ∙ rw (read, rise-of-inputs (listing .inputs) 0 ns vs same, ← due-by-answer listing w soonest (stateOf listing w) answer read, now-is listing w) refl;
+            asks _ ∙ rw (read, rise-of-inputs (listing .inputs) 0 ns vs same, ← due-by-answer listing w due (stateOf listing w) answer read, now-is listing w) refl;
         each = λ z. each;
         places = places;
       }
 
 -- The same with the number of inputs read from a table that may be longer.
-pub machine-passed-with : (table w : List ℕ) (t : ℕ) (ns : List ℕ) (allowance : ℕ) {before : List ℕ} (dues : List ℕ) (r soonest : ℕ) (check : MachineCheck) →
-    Answered (tableListing (take 12288 table)) w before dues check → check ≡ Running soonest → (i : ℕ) → i ≡ getD table 0 0 →
-    ((next : Outcome) → asked r next ≡ Four (ltb (momentAt w 1) t) (dueBefore (dueAt soonest) t) (numbersRise i 0 ns) (allowed allowance) next) →
+pub machine-passed-with : (table w : List ℕ) (t : ℕ) (ns : List ℕ) (allowance : ℕ) {before : List ℕ} (dues : List ℕ) (r due : ℕ) (check : MachineCheck) →
+    Answered (tableListing (take 12288 table)) w before dues check → check ≡ Running due → (i : ℕ) → i ≡ getD table 0 0 →
+    ((next : Outcome) → asked r next ≡ Four (ltb (momentAt w 1) t) (dueBefore (dueAt due) t) (numbersRise i 0 ns) (allowed allowance) next) →
     MachineAsked (tableListing (take 12288 table)) w t ns allowance dues r
-machine-passed-with table w t ns allowance dues r soonest check A runs i f asks =
-    machine-passed (tableListing (take 12288 table)) w t ns allowance dues (A .places) r soonest (ap checkOf (sym runs) ∙ A .answer)
-    (λ next. rw (← inputs-of-table table, ← f) (asks next)) (A .each soonest runs)
+machine-passed-with table w t ns allowance dues r due check A runs i f asks =
+    machine-passed (tableListing (take 12288 table)) w t ns allowance dues (A .places) r due (ap checkOf (sym runs) ∙ A .answer)
+    (λ next. rw (← inputs-of-table table, ← f) (asks next)) (A .each due runs)

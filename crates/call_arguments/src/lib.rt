@@ -27,13 +27,13 @@ pub fn long_enough(table: usize, machine: usize, numbers: usize, values: usize) 
 }
 
 // 10 "Is nothing due before t?", t being the call's moment: whether something is, by the next moment due (0: none).
-pub fn due_before(soonest: u64, moment: Moment) -> bool
-    ensures { λ r. ⌜ r ≡ dueBefore (dueAt soonest) (moment .0) ⌝ }
+pub fn due_before(due: u64, moment: Moment) -> bool
+    ensures { λ r. ⌜ r ≡ dueBefore (dueAt due) (moment .0) ⌝ }
 {
-    if soonest == 0 {
+    if due == 0 {
         return false;
     }
-    soonest < moment.0
+    due < moment.0
 }
 
 // 11 "Are the input numbers below i and strictly rising?"

@@ -73,9 +73,9 @@ module _ (t before after : List ℕ) (moment : ℕ) (may : MayFinish t before mo
       (subst (λ (m : ℕ). Ended m (walkingOrder (rowsOf before)) before after) (sym (may .present)) E)
 
   module _ (i o : ℕ) (inputs : i ≡ getD t 0 0) (outputs : o ≡ getD t 1 0)
-      (numbers values numbers′ values′ : List ℕ) (steps count soonest : ℕ) (due : Due)
+      (numbers values numbers′ values′ : List ℕ) (steps count found : ℕ) (due : Due)
       (L : Listed (writtenFrom i (drop i (environmentOf (i + o) before))) numbers values numbers′ values′ count)
-      (D : dueAt soonest ≡ nextDueOfRows (rowsOf before) (environmentOf (i + o) before)) (U : dueOf due ≡ dueAt soonest) where
+      (D : dueAt found ≡ nextDueOfRows (rowsOf before) (environmentOf (i + o) before)) (U : dueOf due ≡ dueAt found) where
     all-listed : writtenFrom i (drop i (environmentOf (i + o) before)) ≡ writtenOutputs listing (environmentOf (environmentSize listing) before)
     unfolding writtenOutputs environmentSize tableListing
     all-listed = rw (inputs, outputs)

@@ -11,17 +11,19 @@ use crate::answers::Answer;
 use crate::answers::Due;
 use crate::answers::Figures;
 use engine_run::Ran;
+use table::INPUTS;
+use table::OUTPUTS;
 use words::Moment;
 use words::number;
 
 // A moment due is at least 1, so 0 means none.
-fn due_at(soonest: u64) -> Due
-    ensures { λ r. ⌜ dueOf r ≡ dueAt soonest ⌝ }
+fn due_at(due: u64) -> Due
+    ensures { λ r. ⌜ dueOf r ≡ dueAt due ⌝ }
 {
-    if soonest == 0 {
+    if due == 0 {
         return Due::Never;
     }
-    Due::At(soonest)
+    Due::At(due)
 }
 
 // The instant at the present moment has ended, after so many steps.
@@ -38,11 +40,10 @@ fn finished(
         FinishedAs (now (table .entry)) (now (machine .entry)) (now (numbers .entry)) (now (values .entry))
         (now (machine .exit)) (now (numbers .exit)) (now (values .exit)) steps (may .state) r) ⌝ }
 {
-    let inputs = number(table[0]);
-    let outputs = number(table[1]);
+    let inputs = number(table[INPUTS]);
+    let outputs = number(table[OUTPUTS]);
     let listed = engine_outputs::list_outputs(machine, inputs, outputs, numbers, values);
-    let soonest = engine_finish::finish(machine, present, inputs + outputs);
-    let due = due_at(soonest);
+    let due = due_at(engine_finish::finish(machine, present, inputs + outputs));
     Answer::Done(Figures {
         steps,
         listed: listed as u32,
@@ -66,9 +67,9 @@ pub fn conclude(
         (now (machine .exit)) (now (numbers .exit)) (now (values .exit)) (may .answer) r) ⌝ }
 {
     match ran {
-        Ran::Halted(k) => {
-            machine_halt::halt(machine, k);
-            return Answer::Stopped(k);
+        Ran::Halted(number) => {
+            machine_halt::halt(machine, number);
+            return Answer::Stopped(number);
         }
         Ran::Ended(x) => {
             let left = x.left;

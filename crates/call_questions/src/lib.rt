@@ -35,10 +35,10 @@ pub fn machine_refusal(table: &[u32], machine: &[u32]) -> u32
     }
 }
 
-// 9 to 12, of the 12,288 words of a running machine and its next moment due (0: none).
+// 9 to 12, of the words of a running machine and its next moment due (0: none).
 fn state_question(
     machine: &[u32],
-    soonest: u64,
+    due: u64,
     inputs: usize,
     moment: Moment,
     numbers: &[u32],
@@ -46,14 +46,14 @@ fn state_question(
 ) -> u32
     requires { ⌜ MachineLong (now machine) ⌝ }
     ensures { λ r. ⌜ ((next : Outcome) → asked r next ≡ ask 9 (ltb (momentAt (now (machine .entry)) 1) (moment .0))
-        (ask 10 (not (dueBefore (dueAt soonest) (moment .0)))
+        (ask 10 (not (dueBefore (dueAt due) (moment .0)))
         (ask 11 (numbersRise inputs 0 (now (numbers .entry))) (ask 12 (allowed allowance) next)))) ⌝ }
 {
     let present = machine_words::present_moment(machine);
     if moment.0 <= present.0 {
         return 9;
     }
-    if due_before(soonest, moment) {
+    if due_before(due, moment) {
         return 10;
     }
     if !numbers_rise(numbers, inputs) {
@@ -86,11 +86,11 @@ fn machine_question(
         MachineCheck::Stopped(_) => {
             return 8;
         }
-        MachineCheck::Running(soonest) => {
+        MachineCheck::Running(due) => {
             let inputs = number(table[INPUTS]);
             state_question(
                 &machine[0..MACHINE_WORDS],
-                soonest,
+                due,
                 inputs,
                 moment,
                 numbers,

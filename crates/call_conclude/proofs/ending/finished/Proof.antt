@@ -42,8 +42,8 @@ finish-requires c κs =
 due-at-requires : tie.Need-due-at-requires
 due-at-requires c κs = search needs
 
-cast-t13 : tie.Need-cast-t13
-cast-t13 c =
+cast-t12 : tie.Need-cast-t12
+cast-t12 c =
     let past = c .before .before .before .before .before .before .before .before .before in
     let earlier = past .before .before .before .before .before .before in
     omega (arith, past .list-outputs .ensures .count, listed-below (earlier .number .result + past .before .before .before .before .number2 .result) (earlier .number .result) (now (earlier .before .before .before .before .before .before .args .machine)))
@@ -79,7 +79,7 @@ finished-spec =
     add-finish
     finish-requires
     due-at-requires
-    cast-t13
+    cast-t12
     same-length
     same-length-2
     same-length-3

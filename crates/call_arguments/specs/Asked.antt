@@ -10,8 +10,9 @@ use Rattle.listing.specs.Listing.{Listing}
 use Rattle.walk.specs.State.{State}
 use Rattle.walk.specs.Instant.{environmentSize, start, instant}
 use Rattle.walk.specs.Calls.{Machine, halted, running, Outcome, refused, found, unstopped, answered, inputsOf, instantFrom, startCall, instantCall, firstWords}
+use Rattle.table.specs.Areas.{tableSize}
 use Rattle.table.specs.Decode.{tableListing}
-use Rattle.machine.specs.Words.{stateOf}
+use Rattle.machine.specs.Words.{stateOf, machineSize}
 use Rattle.machine.specs.ReadMachine.{readMachine}
 use Rattle.machine_words.specs.Tests.{Dues}
 use Rattle.layout.specs.Layout.{layout}
@@ -24,7 +25,7 @@ machineRefusal (some (running s)) = 0
 
 -- 1, of the lengths of table, machine and output lists
 unfoldable pub longEnough : ℕ → ℕ → ℕ → ℕ → Bool
-longEnough table machine numbers values = leb 12288 table && (leb 12288 machine && (leb 16 numbers && leb 16 values))
+longEnough table machine numbers values = leb tableSize table && (leb machineSize machine && (leb 16 numbers && leb 16 values))
 
 -- 11, of the list of input numbers alone
 unfoldable pub numbersRise : ℕ → ℕ → List ℕ → Bool

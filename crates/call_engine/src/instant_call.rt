@@ -13,10 +13,11 @@ ghost use Rattle.call_engine.specs.Works.{MayInstant};
 use call_conclude::Answer;
 use call_conclude::conclude;
 use call_questions::instant_question;
+use machine::LIVE;
 use table::TABLE_WORDS;
 use words::Moment;
 
-// The instant at the present moment on a table's 12,288 words, its questions answered; the soonest moment due of each block is known.
+// The instant at the present moment on a table's words, its questions answered; the soonest moment due of each block is known.
 fn instant_work(
     table: &[u32],
     machine: &mut [u32],
@@ -35,7 +36,7 @@ fn instant_work(
         (now (machine .exit)) (now (numbers .exit)) (now (values .exit))
         (walk.instant (tableListing (now (table .entry))) (may .state) (present .0) (inputsOf (now («in_numbers» .entry)) (now («in_values» .entry))) allowance) r) ⌝ }
 {
-    let live = machine[3];
+    let live = machine[LIVE];
     let ready = engine_begin::begin_instant(table, machine, present, dues, in_numbers, in_values);
     let ran = engine_run::run_ready(table, machine, present, ready, live, allowance);
     conclude(table, machine, present, allowance, ran, numbers, values)

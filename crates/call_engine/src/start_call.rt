@@ -18,7 +18,7 @@ use call_questions::start_question;
 use table::TABLE_WORDS;
 use words::Moment;
 
-// The start on a table's 12,288 words, its questions answered: the instant 0.
+// The start on a table's words, its questions answered: the instant 0.
 fn start_work(
     table: &[u32],
     machine: &mut [u32],

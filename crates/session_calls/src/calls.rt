@@ -2,6 +2,8 @@
 ghost use mathlib.Core.Path.{_≡_};
 ghost use Prim.Native.Nat.{_≤_};
 ghost use lib.ListN.{length, take};
+ghost use Rattle.table.specs.Areas.{HasTable};
+ghost use Rattle.machine.specs.Words.{HasMachine};
 ghost use Rattle.call_conclude.specs.Answers.{dueOf, resultOf};
 ghost use Rattle.session_calls.specs.Calls.{Tells, StartMade, InstantMade};
 use crate::clock::Clock;
@@ -33,13 +35,13 @@ fn tell(answer: Answer) -> Told
     ensures { λ r. ⌜ (r .number ≡ resultOf answer .number) × (r .listed ≡ resultOf answer .listed) × (dueOf (r .due) ≡ resultOf answer .due) ⌝ }
 {
     match answer {
-        Answer::Refused(k) => Told {
-            number: k,
+        Answer::Refused(number) => Told {
+            number,
             listed: 0,
             due: Due::Never,
         },
-        Answer::Stopped(k) => Told {
-            number: k,
+        Answer::Stopped(number) => Told {
+            number,
             listed: 0,
             due: Due::Never,
         },
@@ -75,7 +77,7 @@ pub fn make_start(
     numbers: &mut [u32],
     values: &mut [u32],
 ) -> Called
-    requires { ⌜ (12288 ≤ length (now table)) × (12288 ≤ length (now machine)) × (16 ≤ length (now numbers)) × (16 ≤ length (now values)) ⌝ }
+    requires { ⌜ HasTable (now table) × HasMachine (now machine) × (16 ≤ length (now numbers)) × (16 ≤ length (now values)) ⌝ }
     ensures { λ r. ⌜ StartMade (now (table .entry)) (now (machine .entry)) (now (numbers .entry)) (now (values .entry))
         (now (machine .exit)) (now (numbers .exit)) (now (values .exit)) r ⌝ }
 {
@@ -94,7 +96,7 @@ pub fn make_instant(
     numbers: &mut [u32],
     values: &mut [u32],
 ) -> Called
-    requires { ⌜ (12288 ≤ length (now table)) × (12288 ≤ length (now machine)) × (count ≤ length (now «in_numbers»)) × (count ≤ length (now «in_values»))
+    requires { ⌜ HasTable (now table) × HasMachine (now machine) × (count ≤ length (now «in_numbers»)) × (count ≤ length (now «in_values»))
         × (16 ≤ length (now numbers)) × (16 ≤ length (now values)) ⌝ }
     ensures { λ r. ⌜ InstantMade time (take count (now («in_numbers» .entry))) (take count (now («in_values» .entry)))
         (now (table .entry)) (now (machine .entry)) (now (numbers .entry)) (now (values .entry)) (now (machine .exit)) (now (numbers .exit)) (now (values .exit)) r ⌝ }

@@ -2,6 +2,8 @@
 ghost use mathlib.Core.Path.{_≡_};
 ghost use Prim.Native.Nat.{_≤_};
 ghost use lib.ListN.{length, take};
+ghost use Rattle.table.specs.Areas.{HasTable};
+ghost use Rattle.machine.specs.Words.{HasMachine};
 ghost use Rattle.session_calls.specs.Calls.{listedOf};
 ghost use Rattle.session_printed.specs.Made.{CalledPrinted, StartPrinted, InstantPrinted};
 use session_calls::Called;
@@ -50,7 +52,7 @@ fn outputs() -> [u32; 16]
 
 // The start.
 pub fn print_start(table: &[u32], machine: &mut [u32], out: &mut [u8]) -> Made
-    requires { ⌜ (12288 ≤ length (now table)) × (12288 ≤ length (now machine)) × (1100 ≤ length (now out)) ⌝ }
+    requires { ⌜ HasTable (now table) × HasMachine (now machine) × (1100 ≤ length (now out)) ⌝ }
     ensures { λ r. ⌜ StartPrinted (now (table .entry)) (now (machine .entry)) (now (out .entry)) (now (machine .exit)) (now (out .exit)) r ⌝ }
 {
     let mut numbers = outputs();
@@ -70,7 +72,7 @@ pub fn print_instant(
     count: usize,
     out: &mut [u8],
 ) -> Made
-    requires { ⌜ (12288 ≤ length (now table)) × (12288 ≤ length (now machine)) × (count ≤ length (now «in_numbers»)) × (count ≤ length (now «in_values»))
+    requires { ⌜ HasTable (now table) × HasMachine (now machine) × (count ≤ length (now «in_numbers»)) × (count ≤ length (now «in_values»))
         × (1100 ≤ length (now out)) ⌝ }
     ensures { λ r. ⌜ InstantPrinted present time (take count (now («in_numbers» .entry))) (take count (now («in_values» .entry)))
         (now (table .entry)) (now (machine .entry)) (now (out .entry)) (now (machine .exit)) (now (out .exit)) r ⌝ }

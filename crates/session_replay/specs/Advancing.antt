@@ -7,6 +7,8 @@ use lib.Dec.{leb}
 use lib.ListN.{length, take}
 use Rattle.listing.specs.Bytes.{Bytes}
 use Rattle.walk.specs.Calls.{laterWords}
+use Rattle.table.specs.Areas.{tableSize}
+use Rattle.machine.specs.Words.{machineSize}
 use Rattle.session_replay.specs.Standing.{Stands, Left}
 use Rattle.session_replay.specs.Phases.{memories, Does}
 use Rattle.session_replay.specs.declared.phase.Phase.{Phase}
@@ -16,7 +18,7 @@ use Rattle.session_replay.specs.declared.phase.Advanced.the-variants.{We
 
 -- "Table 12,288 words of 32 bits, machine 12,288"; 16 lines `O` of at most 66 bytes are printed at once.
 unfoldable pub lengthsSuffice : ℕ → ℕ → ℕ → Bool
-lengthsSuffice table machine out = leb 12288 table && (leb 12288 machine && leb 1100 out)
+lengthsSuffice table machine out = leb tableSize table && (leb machineSize machine && leb 1100 out)
 
 abbrev pub longEnough : List ℕ → List ℕ → List ℕ → Bool
 longEnough table machine out = lengthsSuffice (length table) (length machine) (length out)

@@ -2,6 +2,8 @@
 ghost use mathlib.Core.Path.{_≡_};
 ghost use Prim.Native.Nat.{_≤_};
 ghost use lib.ListN.{length};
+ghost use Rattle.table.specs.Areas.{HasTable};
+ghost use Rattle.machine.specs.Words.{HasMachine};
 ghost use Rattle.session_replay.specs.Advancing.{lengthsSuffice, Advances};
 ghost use Rattle.session_replay.specs.Phases.{memories, Does};
 use crate::from_phase::from_opening;
@@ -10,15 +12,17 @@ use crate::phase::Advanced;
 use crate::phase::Phase;
 use crate::phase::Step;
 use crate::reading::from_reading;
+use machine::MACHINE_WORDS;
+use table::TABLE_WORDS;
 
 // Are memories of these lengths long enough?
 fn long_enough(table: usize, machine: usize, out: usize) -> bool
     ensures { λ r. ⌜ r ≡ lengthsSuffice table machine out ⌝ }
 {
-    if table < 12288 {
+    if table < TABLE_WORDS {
         return false;
     }
-    if machine < 12288 {
+    if machine < MACHINE_WORDS {
         return false;
     }
     out >= 1100
@@ -33,7 +37,7 @@ fn step_on(
     out: &mut [u8],
     phase: Phase,
 ) -> Step
-    requires { ⌜ (12288 ≤ length (now table)) × (12288 ≤ length (now machine)) × (1100 ≤ length (now out)) ⌝ }
+    requires { ⌜ HasTable (now table) × HasMachine (now machine) × (1100 ≤ length (now out)) ⌝ }
     ensures { λ r. ⌜ Does (now (listing .entry)) (now (trace .entry)) (memories (now (table .entry)) (now (machine .entry)) (now (out .entry)))
         (memories (now (table .exit)) (now (machine .exit)) (now (out .exit))) r phase ⌝ }
 {

@@ -2,6 +2,8 @@
 ghost use mathlib.Core.Path.{_≡_};
 ghost use Prim.Native.Nat.{_≤_};
 ghost use lib.ListN.{length};
+ghost use Rattle.table.specs.Areas.{HasTable};
+ghost use Rattle.machine.specs.Words.{HasMachine};
 ghost use Rattle.session_replay.specs.After.{EndsWith};
 ghost use Rattle.session_replay.specs.Phases.{FromOpening, FromStarting};
 use crate::after::step_after;
@@ -29,7 +31,7 @@ pub fn end_with(out: &mut [u8], code: u32, present: u64) -> Step
 
 // "Before loading, a listing over 49,152 bytes has code 3, else a trace over 49,152 code 2."
 pub fn from_opening(listing: &[u8], trace: &[u8], table: &mut [u32], out: &mut [u8]) -> Step
-    requires { ⌜ (12288 ≤ length (now table)) × (1100 ≤ length (now out)) ⌝ }
+    requires { ⌜ HasTable (now table) × (1100 ≤ length (now out)) ⌝ }
     ensures { λ r. ⌜ FromOpening (now (listing .entry)) (now (trace .entry)) (now (table .entry)) (now (out .entry)) (now (table .exit)) (now (out .exit)) r ⌝ }
 {
     if listing.len() > BYTES {
@@ -50,7 +52,7 @@ pub fn from_opening(listing: &[u8], trace: &[u8], table: &mut [u32], out: &mut [
 
 // The start, "allowance 10,000".
 pub fn from_starting(table: &[u32], machine: &mut [u32], out: &mut [u8]) -> Step
-    requires { ⌜ (12288 ≤ length (now table)) × (12288 ≤ length (now machine)) × (1100 ≤ length (now out)) ⌝ }
+    requires { ⌜ HasTable (now table) × HasMachine (now machine) × (1100 ≤ length (now out)) ⌝ }
     ensures { λ r. ⌜ FromStarting (now (table .entry)) (now (machine .entry)) (now (out .entry)) (now (machine .exit)) (now (out .exit)) r ⌝ }
 {
     let made = print_start(table, machine, out);

@@ -2,6 +2,8 @@
 ghost use mathlib.Core.Path.{_≡_};
 ghost use Prim.Native.Nat.{_≤_, _<_};
 ghost use lib.ListN.{length, take};
+ghost use Rattle.table.specs.Areas.{HasTable};
+ghost use Rattle.machine.specs.Words.{HasMachine};
 ghost use Rattle.listing.specs.Listing.{Listing};
 ghost use Rattle.words.specs.Moments.{momentRange};
 ghost use Rattle.walk.specs.Session.{endCode};
@@ -38,7 +40,7 @@ fn toward_call(
     at: usize,
     next: usize,
 ) -> Step
-    requires { ⌜ (12288 ≤ length (now table)) × (12288 ≤ length (now machine)) × (count ≤ length (now numbers)) × (count ≤ length (now values)) × (1100 ≤ length (now out)) ⌝ }
+    requires { ⌜ HasTable (now table) × HasMachine (now machine) × (count ≤ length (now numbers)) × (count ≤ length (now values)) × (1100 ≤ length (now out)) ⌝ }
     ensures { λ r. ⌜ (time < momentRange) × TowardCall (now (table .entry)) (now (machine .entry)) (now (out .entry)) clock time
         (take count (now (numbers .entry))) (take count (now (values .entry))) at next (now (machine .exit)) (now (out .exit)) r ⌝ }
 {
@@ -73,7 +75,7 @@ fn until_end(
     nothing_after: bool,
     at: usize,
 ) -> Step
-    requires { ⌜ (12288 ≤ length (now table)) × (12288 ≤ length (now machine)) × (1100 ≤ length (now out)) ⌝ }
+    requires { ⌜ HasTable (now table) × HasMachine (now machine) × (1100 ≤ length (now out)) ⌝ }
     ensures { λ r. ⌜ (time < momentRange) × UntilEnd (now (table .entry)) (now (machine .entry)) (now (out .entry)) clock time «nothing_after» at
         (now (machine .exit)) (now (out .exit)) r ⌝ }
 {
@@ -97,7 +99,7 @@ pub fn from_reading(
     clock: Clock,
     at: usize,
 ) -> Step
-    requires { ⌜ (12288 ≤ length (now table)) × (12288 ≤ length (now machine)) × (1100 ≤ length (now out)) ⌝ }
+    requires { ⌜ HasTable (now table) × HasMachine (now machine) × (1100 ≤ length (now out)) ⌝ }
     ensures { λ r. ⌜ FromReading (now (trace .entry)) (now (table .entry)) (now (machine .entry)) (now (out .entry)) clock at (now (machine .exit)) (now (out .exit)) r ⌝ }
 {
     if at > trace.len() {

@@ -7,10 +7,10 @@ use call_load::load;
 use test_cases::frame::part_at;
 use test_cases::frame::past;
 use test_cases::frame::word_at;
+use test_cases::report::put_summary;
 use test_cases::report::read_file;
 use test_cases::report::say;
 use test_cases::report::say_number;
-use test_cases::report::sum_up;
 use test_lending::machine::unused_memory;
 use test_stored_items::items::after_item;
 use test_stored_items::items::run_item;
@@ -125,5 +125,7 @@ fn main() {
     let mut file = io::large_buffer();
     let length = read_file(b"calls.dat", &mut file);
     let tally = run_file(&file[..length]);
-    sum_up(b"calls: ", tally.cases, tally.failed);
+    let mut line = io::buffer();
+    let n = put_summary(&mut line, b"calls: ", tally.cases, tally.failed);
+    say(&line[..n]);
 }

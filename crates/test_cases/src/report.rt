@@ -1,8 +1,13 @@
 // Lines of a test program's report, to standard output.
 ghost use mathlib.Core.Path.{_≡_};
+ghost use Prim.Native.Nat.{_+_, _≤_};
 ghost use lib.ListN.{length};
 ghost use Rattle.io.specs.Counts.{Counts};
+ghost use Rattle.session_print.specs.Puts.{Puts};
+ghost use Rattle.test_cases.specs.Summaries.{summary};
 use libc::STDOUT_FILENO;
+use session_print::figure::put_byte;
+use session_print::figure::put_figure;
 
 pub fn say(text: &[u8]) {
     io::write_all(STDOUT_FILENO, text);
@@ -12,18 +17,33 @@ pub fn say_number(n: u64) {
     io::print_decimal(STDOUT_FILENO, n);
 }
 
-// The last line: a title, and how many cases agree, or else how many of them do not.
-pub fn sum_up(title: &[u8], cases: u64, failed: u64) {
-    say(title);
-    if failed == 0 {
-        say_number(cases);
-        say(b" cases agree\n");
-        return;
+// A text put into lent bytes at a place; the place past it.
+pub fn put_text(out: &mut [u8], at: usize, text: &[u8]) -> usize
+    requires { ⌜ (at ≤ 100000) × (length (now text) ≤ 100000) ⌝ }
+    ensures { λ r. ⌜ Puts (now (out .entry)) at (now (text .entry)) (now (out .exit)) r × (r ≡ at + length (now (text .entry))) ⌝ }
+{
+    let mut k: usize = 0;
+    while k < text.len() {
+        put_byte(out, at + k, text[k]);
+        k += 1;
     }
-    say_number(failed);
-    say(b" of ");
-    say_number(cases);
-    say(b" cases fail\n");
+    at + k
+}
+
+// The last line of a report, put into lent bytes: a title, and how many cases agree, or else how many of them do not. How many bytes.
+pub fn put_summary(out: &mut [u8], title: &[u8], cases: u64, failed: u64) -> usize
+    requires { ⌜ (length (now title) ≤ 100) × (200 ≤ length (now out)) ⌝ }
+    ensures { λ r. ⌜ Puts (now (out .entry)) 0 (summary (now (title .entry)) cases failed) (now (out .exit)) r × Counts r (now (out .exit)) ⌝ }
+{
+    let a = put_text(out, 0, title);
+    if failed == 0 {
+        let b = put_figure(out, a, cases);
+        return put_text(out, b, b" cases agree\n");
+    }
+    let b = put_figure(out, a, failed);
+    let c = put_text(out, b, b" of ");
+    let d = put_figure(out, c, cases);
+    put_text(out, d, b" cases fail\n")
 }
 
 // The bytes of a file, as many as the buffer holds; none if it cannot be opened, which is then said.

@@ -9,6 +9,8 @@ ghost use Rattle.test_load.specs.Files.{RanFile, RanSome, RanShort};
 use crate::figures::Figures;
 use crate::figures::load_figures;
 use crate::figures::same_figures;
+use table::CELL_END;
+use table::TABLE_WORDS;
 use test_cases::frame::part_at;
 use test_cases::frame::past;
 use test_cases::frame::word_at;
@@ -16,18 +18,13 @@ use test_cases::memories::all_are;
 use test_cases::memories::all_from;
 use test_cases::memories::fill;
 use test_cases::memories::same_to;
+use test_cases::report::put_summary;
 use test_cases::report::read_file;
 use test_cases::report::say;
 use test_cases::report::say_number;
-use test_cases::report::sum_up;
 
 // The word that a table is filled with before it is lent.
 const PATTERN: u32 = 2779096485;
-
-const MEMORY: usize = 12288;
-
-// The first word that no listing uses (docs/LAYOUT.md).
-const UNUSED: usize = 11080;
 
 // A case of the file is its name (a word), its listing (a part), number and place (words). Here: the name, where the listing begins and ends,
 // the figures stored, and the place after the case.
@@ -96,16 +93,16 @@ fn untouched(table: &[u32], other: &[u32]) -> bool
 fn written(table: &[u32], other: &[u32]) -> bool
     ensures { λ r. ⌜ Tells r (Written (now (table .entry)) (now (other .entry))) ⌝ }
 {
-    if !all_from(table, MEMORY, PATTERN) {
+    if !all_from(table, TABLE_WORDS, PATTERN) {
         return false;
     }
-    if !all_from(other, MEMORY, 0) {
+    if !all_from(other, TABLE_WORDS, 0) {
         return false;
     }
-    if !same_to(table, other, MEMORY) {
+    if !same_to(table, other, TABLE_WORDS) {
         return false;
     }
-    all_from(&table[..12288], UNUSED, 0)
+    all_from(&table[..TABLE_WORDS], CELL_END, 0)
 }
 
 // Are they as a call with this number must leave them?
@@ -231,5 +228,7 @@ fn main() {
     let long = run_path(b"long.dat", &mut table, &mut other);
     let cases = 1 + many.cases + long.cases;
     let failed = short + many.failed + long.failed;
-    sum_up(b"load: ", cases, failed);
+    let mut line = io::buffer();
+    let n = put_summary(&mut line, b"load: ", cases, failed);
+    say(&line[..n]);
 }

@@ -6,18 +6,20 @@ ghost use mathlib.Core.Bool.{true};
 ghost use mathlib.Core.Path.{_≡_};
 ghost use lib.ListN.{length};
 ghost use Rattle.test_cases.specs.Words.{Tells};
+ghost use Rattle.walk.specs.Calls.{memoryWords};
 ghost use Rattle.session_replay.specs.Advancing.{longEnough};
 ghost use Rattle.session_replay.specs.Ending.{AsLong};
 ghost use Rattle.session_replay.specs.Phases.{memories};
 ghost use Rattle.test_sessions.specs.Cases.{CaseAt, Inside, Agrees, Ran};
 use crate::playing::plays;
+use table::TABLE_WORDS;
 use test_cases::frame::part_at;
 use test_cases::frame::past;
 use test_cases::frame::word_at;
+use test_cases::report::put_summary;
 use test_cases::report::read_file;
 use test_cases::report::say;
 use test_cases::report::say_number;
-use test_cases::report::sum_up;
 
 // A case of the file: its name, where listing, trace and print begin and end. The next case follows the print.
 pub struct Case {
@@ -108,11 +110,11 @@ fn run_file(s: &[u8], table: &mut [u32], machine: &mut [u32], out: &mut [u8]) ->
     }
 }
 
-// A table or a machine.
-fn memory() -> [u32; 12288]
-    ensures { λ r. ⌜ 12288 ≡ length r ⌝ }
+// A table or a machine: both have as many words.
+fn memory() -> [u32; TABLE_WORDS]
+    ensures { λ r. ⌜ memoryWords ≡ length r ⌝ }
 {
-    [0; 12288]
+    [0; TABLE_WORDS]
 }
 
 // What one step prints.
@@ -129,5 +131,7 @@ fn main() {
     let mut machine = memory();
     let mut out = piece();
     let tally = run_file(&file[..length], &mut table, &mut machine, &mut out);
-    sum_up(b"sessions: ", tally.cases, tally.failed);
+    let mut line = io::buffer();
+    let n = put_summary(&mut line, b"sessions: ", tally.cases, tally.failed);
+    say(&line[..n]);
 }

@@ -45,11 +45,26 @@ run-file-requires c κs =
     let past = c .before .before .before .before .before in
     lent-long (past .before .memory .ensures) (past .memory2 .ensures) (c .before .before .before .before .piece .ensures)
 
-slice-aggregate-sum-up : tie.Need-slice-aggregate-sum-up
-slice-aggregate-sum-up c = search needs
+buffer-requires : tie.Need-buffer-requires
+buffer-requires c κs = search needs
 
-sum-up-requires : tie.Need-sum-up-requires
-sum-up-requires c κs = search needs
+slice-aggregate-put-summary : tie.Need-slice-aggregate-put-summary
+slice-aggregate-put-summary c = search needs
+
+slice-aggregate-put-summary-2 : tie.Need-slice-aggregate-put-summary-2
+slice-aggregate-put-summary-2 c = search needs
+
+put-summary-requires : tie.Need-put-summary-requires
+put-summary-requires c κs = search needs
+
+array-share-prefix-line : tie.Need-array-share-prefix-line
+array-share-prefix-line c = search needs
+
+slice-aggregate-say : tie.Need-slice-aggregate-say
+slice-aggregate-say c = search needs
+
+say-requires : tie.Need-say-requires
+say-requires c κs = search needs
 
 returns : tie.Need-returns
 returns c = search needs
@@ -71,6 +86,11 @@ main-spec =
     slice-aggregate-run-file-3
     slice-aggregate-run-file-4
     run-file-requires
-    slice-aggregate-sum-up
-    sum-up-requires
+    buffer-requires
+    slice-aggregate-put-summary
+    slice-aggregate-put-summary-2
+    put-summary-requires
+    array-share-prefix-line
+    slice-aggregate-say
+    say-requires
     returns)

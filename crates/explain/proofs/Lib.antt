@@ -1,3 +1,3 @@
 pub mod Lines
-pub mod Fronts
 pub mod Judging
+pub mod Sayings

@@ -1,4 +1,4 @@
 pub mod Lines
-pub mod Written
 pub mod Sentences
 pub mod Verdicts
+pub mod Said

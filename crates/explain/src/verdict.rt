@@ -3,7 +3,9 @@ ghost use mathlib.Core.Path.{_≡_};
 ghost use lib.ListN.{length};
 ghost use Rattle.explain.specs.Verdicts.{VerdictOn};
 ghost use Rattle.io.specs.Counts.{Counts};
+ghost use Rattle.table.specs.Areas.{tableSize};
 use call_load::load;
+use table::TABLE_WORDS;
 use text_questions::Loaded;
 
 // Whether a file can be read, and how many of its bytes were.
@@ -51,10 +53,10 @@ pub enum Verdict {
 // Document 01: "listing 49,152 bytes".
 const LONGEST: usize = 49152;
 
-pub fn table() -> [u32; 12288]
-    ensures { λ r. ⌜ 12288 ≡ length r ⌝ }
+pub fn table() -> [u32; TABLE_WORDS]
+    ensures { λ r. ⌜ tableSize ≡ length r ⌝ }
 {
-    [0; 12288]
+    [0; TABLE_WORDS]
 }
 
 pub fn judge(listing: &[u8]) -> Verdict

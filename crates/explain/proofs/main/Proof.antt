@@ -1,17 +1,20 @@
+-- `explain::main` meets its contract.
 use Prim.Native.Nat.{_-_}
 use mathlib.Core.Path.{_≡_}
 use lib.ListN.{length}
 use borrow.Author.Needs.{needs}
+use Rattle.explain.proofs.Sayings.{counted}
 use Rattle.explain.proofs.main.Statement.{statement}
 use Rattle.explain.proofs.main.Tie as tie
 
 abbrev Inv-loop : tie.InvT-loop
-Inv-loop path₀ count k₀ path k =
-    length path ≡ 4096
+Inv-loop out₀ path₀ count k₀ out path k = (length out ≡ 65536) × (length path ≡ 4096)
 
 abbrev μ-loop : tie.MeasureT-loop
-μ-loop path₀ count k₀ path k =
-    count - k
+μ-loop out₀ path₀ count k₀ out path k = count - k
+
+large-buffer-requires : tie.Need-large-buffer-requires Inv-loop μ-loop
+large-buffer-requires c κs = tt
 
 buffer-requires : tie.Need-buffer-requires Inv-loop μ-loop
 buffer-requires c κs = tt
@@ -19,8 +22,20 @@ buffer-requires c κs = tt
 arg-count-requires : tie.Need-arg-count-requires Inv-loop μ-loop
 arg-count-requires c κs = tt
 
-say-usage-requires : tie.Need-say-usage-requires Inv-loop μ-loop
-say-usage-requires c κs = tt
+slice-aggregate-put-usage : tie.Need-slice-aggregate-put-usage Inv-loop μ-loop
+slice-aggregate-put-usage c = search needs
+
+put-usage-requires : tie.Need-put-usage-requires Inv-loop μ-loop
+put-usage-requires c κs = tt
+
+array-share-prefix-out : tie.Need-array-share-prefix-out Inv-loop μ-loop
+array-share-prefix-out c = search needs
+
+slice-aggregate-write-all : tie.Need-slice-aggregate-write-all Inv-loop μ-loop
+slice-aggregate-write-all c = counted _ _ (search needs)
+
+write-all-requires : tie.Need-write-all-requires Inv-loop μ-loop
+write-all-requires c κs = tt
 
 returns : tie.Need-returns Inv-loop μ-loop
 returns c = search needs
@@ -34,14 +49,26 @@ slice-aggregate-arg c = search needs
 arg-requires : tie.Need-arg-requires Inv-loop μ-loop
 arg-requires c κs = tt
 
+slice-aggregate-put-file : tie.Need-slice-aggregate-put-file Inv-loop μ-loop
+slice-aggregate-put-file c = search needs
+
 array-share-prefix-path : tie.Need-array-share-prefix-path Inv-loop μ-loop
 array-share-prefix-path c = search needs
 
-slice-aggregate-say-verdict : tie.Need-slice-aggregate-say-verdict Inv-loop μ-loop
-slice-aggregate-say-verdict c = search needs
+slice-aggregate-put-file-2 : tie.Need-slice-aggregate-put-file-2 Inv-loop μ-loop
+slice-aggregate-put-file-2 c = search needs
 
-say-verdict-requires : tie.Need-say-verdict-requires Inv-loop μ-loop
-say-verdict-requires c κs = tt
+put-file-requires : tie.Need-put-file-requires Inv-loop μ-loop
+put-file-requires c κs = tt
+
+array-share-prefix-out-2 : tie.Need-array-share-prefix-out-2 Inv-loop μ-loop
+array-share-prefix-out-2 c = search needs
+
+slice-aggregate-write-all-2 : tie.Need-slice-aggregate-write-all-2 Inv-loop μ-loop
+slice-aggregate-write-all-2 c = counted _ _ (search needs)
+
+write-all-requires-2 : tie.Need-write-all-requires-2 Inv-loop μ-loop
+write-all-requires-2 c κs = tt
 
 add-k : tie.Need-add-k Inv-loop μ-loop
 add-k c = search needs
@@ -61,16 +88,25 @@ main-spec =
     (tie.spec
     Inv-loop
     μ-loop
+    large-buffer-requires
     buffer-requires
     arg-count-requires
-    say-usage-requires
+    slice-aggregate-put-usage
+    put-usage-requires
+    array-share-prefix-out
+    slice-aggregate-write-all
+    write-all-requires
     returns
     loop-holds
     slice-aggregate-arg
     arg-requires
+    slice-aggregate-put-file
     array-share-prefix-path
-    slice-aggregate-say-verdict
-    say-verdict-requires
+    slice-aggregate-put-file-2
+    put-file-requires
+    array-share-prefix-out-2
+    slice-aggregate-write-all-2
+    write-all-requires-2
     add-k
     loop-less
     loop-again

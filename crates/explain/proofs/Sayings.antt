@@ -1,0 +1,78 @@
+-- What the program says, put piece by piece. Letters: at the place of the first byte, r the place past the last.
+use mathlib.Core.Path.{_≡_, refl, sym, ap, _∙_}
+use mathlib.Core.Bool.{true}
+use mathlib.Core.List.{[], _∷_, _++_}
+use Prim.Native.Nat.{ℕ, zero, suc, _+_, _*_, _-_, _≤_}
+use native.Mathlib.Omega.{arith}
+use native.Mathlib.Numerals.{add-one}
+use lib.Dec.{leb}
+use lib.ListN.{length, getD, set, take, drop, length-drop, List·getD-eq-default}
+use lib.Seq.{length-take-le}
+use borrow.Author.Tests.{leb-true}
+use Rattle.listing.specs.Bytes.{Bytes, bytesOf, figure}
+use Rattle.session_print.specs.Puts.{Puts}
+use Rattle.session_print.proofs.LineBytes.{same-bytes, then-bytes, one-byte}
+use Rattle.explain.specs.Sentences.{sentences, sentenceOf}
+use Rattle.explain.specs.Said.{ruleLine, rules, verdictLine, VerdictSaid}
+use Rattle.explain.specs.Lines.{IsLine}
+use Rattle.explain.specs.Verdicts.{VerdictOn}
+use Rattle.explain.specs.declared.line.Line.{Line}
+use Rattle.explain.specs.declared.verdict.Verdict.{Verdict}
+
+-- ── the sentences of a number ────────────────────────────────────────────────────
+pub said : {text before after : Bytes} {at r : ℕ} (number k : ℕ) → number ≡ k → leb (length (sentenceOf k)) 300 ≡ true → text ≡ sentenceOf k →
+    Puts before at text after r → Puts before at (sentenceOf number) after r × (r ≤ at + 300)
+said number k e few t p =
+    let whole = same-bytes (t ∙ ap sentenceOf (sym e)) p in
+    let same : length (sentenceOf number) ≡ length (sentenceOf k) = ap (λ (n : ℕ). length (sentenceOf n)) e in
+    (whole, omega (arith, whole .past, same, leb-true (length (sentenceOf k)) 300 few))
+
+none-of : (n : ℕ) → (n ≡ 1 → ⊥) → (n ≡ 2 → ⊥) → (n ≡ 3 → ⊥) → (n ≡ 4 → ⊥) → (n ≡ 5 → ⊥) → [] ≡ sentenceOf n
+unfolding sentences
+none-of zero a b c d e = refl
+none-of (suc n) a b c d e = sym (List·getD-eq-default sentences [] (let h : 6 ≤ suc n = omega arith in h))
+
+-- none for other numbers
+pub none-said : (before : Bytes) (at number : ℕ) → (number ≡ 1 → ⊥) → (number ≡ 2 → ⊥) → (number ≡ 3 → ⊥) → (number ≡ 4 → ⊥) → (number ≡ 5 → ⊥) →
+    Puts before at (sentenceOf number) before at × (at ≤ at + 300)
+none-said before at number a b c d e = (same-bytes (none-of number a b c d e) (record { past = omega arith; stored = refl }), omega arith)
+
+-- so many bytes are the first so many
+pub counted : (n : ℕ) (bytes : Bytes) → n ≤ length bytes → n ≡ length (take n bytes)
+counted n bytes h = sym (length-take-le n bytes h)
+
+-- ── a line, a verdict ────────────────────────────────────────────────────────────
+pub line-size : (text : Bytes) (lines : ℕ) (l : Line) → IsLine text lines l → length (take (l .to - l .from) (drop (l .from) text)) ≤ length text
+line-size text lines l is =
+    let left = length-drop (l .from) text in
+    let size = length-take-le (l .to - l .from) (drop (l .from) text) (omega (arith, left, is .rising, is .inside)) in
+    omega (arith, size, is .rising, is .inside)
+
+pub verdict-said : {listing text before after : Bytes} {v w : Verdict} {r : ℕ} → VerdictOn listing v → v ≡ w → text ≡ verdictLine listing w →
+    Puts before 0 text after r → r ≤ 50000 → VerdictSaid listing before after r
+verdict-said {listing} {v = v} on e t p few = record { verdict = v; is = on; puts = same-bytes (t ∙ ap (verdictLine listing) (sym e)) p; few = few }
+
+-- ── the rules, one after another ─────────────────────────────────────────────────
+-- so many of them are put from a place on
+pub record Ruling (before : Bytes) (first : ℕ) (after : Bytes) (at done : ℕ) : Type 0 where
+  pub most : done ≤ 5
+  pub early : first ≤ 200
+  pub few : at ≤ first + 350 * done
+  pub puts : Puts before first (rules done) after at
+
+pub ruling-begun : (before : Bytes) (first : ℕ) → first ≤ 200 → Ruling before first before first 0
+unfolding rules
+ruling-begun before first h = record { most = omega arith; early = h; few = omega arith; puts = record { past = omega arith; stored = refl } }
+
+pub ruling-on : {before m m₁ m₂ m₃ : Bytes} {first at a next done : ℕ} → Ruling before first m at done → done + 1 ≤ 5 →
+    Puts m at (figure (done + 1)) m₁ a × (a ≤ at + 20) → m₂ ≡ set m₁ a 32 → Puts m₂ (a + 1) (ruleLine (done + 1)) m₃ next × (next ≤ a + 1 + 301) →
+    Ruling before first m₃ next (done + 1)
+unfolding rules
+ruling-on {m₁ = m₁} {a = a} {done = done} v h f e g =
+    let one = then-bytes (f .0) (then-bytes (one-byte m₁ a 32 _ e) (g .0)) in
+    record {
+      most = h;
+      early = v .early;
+      few = omega (arith, v .few, f .1, g .1);
+      puts = same-bytes (simp add-one refl) (then-bytes (v .puts) one);
+    }

@@ -4,6 +4,7 @@ ghost use mathlib.Core.Path.{_≡_};
 ghost use lib.ListN.{length};
 ghost use mathlib.Core.Bool.{true};
 ghost use Rattle.io.specs.Counts.{Counts};
+ghost use Rattle.walk.specs.Calls.{memoryWords};
 ghost use Rattle.session_replay.specs.Advancing.{longEnough};
 ghost use Rattle.session_replay.specs.Ending.{isOver};
 ghost use Rattle.session_replay.specs.Phases.{memories};
@@ -11,6 +12,7 @@ ghost use Rattle.session_files.specs.Turning.{Turned, Ran, Played, Files
 use libc::STDERR_FILENO;
 use session_replay::Advanced;
 use session_replay::Phase;
+use table::TABLE_WORDS;
 
 // A byte more than the 49,152 that a listing or a trace may have: a longer file is cut there, and its length alone decides.
 fn text() -> [u8; 49153]
@@ -19,11 +21,11 @@ fn text() -> [u8; 49153]
     [0; 49153]
 }
 
-// A table or a machine.
-fn memory() -> [u32; 12288]
-    ensures { λ r. ⌜ 12288 ≡ length r ⌝ }
+// A table or a machine: both have as many words.
+fn memory() -> [u32; TABLE_WORDS]
+    ensures { λ r. ⌜ memoryWords ≡ length r ⌝ }
 {
-    [0; 12288]
+    [0; TABLE_WORDS]
 }
 
 // What one step prints.

@@ -41,7 +41,7 @@ fn stopped_form(machine: &[u32], number: u32) -> bool
     if machine[0] != number {
         return false;
     }
-    all_are(&machine[1..12288], 0)
+    all_are(&machine[1..MEMORY], 0)
 }
 
 // "Up to 12 a refusal leaves all lent memory untouched"; a stop leaves the stopped form; "Words past 12,288 are never touched."

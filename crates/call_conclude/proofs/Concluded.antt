@@ -19,7 +19,8 @@ use Rattle.engine_blocks.specs.Blocks.{rowsOf, environmentOf}
 use Rattle.engine_run.specs.Whole.{ranBy}
 use Rattle.engine_run.specs.declared.whole.Left.{Left}
 use Rattle.engine_run.specs.declared.whole.Ran.{Ran}
-use Rattle.engine_run.specs.declared.whole.Ran.the-variants.{Ended, Halted}
+use Rattle.engine_run.specs.declared.whole.Ran.the-variants.{Ended}
+use Rattle.engine_run.specs.declared.whole.Ran.the-variants as ran-variants
 use Rattle.call_conclude.specs.declared.answers.Answer.{Answer}
 use Rattle.call_conclude.specs.declared.answers.Answer.the-variants.{Stopped}
 use Rattle.call_conclude.specs.Answers.{resultOf}
@@ -48,7 +49,7 @@ done-of (same-done {d = d} A) σ environment left live woken e = record { given 
 
 -- ── a stop ────────────────────────────────────────────────────────────────────────────────────────
 module _ (t words : List ℕ) (moment allowance : ℕ) (ran : Ran) (may : MayConclude t words moment allowance ran) where
-  pub concluded-stop : (k : ℕ) → ran ≡ Halted k → (after numbers values : List ℕ) → after ≡ haltedWords k ++ drop 12288 words →
+  pub concluded-stop : (k : ℕ) → ran ≡ ran-variants.Stopped k → (after numbers values : List ℕ) → after ≡ haltedWords k ++ drop 12288 words →
       Concludes (tableListing t) words numbers values after numbers values (may .answer) (Stopped k)
   unfolding ranBy resultOf promises.resultOf answered outcomeNumber outcomePlace noFigures outcomeFigures numbersAfter valuesAfter
   concluded-stop k e after numbers values h =

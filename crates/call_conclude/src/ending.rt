@@ -67,7 +67,7 @@ pub fn conclude(
         (now (machine .exit)) (now (numbers .exit)) (now (values .exit)) (may .answer) r) ⌝ }
 {
     match ran {
-        Ran::Halted(number) => {
+        Ran::Stopped(number) => {
             machine_halt::halt(machine, number);
             return Answer::Stopped(number);
         }

@@ -61,17 +61,17 @@ fn make_due_slot(
     ready: ReadyList,
     s: usize,
     present: Moment,
-    soonest: u64,
+    due: u64,
 ) -> ReadyList
     requires { ⌜ HasMachine (now m) × (s < 64) × (0 < present .0)
-        × ((soonest ≡ present .0 → ⊥) → dueSlot (present .0) (block (now m) s) ≡ block (now m) s)
+        × ((due ≡ present .0 → ⊥) → dueSlot (present .0) (block (now m) s) ≡ block (now m) s)
         × (Ordered (rowsOf (now m)) (slotsOf ready)) ⌝ }
     ensures { λ r. ⌜ (InBlock s (now (m .entry)) (now (m .exit)) (dueSlot (present .0) (block (now (m .entry)) s)))
         × (Ordered (rowsOf (now (m .exit))) (slotsOf r))
         × ((n : ℕ) → Unwritten (min (block (now (m .entry)) s 4) 16) (block (now (m .entry)) s)
         → Reaches n (now (m .entry)) (now (m .exit)) (slotsOf ready) (slotsOf r)) ⌝ }
 {
-    if soonest != present.0 {
+    if due != present.0 {
         return ready;
     }
     let taken = engine_blocks::word_at(m, s, IN_USE);

@@ -45,5 +45,5 @@ pub fn finish(m: &mut [u32], present: Moment, size: usize) -> u64
     set_places(m, count);
     clear_working(m);
     store_header(m, present, count as u32);
-    ordered.soonest
+    ordered.due
 }

@@ -23,7 +23,7 @@ use Rattle.engine_evaluate.specs.Bound.{Bound, bindingsOf}
 use Rattle.engine_children.specs.declared.fork.NewSlots.{NewSlots}
 use Rattle.engine_children.specs.Fork.{slotsIn, MakesChildren}
 use Rattle.engine_steps.specs.declared.running.Running.{Running}
-use Rattle.engine_steps.specs.declared.running.Answer.the-variants.{Goes, Ends, Halts}
+use Rattle.engine_steps.specs.declared.running.Answer.the-variants.{Goes, Ends, Stops}
 use Rattle.engine_steps.specs.declared.running.Stepped.{Stepped}
 use Rattle.engine_steps.specs.Outcome.{left-by, Reading, Pops, Executes}
 use Rattle.engine_steps.specs.Asked.{MayPop, Slots}
@@ -34,7 +34,7 @@ use Rattle.engine_fork.proofs.Counted.{field-kept, bound-kept, counted-
 
 module _ (t a : List ℕ) (u : Running) (cells n moment : ℕ) where
   -- 14: "live routines plus new children at most 64?"
-  pub too-many : 64 < u .live + n → Executes (tableListing t) moment (fork (callsAt t cells n)) a a u (record { answer = Halts 14; running = u })
+  pub too-many : 64 < u .live + n → Executes (tableListing t) moment (fork (callsAt t cells n)) a a u (record { answer = Stops 14; running = u })
   unfolding left-by executeRows orHalt
   too-many over =
       record {
@@ -45,7 +45,7 @@ module _ (t a : List ℕ) (u : Running) (cells n moment : ℕ) where
 
   -- 15: "is this routine's level at most 9?"
   pub too-deep : u .live + n ≤ 64 → 9 < (rowsOf a (u .me)) .level
-      → Executes (tableListing t) moment (fork (callsAt t cells n)) a a u (record { answer = Halts 15; running = u })
+      → Executes (tableListing t) moment (fork (callsAt t cells n)) a a u (record { answer = Stops 15; running = u })
   unfolding left-by executeRows orHalt
   too-deep room deep =
       record {

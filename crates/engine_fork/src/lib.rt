@@ -20,13 +20,13 @@ pub fn fork_step(t: &[u32], m: &mut [u32], running: Running, cells: usize, n: us
     let live = running.live + count;
     if live > 64 {
         return Stepped {
-            answer: Answer::Halts(14),
+            answer: Answer::Stops(14),
             running,
         };
     }
     if engine_row::level(m, me) > 9 {
         return Stepped {
-            answer: Answer::Halts(15),
+            answer: Answer::Stops(15),
             running,
         };
     }

@@ -21,14 +21,14 @@ use Rattle.engine_triggers.proofs.Chaining.{lists-stay}
 use Rattle.engine_steps.specs.Asked.{MayPop}
 use Rattle.engine_steps.specs.declared.running.Running.{Running}
 use Rattle.engine_steps.specs.declared.running.Answer.{Answer}
-use Rattle.engine_steps.specs.declared.running.Answer.the-variants.{Goes, Ends, Halts}
+use Rattle.engine_steps.specs.declared.running.Answer.the-variants.{Goes, Ends, Stops}
 use Rattle.engine_steps.specs.declared.running.Stepped.{Stepped}
 use Rattle.engine_steps.specs.Outcome.{left-by, RunsLive, Pops}
 use Rattle.engine_steps.proofs.Stores.{stays-then}
 use Rattle.engine_run.specs.Placed.{GoesOn}
 use Rattle.engine_run.specs.Whole.{MayRunOn, MayBeginRun, ranBy, RunsOn, RunsReady}
 use Rattle.engine_run.specs.declared.whole.Ran.{Ran}
-use Rattle.engine_run.specs.declared.whole.Ran.the-variants.{Ended, Halted}
+use Rattle.engine_run.specs.declared.whole.Ran.the-variants.{Ended, Stopped}
 use Rattle.engine_run.proofs.Reaching.{slots-of-order}
 use Rattle.engine_run.proofs.Keeping.{running-childless}
 use Rattle.engine_run.proofs.Placing.{saying, Kept, KeptBy, pop-kept}
@@ -109,11 +109,11 @@ module _ (t : List ℕ) (moment left : ℕ) {m : List ℕ} {ready : ReadyList} {
           clean = λ y same. first-clean may Ends e (omega arith);
         }
 
-    pub first-halts : (k : ℕ) → r .answer ≡ Halts k → RunsReady t m m′ moment left ready live (Halted k)
+    pub first-halts : (k : ℕ) → r .answer ≡ Stops k → RunsReady t m m′ moment left ready live (Stopped k)
     unfolding left-by ranBy
     first-halts k e =
         record {
-          outcome = λ again. first-left (runRows (tableListing t) moment (again .triggers) left) (Halts k) e;
+          outcome = λ again. first-left (runRows (tableListing t) moment (again .triggers) left) (Stops k) e;
           stays = x .stays;
           clean = λ y same. let z : _≡_ {A = ℕ} 0 1 = cc in absurd (omega arith);
         }

@@ -19,7 +19,7 @@ use Rattle.engine_ready.specs.Slots.{slotsOf}
 use Rattle.engine_triggers.proofs.Chaining.{lists-stay}
 use Rattle.engine_steps.specs.declared.running.Running.{Running}
 use Rattle.engine_steps.specs.declared.running.Answer.{Answer}
-use Rattle.engine_steps.specs.declared.running.Answer.the-variants.{Goes, Ends, Halts}
+use Rattle.engine_steps.specs.declared.running.Answer.the-variants.{Goes, Ends, Stops}
 use Rattle.engine_steps.specs.declared.running.Stepped.{Stepped}
 use Rattle.engine_steps.specs.Outcome.{left-by, RunsLive, Reading, Stays, Executes}
 use Rattle.engine_steps.proofs.Stores.{stays-then, stays-start}
@@ -28,7 +28,7 @@ use Rattle.engine_run.specs.Placed.{Placed}
 use Rattle.engine_run.specs.Whole.{MayRunOn, ranBy, RunsOn}
 use Rattle.engine_run.specs.declared.whole.Left.{Left}
 use Rattle.engine_run.specs.declared.whole.Ran.{Ran}
-use Rattle.engine_run.specs.declared.whole.Ran.the-variants.{Ended, Halted}
+use Rattle.engine_run.specs.declared.whole.Ran.the-variants.{Ended, Stopped}
 use Rattle.engine_run.proofs.Invariant.{may-step, reading}
 use Rattle.engine_run.proofs.Keeping.{running-childless}
 use Rattle.engine_run.proofs.Placing.{saying, Kept, KeptBy}
@@ -157,17 +157,17 @@ module _ (t : List ℕ) (moment : ℕ) where
           }
 
       -- The machine stops.
-      pub going-halts : (k : ℕ) → r .answer ≡ Halts k → RunsOn t m₀ m′ moment allowance u₀ (Halted k)
+      pub going-halts : (k : ℕ) → r .answer ≡ Stops k → RunsOn t m₀ m′ moment allowance u₀ (Stopped k)
       unfolding left-by ranBy
       going-halts k e =
           record {
-            outcome = λ again. whole-so again ∙ left-so again (runRows listing moment (again .triggers) left) (Halts k) e;
+            outcome = λ again. whole-so again ∙ left-so again (runRows listing moment (again .triggers) left) (Stops k) e;
             stays = stays-then (g .stays) (x .stays);
             clean = λ y same. let z : _≡_ {A = ℕ} 0 1 = cc in absurd (omega arith);
           }
 
     -- No step is left.
-    pub going-used-up : {m : List ℕ} {left : ℕ} {u : Running} → Going m₀ allowance u₀ m left u → left ≡ 0 → RunsOn t m₀ m moment allowance u₀ (Halted 13)
+    pub going-used-up : {m : List ℕ} {left : ℕ} {u : Running} → Going m₀ allowance u₀ m left u → left ≡ 0 → RunsOn t m₀ m moment allowance u₀ (Stopped 13)
     unfolding runRows ranBy
     going-used-up {m} {left} {u} g none =
         record {

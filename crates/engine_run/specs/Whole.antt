@@ -24,7 +24,7 @@ use Rattle.engine_steps.specs.Outcome.{Stays}
 use Rattle.engine_run.specs.Placed.{Placed}
 use Rattle.engine_run.specs.declared.whole.Left.{Left}
 use Rattle.engine_run.specs.declared.whole.Ran.{Ran}
-use Rattle.engine_run.specs.declared.whole.Ran.the-variants.{Ended, Halted}
+use Rattle.engine_run.specs.declared.whole.Ran.the-variants.{Ended, Stopped}
 
 -- What holds when a routine is about to run, with so many steps left.
 pub record MayRunOn (t words : List ℕ) (moment left : ℕ) (u : Running) : Type 0 where
@@ -60,7 +60,7 @@ pub record MayBeginRun (t words : List ℕ) (moment left : ℕ) (ready : ReadyLi
 -- n: the number of environment variables.
 unfoldable pub ranBy : ℕ → List ℕ → Ran → RowsResult
 ranBy n words (Ended x) = ends (rowsOf words) (environmentOf n words) (x .left) (x .live) (x .woken)
-ranBy n words (Halted k) = halts k
+ranBy n words (Stopped k) = halts k
 
 -- The routine that runs was run on to the instant's end, or to a stop, as scheduler's queue engine runs on rows.
 pub record RunsOn (t before after : List ℕ) (moment left : ℕ) (u : Running) (r : Ran) : Type 0 where

@@ -16,7 +16,7 @@ pub struct Left {
 // Ended, or stopped under a number.
 pub enum Ran {
     Ended(Left),
-    Halted(u32),
+    Stopped(u32),
 }
 
 // The routine that runs goes on, and all that are ready after it. "13 Is a step left?"
@@ -38,12 +38,12 @@ pub fn run_on(t: &[u32], m: &mut [u32], present: Moment, running: Running, allow
                 let woken = runs.woken;
                 return Ran::Ended(Left { left, live, woken });
             }
-            Answer::Halts(k) => {
-                return Ran::Halted(k);
+            Answer::Stops(k) => {
+                return Ran::Stopped(k);
             }
         }
     }
-    Ran::Halted(13)
+    Ran::Stopped(13)
 }
 
 // The first that is ready goes on, and all after it. If nobody is, the instant ends.
@@ -78,8 +78,8 @@ pub fn run_ready(
                 woken: running.woken,
             });
         }
-        Answer::Halts(k) => {
-            return Ran::Halted(k);
+        Answer::Stops(k) => {
+            return Ran::Stopped(k);
         }
     }
 }

@@ -15,7 +15,7 @@ use Rattle.engine_blocks.specs.Changes.{Changes, placedBlock}
 use Rattle.engine_ready.specs.Slots.{falling, slotsOf}
 use Rattle.engine_evaluate.specs.Bound.{FromNames}
 use Rattle.engine_steps.specs.declared.running.Running.{Running}
-use Rattle.engine_steps.specs.declared.running.Answer.the-variants.{Goes, Ends, Halts}
+use Rattle.engine_steps.specs.declared.running.Answer.the-variants.{Goes, Ends, Stops}
 use Rattle.engine_steps.specs.declared.running.Stepped.{Stepped}
 use Rattle.engine_ready.specs.declared.ReadyList.{ReadyList}
 use Rattle.engine_steps.specs.Outcome.{left-by, RunsLive, Reading, Pops, Executes}

@@ -18,7 +18,7 @@ use Rattle.engine_triggers.specs.Chains.{triggersAt}
 use Rattle.engine_evaluate.specs.Bound.{bindingsOf, Bound}
 use Rattle.engine_steps.specs.declared.running.Running.{Running}
 use Rattle.engine_steps.specs.declared.running.Answer.{Answer}
-use Rattle.engine_steps.specs.declared.running.Answer.the-variants.{Goes, Ends, Halts}
+use Rattle.engine_steps.specs.declared.running.Answer.the-variants.{Goes, Ends, Stops}
 use Rattle.engine_steps.specs.declared.running.Stepped.{Stepped}
 
 -- Document 01's number for each case of the answer, and what the rows leave: somebody runs, the instant ends, or the machine stops under a number.
@@ -27,13 +27,13 @@ unfoldable pub left-by : ℕ → List ℕ → RowsRunner → ℕ → Answer → 
 left-by n words go left Goes u =
     go (rowsOf words) (environmentOf n words) (slotsOf (u .ready)) (u .live) (u .woken) (u .me)
 left-by n words go left Ends u = ends (rowsOf words) (environmentOf n words) left (u .live) (u .woken)
-left-by n words go left (Halts k) u = halts k
+left-by n words go left (Stops k) u = halts k
 
 -- If somebody runs, it is a live routine.
 unfoldable pub RunsLive : List ℕ → Answer → Running → Type 0
 RunsLive words Goes u = (rowsOf words (u .me)) .used ≡ true
 RunsLive words Ends u = 0 ≤ 0
-RunsLive words (Halts k) u = 0 ≤ 0
+RunsLive words (Stops k) u = 0 ≤ 0
 
 -- The words are read with n environment variables and these trigger lists: the running routine's names are bound, and its parent is another live routine.
 pub record Reading (words : List ℕ) (me n : ℕ) (triggers : Owner → List ℕ) : Type 0 where

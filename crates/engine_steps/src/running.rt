@@ -15,7 +15,7 @@ pub struct Running {
 pub enum Answer {
     Goes,
     Ends,
-    Halts(u32),
+    Stops(u32),
 }
 
 pub struct Stepped {

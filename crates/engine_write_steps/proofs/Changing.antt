@@ -21,7 +21,7 @@ use Rattle.engine_ready.specs.Slots.{slotsOf}
 use Rattle.engine_triggers.specs.Chains.{triggersAt}
 use Rattle.engine_evaluate.specs.Bound.{bindingsOf, FromNames}
 use Rattle.engine_steps.specs.declared.running.Running.{Running}
-use Rattle.engine_steps.specs.declared.running.Answer.the-variants.{Goes, Ends, Halts}
+use Rattle.engine_steps.specs.declared.running.Answer.the-variants.{Goes, Ends, Stops}
 use Rattle.engine_steps.specs.declared.running.Stepped.{Stepped}
 use Rattle.engine_steps.specs.Outcome.{left-by, RunsLive, Reading, Executes, ChangesName}
 use Rattle.engine_steps.proofs.Stores.{stays-start}
@@ -70,7 +70,7 @@ too-late present delay e = later-false (ltb (present + delay) 184467440737095516
 module _ {a : List ℕ} (u : Running) (name delay x present : ℕ) (d e : List Piece) (listing : Listing)
     (after : Evaluates a (u .me) d delay) where
   -- 16: "is the delay at least 1?"
-  pub delay-short : isPositive delay ≡ false → Executes listing present (schedule name d e) a a u (record { answer = Halts 16; running = u })
+  pub delay-short : isPositive delay ≡ false → Executes listing present (schedule name d e) a a u (record { answer = Stops 16; running = u })
   unfolding left-by executeRows orHalt
   delay-short short =
       record {
@@ -81,7 +81,7 @@ module _ {a : List ℕ} (u : Running) (name delay x present : ℕ) (d e : List P
 
   module _ (positive : isPositive delay ≡ true) where
     -- 17: "is the due moment below 2 to the 64?"
-    pub moment-late : ltb (present + delay) 18446744073709551616 ≡ false → Executes listing present (schedule name d e) a a u (record { answer = Halts 17; running = u })
+    pub moment-late : ltb (present + delay) 18446744073709551616 ≡ false → Executes listing present (schedule name d e) a a u (record { answer = Stops 17; running = u })
     unfolding left-by executeRows orHalt
     moment-late late =
         record {

@@ -93,14 +93,14 @@ pub fn schedule_step(
     let value = engine_evaluate::evaluate(t, m, me, cells + 2 * first, second);
     if !words::is_positive(delay) {
         return Stepped {
-            answer: Answer::Halts(16),
+            answer: Answer::Stops(16),
             running,
         };
     }
     match words::later_moment(present, Delay(delay)) {
         Later::At(moment) => schedule_at(m, running, name, moment, value),
         Later::TooLate => Stepped {
-            answer: Answer::Halts(17),
+            answer: Answer::Stops(17),
             running,
         },
     }

@@ -37,6 +37,6 @@ duesLeft listing machine dues = cond (stoppedWords machine) dues (wordsKept (env
 -- Question 7's answer for a machine's 12,288 words, and what it leaves of the array `before`; of a state, `dues` has the soonest moment due of each block.
 pub record Answered (listing : Listing) (machine before dues : List ℕ) (r : MachineCheck) : Type 0 where
   pub answer : checkOf r ≡ answerOf (readMachine listing machine)
-  pub each : (soonest : ℕ) → r ≡ Running soonest → Dues (environmentSize listing) machine dues
+  pub each : (due : ℕ) → r ≡ Running due → Dues (environmentSize listing) machine dues
   pub places : length dues ≡ 65
   pub kept : dues ≡ duesLeft listing machine before

@@ -40,13 +40,13 @@ pub fn running_words(t: &[u32], m: &[u32], dues: &mut [u64; 65]) -> Test
         × (now (dues .exit) ≡ wordsKept (environmentSize (tableListing (now (t .entry)))) (now (m .entry)) (now (dues .entry))) ⌝ }
 {
     let size = environment_size(t);
-    let Test::Passes(soonest) = words_in_place(m, size, dues) else {
+    let Test::Passes(due) = words_in_place(m, size, dues) else {
         return Test::Fails;
     };
     if !tree_passes(t, m) {
         return Test::Fails;
     }
-    Test::Passes(soonest)
+    Test::Passes(due)
 }
 
 // Question 7 on the 12,288 words of each memory.
@@ -60,7 +60,7 @@ pub fn machine_answer(t: &[u32], m: &[u32], dues: &mut [u64; 65]) -> MachineChec
     }
     match running_words(t, m, dues) {
         Test::Fails => MachineCheck::NotAState,
-        Test::Passes(soonest) => MachineCheck::Running(soonest),
+        Test::Passes(due) => MachineCheck::Running(due),
     }
 }
 

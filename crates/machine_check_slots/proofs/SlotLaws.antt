@@ -31,13 +31,13 @@ unfolding wordsInPlace
 blocks-of-words m size e = and-right (headerInPlace m) (blocksInPlace size m) e
 
 -- ── the slots below s are left ────────────────────────────────────────────────────────────────────
-pub record SlotsLeft (n present : ℕ) (m : List ℕ) (soonest found s : ℕ) : Type 0 where
+pub record SlotsLeft (n present : ℕ) (m : List ℕ) (due found s : ℕ) : Type 0 where
   pub within : s ≤ 64
   pub holds : slotsHold n present m s ≡ slotsHold n present m 64
-  pub law : earlier (dueAt found) (slotsDue m s) ≡ earlier (dueAt soonest) (slotsDue m 64)
+  pub law : earlier (dueAt found) (slotsDue m s) ≡ earlier (dueAt due) (slotsDue m 64)
 
-module _ (n present : ℕ) (m : List ℕ) (soonest : ℕ) where
-  pub slots-begin : SlotsLeft n present m soonest soonest 64
+module _ (n present : ℕ) (m : List ℕ) (due : ℕ) where
+  pub slots-begin : SlotsLeft n present m due due 64
   slots-begin = record { within = omega arith; holds = refl; law = refl }
 
   one-less : (s : ℕ) → 0 < s → slotsDue m s ≡ earlier (slotDue m (s - 1)) (slotsDue m (s - 1))
@@ -45,8 +45,8 @@ module _ (n present : ℕ) (m : List ℕ) (soonest : ℕ) where
   one-less zero h = absurd (let z : ⊥ = omega arith in z)
   one-less (suc s) h = let p : suc s - 1 ≡ s = omega arith in rw p
 
-  pub slots-go-on : (found here next s : ℕ) → 0 < s → SlotsLeft n present m soonest found s → slotsHold n present m s ≡ slotsHold n present m (s - 1) →
-      dueAt here ≡ slotDue m (s - 1) → dueAt next ≡ earlier (dueAt found) (dueAt here) → SlotsLeft n present m soonest next (s - 1)
+  pub slots-go-on : (found here next s : ℕ) → 0 < s → SlotsLeft n present m due found s → slotsHold n present m s ≡ slotsHold n present m (s - 1) →
+      dueAt here ≡ slotDue m (s - 1) → dueAt next ≡ earlier (dueAt found) (dueAt here) → SlotsLeft n present m due next (s - 1)
   slots-go-on found here next s h L same d e =
       let l = L .within in
       record {
@@ -55,8 +55,8 @@ module _ (n present : ℕ) (m : List ℕ) (soonest : ℕ) where
         law = rw (e, d, earlier-associative (dueAt found) (slotDue m (s - 1)) (slotsDue m (s - 1)), ← one-less s h) (L .law);
       }
 
-  pub slots-end : (found s : ℕ) → s ≤ 0 → SlotsLeft n present m soonest found s →
-      testOf (Passes found) ≡ tested (slotsHold n present m 64) (earlier (dueAt soonest) (slotsDue m 64))
+  pub slots-end : (found s : ℕ) → s ≤ 0 → SlotsLeft n present m due found s →
+      testOf (Passes found) ≡ tested (slotsHold n present m 64) (earlier (dueAt due) (slotsDue m 64))
   unfolding slotsHold slotsDue
   slots-end found s h L =
       let z : s ≡ 0 = omega arith in

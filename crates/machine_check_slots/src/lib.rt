@@ -48,14 +48,14 @@ pub fn slot_holds(m: &[u32], n: usize, s: usize, present: Moment) -> Test
 }
 
 // All slots, with the sooner of a moment due (0: none) and theirs; the soonest of each is kept.
-pub fn slots_hold(m: &[u32], n: usize, present: Moment, soonest: u64, dues: &mut [u64; 65]) -> Test
+pub fn slots_hold(m: &[u32], n: usize, present: Moment, due: u64, dues: &mut [u64; 65]) -> Test
     requires { ⌜ MachineLong (now m) × (n ≤ 64) × (length (now dues) ≡ 65) ⌝ }
-    ensures { λ r. ⌜ (testOf r ≡ tested (slotsHold n (present .0) (now (m .entry)) 64) (earlier (dueAt soonest) (slotsDue (now (m .entry)) 64)))
+    ensures { λ r. ⌜ (testOf r ≡ tested (slotsHold n (present .0) (now (m .entry)) 64) (earlier (dueAt due) (slotsDue (now (m .entry)) 64)))
         × (length (now (dues .exit)) ≡ 65)
         × (slotsHold n (present .0) (now (m .entry)) 64 ≡ true → SlotDues 0 (now (m .entry)) (now (dues .entry)) (now (dues .exit)))
         × (now (dues .exit) ≡ slotsKept n (present .0) (now (m .entry)) 64 (now (dues .entry))) ⌝ }
 {
-    let mut found = soonest;
+    let mut found = due;
     let mut s: usize = SLOTS;
     while 0 < s {
         let Test::Passes(here) = slot_holds(m, n, s - 1, present) else {

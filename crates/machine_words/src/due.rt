@@ -26,15 +26,15 @@ pub fn sooner(a: u64, b: u64) -> u64
 }
 
 // The soonest of a moment and those of the k variables from `at` on.
-pub fn sooner_of_variables(m: &[u32], at: usize, k: usize, soonest: u64) -> u64
+pub fn sooner_of_variables(m: &[u32], at: usize, k: usize, due: u64) -> u64
     requires { ⌜ (k ≤ 16) × (at + k * 6 ≤ length (now m)) ⌝ }
-    ensures { λ r. ⌜ dueAt r ≡ earlier (dueAt soonest) (dueOfVariables (variablesIn (now (m .entry)) at k)) ⌝ }
+    ensures { λ r. ⌜ dueAt r ≡ earlier (dueAt due) (dueOfVariables (variablesIn (now (m .entry)) at k)) ⌝ }
 {
-    let mut found = soonest;
+    let mut found = due;
     let mut i: usize = 0;
     while i < k {
-        let due = moment_at(m, at + i * VARIABLE_WORDS + 2);
-        found = sooner(found, due);
+        let here = moment_at(m, at + i * VARIABLE_WORDS + 2);
+        found = sooner(found, here);
         i += 1;
     }
     found

@@ -28,8 +28,8 @@ running-words-requires c κs = search needs
 enum-told : tie.Need-enum-told
 enum-told c = search needs
 
-enum-known-soonest : tie.Need-enum-known-soonest
-enum-known-soonest c = search needs
+enum-known-due : tie.Need-enum-known-due
+enum-known-due c = search needs
 
 returns-2 : tie.Need-returns-2
 returns-2 c =
@@ -44,7 +44,7 @@ returns-2 c =
 returns-3 : tie.Need-returns-3
 returns-3 c =
     let past = c .before .before .before .before .before in
-    let p = has-passed _ _ _ _ (c .before .before .before .running-words .ensures .0) (c .before .soonest .given .1) in
+    let p = has-passed _ _ _ _ (c .before .before .before .running-words .ensures .0) (c .before .due .given .1) in
     record {
       answer = answer-running _ _ _ (λ i. omega (arith, past .before .before .shared-slice-known2 .given i)) (sym (past .before .stopped-words .ensures) ∙ past .if1 .left) (p .0) (p .1);
       each = λ d e. c .before .before .before .running-words .ensures .2 (p .0);
@@ -61,6 +61,6 @@ machine-answer-spec =
     returns
     running-words-requires
     enum-told
-    enum-known-soonest
+    enum-known-due
     returns-2
     returns-3)

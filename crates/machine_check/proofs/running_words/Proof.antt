@@ -19,8 +19,8 @@ environment-size-requires c κs = search needs
 words-in-place-requires : tie.Need-words-in-place-requires
 words-in-place-requires c κs = search needs
 
-enum-known-soonest : tie.Need-enum-known-soonest
-enum-known-soonest c = search needs
+enum-known-due : tie.Need-enum-known-due
+enum-known-due c = search needs
 
 enum-told : tie.Need-enum-told
 enum-told c = search needs
@@ -38,13 +38,13 @@ tree-passes-requires c κs =
     let o = w .before .before .before .before .before in
     let a = o .args in
     let e : w .before .before .environment-size .result ≡ environmentSize (tableListing (a .t .now)) = w .before .before .environment-size .ensures ∙ size-of (a .t .now) in
-    let p : wordsInPlace (environmentSize (tableListing (a .t .now))) (a .m .now) ≡ true = rw e at (has-passed _ _ _ _ (w .words-in-place .ensures .0) (c .before .soonest .given .1) .0) in
+    let p : wordsInPlace (environmentSize (tableListing (a .t .now))) (a .m .now) ≡ true = rw e at (has-passed _ _ _ _ (w .words-in-place .ensures .0) (c .before .due .given .1) .0) in
     (o .pre .0, o .pre .1, ready (a .t .now) (a .m .now) (table-bounds (a .t .now) (o .pre .2)) (λ i. omega (arith, w .before .before .before .shared-slice-known2 .given i)) p)
 
 returns-2 : tie.Need-returns-2
 returns-2 c =
     let w = c .before .before .before .before .before in
-    let p = has-passed _ _ _ _ (w .words-in-place .ensures .0) (c .before .before .before .soonest .given .1) in
+    let p = has-passed _ _ _ _ (w .words-in-place .ensures .0) (c .before .before .before .due .given .1) in
     let e = w .before .before .environment-size .ensures ∙ size-of _ in
     let no = running-by-tree _ _ _ e false (p .0) (sym (c .before .tree-passes .ensures) ∙ not-true _ (c .if1 .taken)) in
     (fails _ _ no, w .words-in-place .ensures .1, not-both no, kept-of-listing _ _ _ e _ _ (w .words-in-place .ensures .3))
@@ -52,7 +52,7 @@ returns-2 c =
 returns-3 : tie.Need-returns-3
 returns-3 c =
     let w = c .before .before .before .before .before in
-    let p = has-passed _ _ _ _ (w .words-in-place .ensures .0) (c .before .before .before .soonest .given .1) in
+    let p = has-passed _ _ _ _ (w .words-in-place .ensures .0) (c .before .before .before .due .given .1) in
     let e = w .before .before .environment-size .ensures ∙ size-of _ in (
       passes _ _ _ (running-by-tree _ _ _ e true (p .0) (sym (c .before .tree-passes .ensures) ∙ not-false _ (c .if1 .left))) (due-of-listing _ _ _ e _ (p .1)),
       w .words-in-place .ensures .1,
@@ -66,7 +66,7 @@ running-words-spec =
     (tie.spec
     environment-size-requires
     words-in-place-requires
-    enum-known-soonest
+    enum-known-due
     enum-told
     returns
     tree-passes-requires

@@ -14,12 +14,12 @@ use Rattle.machine_check_slots.proofs.slots_hold.Statement.{statement}
 use Rattle.machine_check_slots.proofs.slots_hold.Tie as tie
 
 abbrev Inv-loop : tie.InvT-loop
-Inv-loop m n present soonest dues₀ found₀ s₀ dues found s =
-    SlotsLeft n (present .0) m soonest found s × (length dues ≡ 65) × SlotDues s m dues₀ dues
+Inv-loop m n present due dues₀ found₀ s₀ dues found s =
+    SlotsLeft n (present .0) m due found s × (length dues ≡ 65) × SlotDues s m dues₀ dues
     × (slotsKept n (present .0) m s dues ≡ slotsKept n (present .0) m 64 dues₀)
 
 abbrev μ-loop : tie.MeasureT-loop
-μ-loop m n present soonest dues₀ found₀ s₀ dues found s =
+μ-loop m n present due dues₀ found₀ s₀ dues found s =
     s
 
 loop-holds : tie.Need-loop-holds Inv-loop μ-loop

@@ -8,7 +8,7 @@ ghost use lib.ListN.{length};
 ghost use Rattle.table.specs.Areas.{TableLong};
 ghost use Rattle.table.specs.Decode.{word, nameAt, afterCall, headAfter};
 ghost use Rattle.table.specs.Question6.{isTable};
-ghost use Rattle.table_read.specs.Opened.{Opened, HasEntry, entryAt, openingAt};
+ghost use Rattle.table_read.specs.Opened.{Opened, HasEntry, codeAt, entryOf, entryAt, openingAt};
 use table::ARGUMENTS;
 use table::CELLS_AT;
 use table::ENTRIES;
@@ -44,19 +44,33 @@ pub struct Entry {
     pub second: usize,
 }
 
+// Where routine r's first instruction has its entry.
+pub fn code_at(t: &[u32], r: usize) -> usize
+    requires { ⌜ TableLong (now t) × (r < 64) ⌝ }
+    ensures { λ a. ⌜ a ≡ codeAt (now (t .entry)) r ⌝ }
+{
+    let a = ROUTINES + ROUTINE_WORDS * r;
+    ENTRIES + ENTRY_WORDS * number(t[a + FIRST_ENTRY])
+}
+
 // Instruction `place` of routine `r`.
 pub fn fetch(t: &[u32], r: usize, place: usize) -> Entry
     requires { ⌜ TableLong (now t) × HasEntry (now t) r place ⌝ }
     ensures { λ e. ⌜ e ≡ entryAt (now (t .entry)) r place ⌝ }
 {
-    let a = ROUTINES + ROUTINE_WORDS * r;
-    let start = t[a + FIRST_ENTRY] as usize;
-    let e = ENTRIES + ENTRY_WORDS * start + ENTRY_WORDS * place;
+    entry_at(t, code_at(t, r) + ENTRY_WORDS * place)
+}
+
+// The instruction whose entry stands at `e`.
+pub fn entry_at(t: &[u32], e: usize) -> Entry
+    requires { ⌜ TableLong (now t) × (e + 5 ≤ 12288) ⌝ }
+    ensures { λ r. ⌜ r ≡ entryOf (now (t .entry)) e ⌝ }
+{
     let kind = t[e + KIND];
-    let operand = t[e + OPERAND] as usize;
-    let cells = t[e + CELLS_AT] as usize;
-    let first = t[e + FIRST_COUNT] as usize;
-    let second = t[e + SECOND_COUNT] as usize;
+    let operand = number(t[e + OPERAND]);
+    let cells = number(t[e + CELLS_AT]);
+    let first = number(t[e + FIRST_COUNT]);
+    let second = number(t[e + SECOND_COUNT]);
     Entry {
         kind,
         operand,

@@ -56,13 +56,7 @@ fn make_due_in(
 }
 
 // The own variables of the routine in slot s, if one sits there and the soonest of them is due now.
-fn make_due_slot(
-    m: &mut [u32],
-    ready: ReadyList,
-    s: usize,
-    present: Moment,
-    due: u64,
-) -> ReadyList
+fn make_due_slot(m: &mut [u32], ready: ReadyList, s: usize, present: Moment, due: u64) -> ReadyList
     requires { ⌜ HasMachine (now m) × (s < 64) × (0 < present .0)
         × ((due ≡ present .0 → ⊥) → dueSlot (present .0) (block (now m) s) ≡ block (now m) s)
         × (Ordered (rowsOf (now m)) (slotsOf ready)) ⌝ }

@@ -25,6 +25,7 @@ use Rattle.engine_steps.specs.Outcome.{left-by, RunsLive, Reading, Stays, Execu
 use Rattle.engine_steps.proofs.Stores.{stays-then, stays-start}
 use Rattle.engine_run.specs.Asked.{MayStep}
 use Rattle.engine_run.specs.Placed.{Placed}
+use Rattle.engine_run.specs.Going as specs
 use Rattle.engine_run.specs.Whole.{MayRunOn, ranBy, RunsOn}
 use Rattle.engine_run.specs.declared.whole.Left.{Left}
 use Rattle.engine_run.specs.declared.whole.Ran.{Ran}
@@ -42,23 +43,13 @@ module _ (t : List ℕ) (moment : ℕ) where
   ports = environmentSize (tableListing t)
 
   abbrev ReachedBy : {m₀ : List ℕ} {allowance : ℕ} {u₀ : Running} → MayRunOn t m₀ moment allowance u₀ → List ℕ → ℕ → Running → Type 0
-  ReachedBy may m left u = Reached listing moment (may .triggers) (may .fits) left (rowsOf m) (environmentOf ports m) (slotsOf (u .ready)) (u .live) (u .woken) (u .me)
+  ReachedBy may m left u = specs.ReachedBy t moment may m left u
 
-  -- what the run from here gives
   abbrev rest : (Owner → List ℕ) → List ℕ → ℕ → Running → RowsResult
-  rest triggers m left u = runRows listing moment triggers left (rowsOf m) (environmentOf ports m) (slotsOf (u .ready)) (u .live) (u .woken) (u .me)
+  rest triggers m left u = specs.rest t moment triggers m left u
 
-  pub record InStep {m₀ : List ℕ} {allowance : ℕ} {u₀ : Running} (may : MayRunOn t m₀ moment allowance u₀) (m : List ℕ) (left : ℕ) (u : Running) : Type 0 where
-    pub reached : ReachedBy may m left u
-    pub runs : rest (may .triggers) m left u ≡ rest (may .triggers) m₀ allowance u₀
-
-  -- The invariant.
-  pub record Going (m₀ : List ℕ) (allowance : ℕ) (u₀ : Running) (m : List ℕ) (left : ℕ) (u : Running) : Type 0 where
-    pub together : (may : MayRunOn t m₀ moment allowance u₀) → InStep may m left u
-    pub placed : Placed t (rowsOf m)
-    pub clean : Clean ports m
-    pub stays : Stays m₀ m
-    pub few : u .woken + left ≤ 1000001
+  abbrev Going : List ℕ → ℕ → Running → List ℕ → ℕ → Running → Type 0
+  Going m₀ allowance u₀ m left u = specs.Going t moment m₀ allowance u₀ m left u
 
   pub going-begins : {m : List ℕ} {left : ℕ} {u : Running} → MayRunOn t m moment left u → Going m left u m left u
   going-begins {m} may =
@@ -71,7 +62,7 @@ module _ (t : List ℕ) (moment : ℕ) where
       }
 
   module _ {m₀ : List ℕ} {allowance : ℕ} {u₀ : Running} where
-    still-long : MayRunOn t m₀ moment allowance u₀ → {m : List ℕ} {left : ℕ} {u : Running} → Going m₀ allowance u₀ m left u → 12288 ≤ length m
+    pub still-long : MayRunOn t m₀ moment allowance u₀ → {m : List ℕ} {left : ℕ} {u : Running} → Going m₀ allowance u₀ m left u → 12288 ≤ length m
     still-long may g = omega (arith, may .size, g .stays .outside .size)
 
     pub may-step-now : MayRunOn t m₀ moment allowance u₀ → {m : List ℕ} {left : ℕ} {u : Running} → Going m₀ allowance u₀ m left u → MayStep t m u

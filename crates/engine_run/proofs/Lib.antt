@@ -8,3 +8,4 @@ pub mod Placing
 pub mod PlacedSteps
 pub mod Going
 pub mod FirstReady
+pub mod OnTheWay

@@ -17,20 +17,10 @@ use Rattle.engine_rows.specs.Rows.{Owner, Row, Rows, withRow, atPlace, freeRow,
 use Rattle.engine_rows.specs.Engine.{forkRows, executeRows}
 use Rattle.engine_run.specs.Placed.{GoesOn, Placed}
 use Rattle.engine_run.proofs.Keeping.{placed-on, placed-free, placed-variable, placed-count}
-use Rattle.engine_run.proofs.Placing.{saying, KeptBy, go-kept, halt-kept, pop-kept, ended-kept, news-placed, same-routine, same-children}
+use Rattle.engine_run.proofs.Arms.{by-kind}
+use Rattle.engine_run.proofs.Placing.{saying, KeptBy, go-kept, halt-kept, pop-kept, ended-kept, news-placed, same-children}
+use Rattle.engine_write_steps.proofs.Writing.{same-routine}
 use Rattle.walk.specs.Memory.{evaluateBy}
-
--- A number from 1 to 7.
-by-kind : {G : Type 0} (k : ℕ) → 1 ≤ k → k ≤ 7 → (k ≡ 1 → G) → (k ≡ 2 → G) → (k ≡ 3 → G) → (k ≡ 4 → G) → (k ≡ 5 → G) → (k ≡ 6 → G) → (k ≡ 7 → G) → G
-by-kind zero l m a b c d e f g = absurd (omega arith)
-by-kind (suc zero) l m a b c d e f g = a refl
-by-kind (suc (suc zero)) l m a b c d e f g = b refl
-by-kind (suc (suc (suc zero))) l m a b c d e f g = c refl
-by-kind (suc (suc (suc (suc zero)))) l m a b c d e f g = d refl
-by-kind (suc (suc (suc (suc (suc zero))))) l m a b c d e f g = e refl
-by-kind (suc (suc (suc (suc (suc (suc zero)))))) l m a b c d e f g = f refl
-by-kind (suc (suc (suc (suc (suc (suc (suc zero))))))) l m a b c d e f g = g refl
-by-kind (suc (suc (suc (suc (suc (suc (suc (suc k)))))))) l m a b c d e f g = absurd (omega arith)
 
 module _ (t : List ℕ) (moment : ℕ) (triggers : Owner → List ℕ) (left : ℕ) (σ : Rows) (environment : List Variable) (q : List ℕ) (live woken me : ℕ)
     (h : Placed t σ) where
@@ -46,7 +36,7 @@ module _ (t : List ℕ) (moment : ℕ) (triggers : Owner → List ℕ) (left : �
       Placed t (withRow (rowsWith σ o x) me (atPlace (rowsWith σ o x me) (suc ((σ me) .place))))
   changed-placed o x next none =
       placed-on t (rowsWith σ o x) me (suc ((σ me) .place)) (placed-variable t σ o x h) (same-children t left woken (rowsWith σ o x) me _ none)
-      (λ u. rw (same-routine t left woken σ o x me) next)
+      (λ u. rw (same-routine σ o x me) next)
 
   assign-kept : (n : ℕ) (e : List Piece) → GoesBehind → KeptAt (assign n e)
   unfolding executeRows

@@ -107,13 +107,3 @@ module _ (t : List ℕ) (left w : ℕ) where
   news-placed table now (suc n) cells names fields σ environment me count i h =
       news-placed table now n (afterCall t cells) names (λ j l. fields (suc j) (omega arith)) _ environment me count (suc i)
       (placed-with t σ (freeSlot σ 64) _ h (new-placed table now (callerAt σ environment me count) (callAt t cells) i (freeSlot σ 64) (fields 0 (omega arith) .callee)))
-
-  -- ── a variable ──────────────────────────────────────────────────────────────────────────────────
-  pub same-routine : (σ : Rows) (o : Owner) (x : Variable) (s : ℕ) → (rowsWith σ o x s) .routine ≡ (σ s) .routine
-  unfolding rowsWith withOwn
-  same-routine σ (inEnvironment a) x s = refl
-  same-routine σ (inSlot p i) x s = go (ℕ-discrete s p)
-    where
-      go : Dec (s ≡ p) → (rowsWith σ (inSlot p i) x s) .routine ≡ (σ s) .routine
-      go (yes e) = rw e (ap (λ (r : Row). r .routine) (with-row-same σ p _))
-      go (no d) = ap (λ (r : Row). r .routine) (with-row-other σ p _ s d)

@@ -12,6 +12,7 @@ use Rattle.engine_blocks.specs.Blocks.{rowsOf}
 use Rattle.engine_blocks.specs.Store.{storeOf}
 use Rattle.engine_ready.specs.Ordered.{Ordered}
 use Rattle.engine_ready.specs.Slots.{slotsOf}
+use Rattle.engine_ready.specs.declared.ReadyList.{ReadyList}
 use Rattle.engine_clean.specs.Clean.{Clean}
 use Rattle.engine_evaluate.specs.Bound.{Bound, bindingsOf}
 use Rattle.engine_new_rows.specs.NewRow.{MayDivide}
@@ -39,3 +40,10 @@ pub record MayStep (t words : List ℕ) (u : Running) : Type 0 where
   pub variables : ℕ
   pub clean : Clean variables words
   pub bound : Bound (storeOf variables words) (bindingsOf words (u .me))
+
+-- What a step without the ready list asks of the words: that they are those of some running state in which the routine in slot `me` runs.
+pub record MayStepAlone (t words : List ℕ) (me : ℕ) : Type 0 where
+  pub ready : ReadyList
+  pub live : ℕ
+  pub woken : ℕ
+  pub may : MayStep t words (record { ready = ready; live = live; woken = woken; me = me })

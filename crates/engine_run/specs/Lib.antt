@@ -1,3 +1,4 @@
 pub mod Asked
 pub mod Placed
 pub mod Whole
+pub mod Going

@@ -40,6 +40,13 @@ pub record MayRunOn (t words : List ℕ) (moment left : ℕ) (u : Running) : Typ
   pub clean : Clean (environmentSize (tableListing t)) words
   pub few : u .woken + left ≤ 1000001
 
+-- The same for the routine in slot `me`, whoever else is ready.
+pub record MayGoAlone (t words : List ℕ) (moment left me : ℕ) : Type 0 where
+  pub ready : ReadyList
+  pub live : ℕ
+  pub woken : ℕ
+  pub may : MayRunOn t words moment left (record { ready = ready; live = live; woken = woken; me = me })
+
 -- What holds before the first that is ready goes on.
 pub record MayBeginRun (t words : List ℕ) (moment left : ℕ) (ready : ReadyList) (live : ℕ) : Type 0 where
   pub size : 12288 ≤ length words

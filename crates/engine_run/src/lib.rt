@@ -1,64 +1,42 @@
 // The run of the routines of an instant, instruction by instruction. `t` is the table, `m` the machine's memory.
+pub mod straight;
 pub mod whole;
 
-ghost use mathlib.Core.Path.{_≡_};
+ghost use Prim.Native.Nat.{ℕ};
 ghost use Rattle.walk.specs.Walk.{instructionAt};
 ghost use Rattle.table.specs.Decode.{tableListing};
 ghost use Rattle.table.specs.Entry.{Fetched};
 ghost use Rattle.engine_blocks.specs.Blocks.{rowsOf};
-ghost use Rattle.engine_steps.specs.Outcome.{Executes};
+ghost use Rattle.engine_steps.specs.Outcome.{Executes, NeedsReady};
 ghost use Rattle.engine_run.specs.Asked.{MayStep};
 use engine_steps::Running;
 use engine_steps::Stepped;
 use table::ASSIGN;
-use table::BRANCH;
-use table::END;
 use table::FORK;
-use table::JUMP;
-use table::SCHEDULE;
 use table::WAIT;
 use table_read::Entry;
 pub use whole::Left;
 pub use whole::Ran;
 pub use whole::run_on;
 pub use whole::run_ready;
-use words::Moment;
 use words::number;
 
-// The instruction whose entry was read, executed. The cases are those of its number in the table.
-fn execute(t: &[u32], m: &mut [u32], present: Moment, running: Running, entry: Entry) -> Stepped
+// The instruction whose entry was read, executed: one that may change the ready list. The cases are those of its number in the table.
+fn execute(t: &[u32], m: &mut [u32], running: Running, entry: Entry) -> Stepped
     requires { ⌜ (MayStep (now t) (now m) running)
+        × (NeedsReady (instructionAt (tableListing (now t)) ((rowsOf (now m) (running .me)) .routine) ((rowsOf (now m) (running .me)) .place)))
         × (Fetched (now t) ((rowsOf (now m) (running .me)) .routine) ((rowsOf (now m) (running .me)) .place) (entry .kind) (entry .operand) (entry .cells) (entry .first) (entry .second)) ⌝ }
-    ensures { λ r. ⌜ Executes (tableListing (now (t .entry))) (present .0)
+    ensures { λ r. ⌜ ((moment : ℕ) → Executes (tableListing (now (t .entry))) moment
         (instructionAt (tableListing (now (t .entry))) ((rowsOf (now (m .entry)) (running .me)) .routine) ((rowsOf (now (m .entry)) (running .me)) .place))
-        (now (m .entry)) (now (m .exit)) running r ⌝ }
+        (now (m .entry)) (now (m .exit)) running r) ⌝ }
 {
     let kind = entry.kind;
     let operand = entry.operand;
     let cells = entry.cells;
     let first = entry.first;
-    let second = entry.second;
     match kind {
         ASSIGN => {
             return engine_write_steps::assign_step(t, m, running, operand, cells, first);
-        }
-        SCHEDULE => {
-            return engine_write_steps::schedule_step(
-                t,
-                m,
-                present,
-                running,
-                operand,
-                cells,
-                first,
-                second,
-            );
-        }
-        BRANCH => {
-            return engine_steps::branch_step(t, m, running, cells, first, operand as u32);
-        }
-        JUMP => {
-            return engine_steps::jump_step(m, running, operand as u32);
         }
         WAIT => {
             return engine_steps::wait_step(m, running);
@@ -66,26 +44,24 @@ fn execute(t: &[u32], m: &mut [u32], present: Moment, running: Running, entry: E
         FORK => {
             return engine_fork::fork_step(t, m, running, cells, first);
         }
-        END => {
-            return engine_end_step::end_step(m, running);
-        }
-        // No other number passes question 6; it is read as an `E`.
+        // An `E`: no other number is left.
         _ => {
             return engine_end_step::end_step(m, running);
         }
     }
 }
 
-// One instruction of the running routine.
-pub fn step(t: &[u32], m: &mut [u32], present: Moment, running: Running) -> Stepped
-    requires { ⌜ MayStep (now t) (now m) running ⌝ }
-    ensures { λ r. ⌜ Executes (tableListing (now (t .entry))) (present .0)
+// One instruction of the running routine that may change the ready list.
+pub fn step(t: &[u32], m: &mut [u32], running: Running) -> Stepped
+    requires { ⌜ (MayStep (now t) (now m) running)
+        × (NeedsReady (instructionAt (tableListing (now t)) ((rowsOf (now m) (running .me)) .routine) ((rowsOf (now m) (running .me)) .place))) ⌝ }
+    ensures { λ r. ⌜ ((moment : ℕ) → Executes (tableListing (now (t .entry))) moment
         (instructionAt (tableListing (now (t .entry))) ((rowsOf (now (m .entry)) (running .me)) .routine) ((rowsOf (now (m .entry)) (running .me)) .place))
-        (now (m .entry)) (now (m .exit)) running r ⌝ }
+        (now (m .entry)) (now (m .exit)) running r) ⌝ }
 {
     let me = running.me;
     let routine = number(engine_row::routine(m, me));
     let place = number(engine_row::place(m, me));
     let entry = table_read::fetch(t, routine, place);
-    execute(t, m, present, running, entry)
+    execute(t, m, running, entry)
 }

@@ -1,6 +1,8 @@
 // The routines of an instant, run to its end, to a stop, or until the allowance is used up.
 ghost use Rattle.engine_run.specs.Whole.{MayRunOn, MayBeginRun, RunsOn, RunsReady};
 use crate::step;
+use crate::straight::Straight;
+use crate::straight::run_straight;
 use engine_ready::ReadyList;
 use engine_steps::Answer;
 use engine_steps::Running;
@@ -27,8 +29,20 @@ pub fn run_on(t: &[u32], m: &mut [u32], present: Moment, running: Running, allow
     let mut runs = running;
     let mut left = allowance;
     while left > 0 {
+        let me = runs.me;
+        match run_straight(t, m, present, me, left) {
+            Straight::At(on) => {
+                left = on;
+            }
+            Straight::StopsWith(number) => {
+                return Ran::Stopped(number);
+            }
+        }
+        if left == 0 {
+            return Ran::Stopped(13);
+        }
         left -= 1;
-        let stepped = step(t, m, present, runs);
+        let stepped = step(t, m, runs);
         let answer = stepped.answer;
         runs = stepped.running;
         match answer {

@@ -18,9 +18,11 @@ use Rattle.engine_steps.specs.declared.running.Running.{Running}
 use Rattle.engine_steps.specs.declared.running.Answer.the-variants.{Goes, Ends, Stops}
 use Rattle.engine_steps.specs.declared.running.Stepped.{Stepped}
 use Rattle.engine_ready.specs.declared.ReadyList.{ReadyList}
-use Rattle.engine_steps.specs.Outcome.{left-by, RunsLive, Reading, Pops, Executes}
+use Rattle.engine_steps.specs.declared.running.Onward.{Onward}
+use Rattle.engine_steps.specs.declared.running.Onward.the-variants.{To, StopsWith, Unmade}
+use Rattle.engine_steps.specs.Outcome.{left-by, RunsLive, Reading, Pops, Executes, GoesOn, NeedsReady, Onwards}
 use Rattle.engine_steps.specs.Asked.{Slots, slots-one}
-use Rattle.engine_steps.proofs.Stores.{rows-changed, environment-kept, change-stays, stays-start, placed-clean}
+use Rattle.engine_steps.proofs.Stores.{rows-changed, row-changed, environment-kept, change-stays, stays-start, placed-clean}
 use Rattle.walk.specs.Walk.{branchPlace}
 use Rattle.walk.specs.Memory.{evaluateBy}
 use Rattle.engine_evaluate.specs.Evaluable.{Evaluates}
@@ -55,9 +57,9 @@ module _ {a m : List ℕ} {s : ℕ} (place : ℕ) (p : Changes s a m (placedBloc
         clean = λ n used clean. placed-clean place p small (rw me at used) clean;
       }
 
-  -- The running routine goes on at `place`.
-  pub jumps : (listing : Listing) (moment : ℕ) (u : Running) → u .me ≡ s → Executes listing moment (jump place) a m u (record { answer = Goes; running = u })
-  unfolding left-by executeRows RunsLive
+  -- The routine goes on at `place`.
+  pub jumps : (listing : Listing) (moment : ℕ) → GoesOn listing moment (jump place) a m s Goes
+  unfolding GoesOn left-by executeRows RunsLive
   jumps listing moment u me =
       record {
         outcome = λ n triggers reading go left. rw (rows-changed (λ r. atPlace r place) p, environment-kept (λ r. atPlace r place) p n, me);
@@ -65,17 +67,35 @@ module _ {a m : List ℕ} {s : ℕ} (place : ℕ) (p : Changes s a m (placedBloc
         clean = λ n triggers reading used clean. placed-clean place p small (rw me at used) clean;
       }
 
--- "`U|e|k` goes to instruction k if e is 0": as `G` to that place.
-pub branches : (listing : Listing) (moment : ℕ) {a m : List ℕ} {u : Running} {r : Stepped} (e : List Piece) (k v target : ℕ)
+  pub now-at : (rowsOf m s) .place ≡ place
+  unfolding atPlace
+  now-at = ap (λ (r : Row). r .place) (row-changed (λ r. atPlace r place) p)
+
+  pub still-in : (rowsOf m s) .routine ≡ (rowsOf a s) .routine
+  unfolding atPlace
+  still-in = ap (λ (r : Row). r .routine) (row-changed (λ r. atPlace r place) p)
+
+branched : (listing : Listing) (moment : ℕ) {a m : List ℕ} {u : Running} {r : Stepped} (e : List Piece) (k v target : ℕ)
     → Evaluates a (u .me) e v → branchPlace (eqb v 0) k (suc ((rowsOf a (u .me)) .place)) ≡ target
     → Executes listing moment (jump target) a m u r → Executes listing moment (branch e k) a m u r
 unfolding executeRows
-branches listing moment {a} {m} {u} {r} e k v target value chosen j =
+branched listing moment {a} {m} {u} {r} e k v target value chosen j =
     record {
       outcome = λ n triggers reading go left. rw (sym (value moment .equal n (reading .bound)), chosen) (j .outcome n triggers reading go left);
       stays = j .stays;
       clean = j .clean;
     }
+
+-- "`U|e|k` goes to instruction k if e is 0": as `G` to that place.
+pub branches : (listing : Listing) (moment : ℕ) {a : List ℕ} (m : List ℕ) {me : ℕ} (r : Onward) (e : List Piece) (k v target : ℕ)
+    → Evaluates a me e v → branchPlace (eqb v 0) k (suc ((rowsOf a me) .place)) ≡ target
+    → Onwards listing moment (jump target) a m me r → Onwards listing moment (branch e k) a m me r
+unfolding Onwards GoesOn NeedsReady
+branches listing moment {a} m {me} (To place) e k v target value chosen j =
+    (j .0, j .1, λ u is. branched listing moment e k v target (rw is value) (rw is chosen) (j .2 u is))
+branches listing moment {a} m {me} (StopsWith n) e k v target value chosen j =
+    λ u is. branched listing moment e k v target (rw is value) (rw is chosen) (j u is)
+branches listing moment {a} m {me} Unmade e k v target value chosen j = (j .0, j .1)
 
 -- A wait: the next that is ready.
 pub waits : (listing : Listing) (moment : ℕ) {a m : List ℕ} {u : Running} {r : Stepped} (names : List ℕ) → Pops a m u r → Executes listing moment (wait names) a m u r

@@ -24,21 +24,21 @@ pub record MayPop (words : List ℕ) (u : Running) : Type 0 where
   -- a sleeper has an instruction behind its wait
   pub sleepers : (s : ℕ) → (rowsOf words s) .asleep ≡ true → suc ((rowsOf words s) .place) < 4294967296
 
--- For the running routine.
-pub record MayRun (words : List ℕ) (u : Running) : Type 0 where
+-- For the routine in slot `me`, which is at this place, to go on at the next instruction.
+pub record MayGoOn (words : List ℕ) (me place : ℕ) : Type 0 where
   pub size : 12288 ≤ length words
-  pub slot : u .me < 64
-
--- For the running routine to go on at the next instruction.
-pub record MayGoOn (words : List ℕ) (u : Running) : Type 0 where
-  pub size : 12288 ≤ length words
-  pub slot : u .me < 64
-  pub next : suc ((rowsOf words (u .me)) .place) < 4294967296
+  pub slot : me < 64
+  pub here : place ≡ (rowsOf words me) .place
+  pub next : suc place < 4294967296
 
 -- For it to change the variable of a name.
-pub record MayChange (words : List ℕ) (u : Running) (name : ℕ) : Type 0 where
-  pub runs : MayGoOn words u
-  pub there : name < length (bindingsOf words (u .me))
+pub record MayChange (words : List ℕ) (me place name : ℕ) : Type 0 where
+  pub runs : MayGoOn words me place
+  pub there : name < length (bindingsOf words me)
+
+-- For a running routine to write a name that others await.
+pub record MayWrite (words : List ℕ) (u : Running) (name : ℕ) : Type 0 where
+  pub changes : MayChange words (u .me) ((rowsOf words (u .me)) .place) name
   pub ready : Ordered (rowsOf words) (slotsOf (u .ready))
 
 -- For it to end: its parent, unless it is main, is in a slot and has an instruction behind its fork.

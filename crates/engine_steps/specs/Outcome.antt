@@ -5,7 +5,7 @@ use mathlib.Core.List.{List}
 use mathlib.Core.Path.{_≡_}
 use Prim.Native.Nat.{ℕ, suc, _≤_, _<_}
 use lib.Dec.{eqb}
-use Rattle.listing.specs.Listing.{Listing, Instruction}
+use Rattle.listing.specs.Listing.{Listing, Instruction, assign, schedule, branch, jump, wait, fork, end}
 use Rattle.walk.specs.State.{Variable}
 use Rattle.engine_rows.specs.Rows.{Owner, ownerOf, atPlace}
 use Rattle.engine_rows.specs.Engine.{RowsResult, halts, ends, RowsRunner, nextReady, joinRows, executeRows}
@@ -20,6 +20,8 @@ use Rattle.engine_steps.specs.declared.running.Running.{Running}
 use Rattle.engine_steps.specs.declared.running.Answer.{Answer}
 use Rattle.engine_steps.specs.declared.running.Answer.the-variants.{Goes, Ends, Stops}
 use Rattle.engine_steps.specs.declared.running.Stepped.{Stepped}
+use Rattle.engine_steps.specs.declared.running.Onward.{Onward}
+use Rattle.engine_steps.specs.declared.running.Onward.the-variants.{To, StopsWith, Unmade}
 
 -- Document 01's number for each case of the answer, and what the rows leave: somebody runs, the instant ends, or the machine stops under a number.
 -- At a stop the blocks' words are any, since the stopped form takes their place.
@@ -62,13 +64,34 @@ pub record Executes (listing : Listing) (moment : ℕ) (instruction : Instructio
   pub stays : Stays before after
   pub clean : (n : ℕ) (triggers : Owner → List ℕ) → Reading before (u .me) n triggers → RunsLive after (r .answer) (r .running) → Clean n before → Clean n after
 
--- The variable of a name is changed, and the running routine goes on at the next instruction.
-pub record ChangesName (before after : List ℕ) (u : Running) (name : ℕ) (change : Variable → Variable) (r : Stepped) : Type 0 where
-  pub goes : r ≡ record { answer = Goes; running = u }
+-- Such a step of the routine in slot `me` leaves the ready list alone, whoever is ready: it goes on, or the machine stops.
+unfoldable pub GoesOn : Listing → ℕ → Instruction → List ℕ → List ℕ → ℕ → Answer → Type 0
+GoesOn listing moment instruction before after me a =
+    (u : Running) → u .me ≡ me → Executes listing moment instruction before after u (record { answer = a; running = u })
+
+-- The instructions that may change the ready list.
+unfoldable pub NeedsReady : Instruction → Type 0
+NeedsReady (assign n e) = 0 ≤ 0
+NeedsReady (schedule n d e) = ⊥
+NeedsReady (branch e k) = ⊥
+NeedsReady (jump k) = ⊥
+NeedsReady (wait ns) = 0 ≤ 0
+NeedsReady (fork cs) = 0 ≤ 0
+NeedsReady end = 0 ≤ 0
+
+-- What a step without the ready list leaves: the same routine at this place; a stop; or all as it was, if the instruction needs the list.
+unfoldable pub Onwards : Listing → ℕ → Instruction → List ℕ → List ℕ → ℕ → Onward → Type 0
+Onwards listing moment instruction before after me (To place) =
+    ((rowsOf after me) .place ≡ place) × ((rowsOf after me) .routine ≡ (rowsOf before me) .routine) × GoesOn listing moment instruction before after me Goes
+Onwards listing moment instruction before after me (StopsWith k) = GoesOn listing moment instruction before after me (Stops k)
+Onwards listing moment instruction before after me Unmade = (after ≡ before) × NeedsReady instruction
+
+-- The variable of a name is changed, and the routine in slot `me` goes on at the next instruction.
+pub record ChangesName (before after : List ℕ) (me name : ℕ) (change : Variable → Variable) : Type 0 where
   pub store : (n : ℕ) → storeOf n after ≡
-      withSlot (u .me) (λ row. atPlace row (suc ((rowsOf before (u .me)) .place))) (withVariable (ownerOf (bindingsOf before (u .me)) name) change (storeOf n before))
+      withSlot me (λ row. atPlace row (suc ((rowsOf before me) .place))) (withVariable (ownerOf (bindingsOf before me) name) change (storeOf n before))
   pub stays : Stays before after
-  pub clean : (n : ℕ) → Bound (storeOf n before) (bindingsOf before (u .me)) → (rowsOf after (u .me)) .used ≡ true → Clean n before → Clean n after
+  pub clean : (n : ℕ) → Bound (storeOf n before) (bindingsOf before me) → (rowsOf after me) .used ≡ true → Clean n before → Clean n after
 
 -- A child of the routine in slot p has ended, and its row is free already.
 pub record Joins (before after : List ℕ) (u : Running) (p : ℕ) (r : Stepped) : Type 0 where

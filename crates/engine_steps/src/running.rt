@@ -23,6 +23,14 @@ pub struct Stepped {
     pub running: Running,
 }
 
+// A step made without the ready list: the routine goes on at this place; the machine stops under a number; it was not made, since it
+// may change the ready list.
+pub enum Onward {
+    To(u32),
+    StopsWith(u32),
+    Unmade,
+}
+
 // The first that is ready goes on: a sleeper after its wait, a new routine where it begins. If nobody is, the instant ends.
 pub fn next_ready(m: &mut [u32], running: Running) -> Stepped
     requires { ⌜ MayPop (now m) running ⌝ }

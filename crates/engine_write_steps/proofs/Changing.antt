@@ -1,7 +1,7 @@
 -- `S` and `A` executed. Letters: a the words before, m the words after, u the running state, v the running state afterwards, x the value written.
-use mathlib.Core.Path.{_≡_, refl, sym, ap, _∙_}
+use mathlib.Core.Path.{_≡_, refl, sym, ap, subst, _∙_}
 use mathlib.Core.Bool.{Bool, true, false, cond}
-use mathlib.Core.List.{List}
+use mathlib.Core.List.{List, []}
 use Prim.Native.Nat.{ℕ, zero, suc, _+_, _≤_, _<_}
 use native.Mathlib.Omega.{arith}
 use lib.Dec.{ltb, leb}
@@ -14,16 +14,16 @@ use Rattle.engine_rows.specs.Rows.{Owner, ownerOf, named}
 use Rattle.engine_rows.specs.Ready.{insertAll}
 use Rattle.engine_rows.specs.Triggers.{triggered}
 use Rattle.engine_rows.specs.Engine.{RowsRunner, orHalt, executeRows}
-use Rattle.engine_blocks.specs.Blocks.{ownerAt, rowsOf, environmentOf}
+use Rattle.engine_blocks.specs.Blocks.{block, ownerAt, rowsOf, environmentOf}
 use Rattle.engine_variables.specs.Bindings.{BoundTo}
 use Rattle.engine_variables.specs.declared.Binding.{Binding}
 use Rattle.engine_ready.specs.Slots.{slotsOf}
 use Rattle.engine_triggers.specs.Chains.{triggersAt}
+use Rattle.engine_triggers.proofs.Chaining.{chained-none}
 use Rattle.engine_evaluate.specs.Bound.{bindingsOf, FromNames}
 use Rattle.engine_steps.specs.declared.running.Running.{Running}
 use Rattle.engine_steps.specs.declared.running.Answer.the-variants.{Goes, Ends, Stops}
-use Rattle.engine_steps.specs.declared.running.Stepped.{Stepped}
-use Rattle.engine_steps.specs.Outcome.{left-by, RunsLive, Reading, Executes, ChangesName}
+use Rattle.engine_steps.specs.Outcome.{left-by, RunsLive, Reading, Executes, GoesOn, ChangesName}
 use Rattle.engine_steps.proofs.Stores.{stays-start}
 use Rattle.engine_write_steps.proofs.Writing.{newVariable, rows-named, environment-named}
 use Rattle.walk.specs.Memory.{evaluateBy}
@@ -31,7 +31,7 @@ use Rattle.engine_evaluate.specs.Evaluable.{Evaluates}
 
 -- "`S|n|e` writes expression e to name n", and wakes.
 pub assigns : (listing : Listing) (moment : ℕ) {a m : List ℕ} (u v : Running) (name x : ℕ) (e : List Piece) (binding : Binding)
-    → ChangesName a m u name (λ y. writtenTo moment y x) (record { answer = Goes; running = u })
+    → ChangesName a m (u .me) name (λ y. writtenTo moment y x)
     → BoundTo (rowsOf a (u .me)) name binding → name < length (bindingsOf a (u .me)) → Evaluates a (u .me) e x
     → slotsOf (v .ready) ≡ insertAll (rowsOf a) (triggered (rowsOf a) ((rowsOf a (u .me)) .low) (triggersAt a (binding .block) (binding .index))) (slotsOf (u .ready))
     → v .live ≡ u .live → v .woken ≡ u .woken → v .me ≡ u .me
@@ -46,6 +46,21 @@ assigns listing moment {a} {m} u v name x e binding p bound few value ready live
       stays = p .stays;
       clean = λ n triggers reading used. p .clean n (reading .bound) (rw me at used);
     }
+
+-- A variable without a first trigger: nobody awaits it.
+pub nobody-listed : (words : List ℕ) (s index : ℕ) → block words s (144 + index) ≡ 0 → triggersAt words s index ≡ []
+unfolding triggersAt
+nobody-listed words s index none = rw none (chained-none words 256)
+
+-- Nobody awaits it: the ready list stays.
+pub assigns-alone : (listing : Listing) (moment : ℕ) {a m : List ℕ} (me name x : ℕ) (e : List Piece) (binding : Binding)
+    → ChangesName a m me name (λ y. writtenTo moment y x) → BoundTo (rowsOf a me) name binding → name < length (bindingsOf a me) → Evaluates a me e x
+    → triggersAt a (binding .block) (binding .index) ≡ [] → GoesOn listing moment (assign name e) a m me Goes
+unfolding GoesOn triggered insertAll
+assigns-alone listing moment {a} {m} me name x e binding p bound few value none u same =
+    assigns listing moment u u name x e binding (subst (λ (s : ℕ). ChangesName a m s name (λ y. writtenTo moment y x)) (sym same) p)
+    (subst (λ (s : ℕ). BoundTo (rowsOf a s) name binding) (sym same) bound) (subst (λ (s : ℕ). name < length (bindingsOf a s)) (sym same) few)
+    (subst (λ (s : ℕ). Evaluates a s e x) (sym same) value) (rw none) refl refl refl
 
 -- ── `A` ───────────────────────────────────────────────────────────────────────────────────────────
 pub positive-some : (d : ℕ) → isPositive d ≡ true → 0 < d
@@ -67,37 +82,46 @@ later-false false t e = refl
 pub too-late : (present delay : ℕ) → stopsWith 17 ≡ laterMoment present delay → ltb (present + delay) 18446744073709551616 ≡ false
 too-late present delay e = later-false (ltb (present + delay) 18446744073709551616) (present + delay) e
 
-module _ {a : List ℕ} (u : Running) (name delay x present : ℕ) (d e : List Piece) (listing : Listing)
-    (after : Evaluates a (u .me) d delay) where
+module _ {a : List ℕ} (me name delay x present : ℕ) (d e : List Piece) (listing : Listing) (after : Evaluates a me d delay) where
   -- 16: "is the delay at least 1?"
-  pub delay-short : isPositive delay ≡ false → Executes listing present (schedule name d e) a a u (record { answer = Stops 16; running = u })
-  unfolding left-by executeRows orHalt
-  delay-short short =
+  pub delay-short : isPositive delay ≡ false → GoesOn listing present (schedule name d e) a a me (Stops 16)
+  unfolding GoesOn left-by executeRows orHalt
+  delay-short short u is =
+      let value = subst (λ (s : ℕ). Evaluates a s d delay) (sym is) after in
       record {
-        outcome = λ n triggers reading go left. rw (sym (after present .equal n (reading .bound)), short);
+        outcome = λ n triggers reading go left. rw (sym (value present .equal n (reading .bound)), short);
         stays = stays-start a;
         clean = λ n triggers reading used clean. clean;
       }
 
   module _ (positive : isPositive delay ≡ true) where
     -- 17: "is the due moment below 2 to the 64?"
-    pub moment-late : ltb (present + delay) 18446744073709551616 ≡ false → Executes listing present (schedule name d e) a a u (record { answer = Stops 17; running = u })
-    unfolding left-by executeRows orHalt
-    moment-late late =
+    pub moment-late : ltb (present + delay) 18446744073709551616 ≡ false → GoesOn listing present (schedule name d e) a a me (Stops 17)
+    unfolding GoesOn left-by executeRows orHalt
+    moment-late late u is =
+        let value = subst (λ (s : ℕ). Evaluates a s d delay) (sym is) after in
         record {
-          outcome = λ n triggers reading go left. rw (sym (after present .equal n (reading .bound)), positive, late);
+          outcome = λ n triggers reading go left. rw (sym (value present .equal n (reading .bound)), positive, late);
           stays = stays-start a;
           clean = λ n triggers reading used clean. clean;
         }
 
-    -- "`A|n|d|e` puts a waiting write of e on n, d milliseconds from now".
-    pub schedules : {m : List ℕ} (t : ℕ) {r : Stepped} → ChangesName a m u name (λ y. scheduledOn y t x) r → Evaluates a (u .me) e x
-        → ltb (present + delay) 18446744073709551616 ≡ true → t ≡ present + delay → Executes listing present (schedule name d e) a m u r
+    scheduled : {m : List ℕ} {t : ℕ} (u : Running) → Evaluates a (u .me) d delay → ChangesName a m (u .me) name (λ y. scheduledOn y t x) → Evaluates a (u .me) e x
+        → ltb (present + delay) 18446744073709551616 ≡ true → t ≡ present + delay
+        → Executes listing present (schedule name d e) a m u (record { answer = Goes; running = u })
     unfolding left-by executeRows orHalt RunsLive named
-    schedules t {r} p value below is =
-        rw (p .goes) (record {
+    scheduled u later p value below is =
+        record {
           outcome = λ n triggers reading go left.
-              rw (sym (after present .equal n (reading .bound)), sym (value present .equal n (reading .bound)), positive, below, rows-named p n, environment-named p n, is);
+              rw (sym (later present .equal n (reading .bound)), sym (value present .equal n (reading .bound)), positive, below, rows-named p n, environment-named p n, is);
           stays = p .stays;
           clean = λ n triggers reading used. p .clean n (reading .bound) used;
-        })
+        }
+
+    -- "`A|n|d|e` puts a waiting write of e on n, d milliseconds from now".
+    pub schedules : {m : List ℕ} (t : ℕ) → ChangesName a m me name (λ y. scheduledOn y t x) → Evaluates a me e x
+        → ltb (present + delay) 18446744073709551616 ≡ true → t ≡ present + delay → GoesOn listing present (schedule name d e) a m me Goes
+    unfolding GoesOn
+    schedules {m} t p value below is u same =
+        scheduled u (subst (λ (s : ℕ). Evaluates a s d delay) (sym same) after) (subst (λ (s : ℕ). ChangesName a m s name (λ y. scheduledOn y t x)) (sym same) p)
+        (subst (λ (s : ℕ). Evaluates a s e x) (sym same) value) below is

@@ -3,25 +3,22 @@
 use mathlib.Core.Path.{_≡_, refl, ap, _∙_}
 use mathlib.Core.List.{List}
 use Prim.Native.Nat.{ℕ, suc, _≤_, _<_, min}
-use native.Mathlib.Decide.{decLt}
+use native.Mathlib.Decide.{decLt, ℕ-discrete}
 use native.Mathlib.Omega.{arith}
 use lib.ListN.{length}
 use borrow.Author.Tests.{lt-ltb}
 use Rattle.walk.specs.State.{Variable}
-use Rattle.engine_rows.specs.Rows.{Owner, Row, atPlace, ownerOf, withRow, rowsWith, environmentWith, named}
+use Rattle.engine_rows.specs.Rows.{Owner, inEnvironment, inSlot, Row, Rows, atPlace, ownerOf, withOwn, withRow, rowsWith, environmentWith, named}
 use Rattle.engine_blocks.specs.Blocks.{Block, block, ownerAt, variableIn, variablesIn, rowAt, rowsOf, environmentOf}
 use Rattle.engine_blocks.specs.Store.{Store, storeOf, withSlot, withVariable, variableFrom}
 use Rattle.engine_blocks.specs.Changes.{Changes, placedBlock, assignedBlock, scheduledBlock, queuedBlock}
 use Rattle.engine_variables.specs.Bindings.{BoundTo, variablesBeside}
 use Rattle.engine_variables.specs.declared.Binding.{Binding}
-use Rattle.engine_blocks.proofs.RowChanges.{row-of}
+use Rattle.engine_blocks.proofs.RowChanges.{row-of, with-row-same, with-row-other}
 use Rattle.engine_blocks.proofs.Tabulated.{length-tabulate}
 use Rattle.engine_clean.specs.Clean.{CleanSlot, CleanEnvironment, Clean}
 use Rattle.engine_clean.proofs.Whole.{slot-keeps-clean, environment-keeps-clean, assigned-slot, scheduled-slot, assigned-environment, scheduled-environment}
 use Rattle.engine_evaluate.specs.Bound.{numberOf, bindingsOf, Bound}
-use Rattle.engine_steps.specs.declared.running.Running.{Running}
-use Rattle.engine_steps.specs.declared.running.Answer.the-variants.{Goes}
-use Rattle.engine_steps.specs.declared.running.Stepped.{Stepped}
 use Rattle.engine_steps.specs.Outcome.{ChangesName}
 use Rattle.engine_steps.proofs.Stores.{change-stays, stays-then, placed-clean}
 
@@ -67,38 +64,57 @@ module _ {a b : List ℕ} {s n : ℕ} (i : ℕ) (h : s ≤ 64) (there : numberOf
       variable-clean (λ c. queuedBlock (scheduledBlock i t v c)) change p h there (λ c d l. scheduled-slot c i d l t v pos) (λ c d l. scheduled-environment n c i d l t v pos)
 
 -- ── through a name's binding ──────────────────────────────────────────────────────────────────────
-module _ {a b m : List ℕ} (u : Running) (name : ℕ) (binding : Binding) (bound : BoundTo (rowsOf a (u .me)) name binding)
-    (few : name < length (bindingsOf a (u .me))) (small : u .me < 64) {c : Block} (change : Variable → Variable)
+module _ {a b m : List ℕ} (me : ℕ) (name : ℕ) (binding : Binding) (bound : BoundTo (rowsOf a me) name binding)
+    (few : name < length (bindingsOf a me)) (small : me < 64) {c : Block} (change : Variable → Variable)
     (p : Changes (binding .block) a b c (withVariable (ownerAt (binding .block) (binding .index)) change))
-    (q : Changes (u .me) b m (placedBlock (block b (u .me)) (suc ((rowsOf a (u .me)) .place))) (withSlot (u .me) (λ row. atPlace row (suc ((rowsOf a (u .me)) .place))))) where
-  pub name-there : (n : ℕ) → Bound (storeOf n a) (bindingsOf a (u .me))
+    (q : Changes me b m (placedBlock (block b me) (suc ((rowsOf a me) .place))) (withSlot me (λ row. atPlace row (suc ((rowsOf a me) .place))))) where
+  pub name-there : (n : ℕ) → Bound (storeOf n a) (bindingsOf a me)
       → numberOf (ownerAt (binding .block) (binding .index)) < length (variablesBeside (storeOf n a) (ownerAt (binding .block) (binding .index)))
   name-there n all = rw (bound .owner few) (all .there name few)
 
   pub changes-name : ((n : ℕ) → numberOf (ownerAt (binding .block) (binding .index)) < length (variablesBeside (storeOf n a) (ownerAt (binding .block) (binding .index)))
-      → Clean n a → Clean n b) → ChangesName a m u name change (record { answer = Goes; running = u })
+      → Clean n a → Clean n b) → ChangesName a m me name change
   changes-name keeps =
       record {
-        goes = refl;
         store = λ n.
-            q .store n ∙ ap (withSlot (u .me) (λ (row : Row). atPlace row (suc ((rowsOf a (u .me)) .place)))) (p .store n ∙
+            q .store n ∙ ap (withSlot me (λ (row : Row). atPlace row (suc ((rowsOf a me) .place)))) (p .store n ∙
             ap (λ (o : Owner). withVariable o change (storeOf n a)) (bound .owner few));
         stays = stays-then (change-stays p) (change-stays q);
-        clean = λ n all used clean. placed-clean (suc ((rowsOf a (u .me)) .place)) q small used (keeps n (name-there n all) clean);
+        clean = λ n all used clean. placed-clean (suc ((rowsOf a me) .place)) q small used (keeps n (name-there n all) clean);
       }
+
+-- ── a variable changed in its row ─────────────────────────────────────────────────────────────────
+pub same-routine : (σ : Rows) (o : Owner) (x : Variable) (s : ℕ) → (rowsWith σ o x s) .routine ≡ (σ s) .routine
+unfolding rowsWith withOwn
+same-routine σ (inEnvironment a) x s = refl
+same-routine σ (inSlot p i) x s = go (ℕ-discrete s p)
+  where
+    go : Dec (s ≡ p) → (rowsWith σ (inSlot p i) x s) .routine ≡ (σ s) .routine
+    go (yes e) = rw e (ap (λ (r : Row). r .routine) (with-row-same σ p _))
+    go (no d) = ap (λ (r : Row). r .routine) (with-row-other σ p _ s d)
 
 -- ── rows and environment after a name's change ────────────────────────────────────────────────────
 -- The variable that the name stands for, changed.
 abbrev pub newVariable : List ℕ → ℕ → ℕ → (Variable → Variable) → ℕ → Variable
 newVariable a me name change n = change (named (rowsOf a) (environmentOf n a) (bindingsOf a me) name)
 
-module _ {a m : List ℕ} {u : Running} {name : ℕ} {change : Variable → Variable} {r : Stepped} (p : ChangesName a m u name change r) (n : ℕ) where
+module _ {a m : List ℕ} {me : ℕ} {name : ℕ} {change : Variable → Variable} (p : ChangesName a m me name change) (n : ℕ) where
   pub rows-named : rowsOf m ≡
-      withRow (rowsWith (rowsOf a) (ownerOf (bindingsOf a (u .me)) name) (newVariable a (u .me) name change n)) (u .me)
-      (atPlace (rowsWith (rowsOf a) (ownerOf (bindingsOf a (u .me)) name) (newVariable a (u .me) name change n) (u .me)) (suc ((rowsOf a (u .me)) .place)))
+      withRow (rowsWith (rowsOf a) (ownerOf (bindingsOf a me) name) (newVariable a me name change n)) me
+      (atPlace (rowsWith (rowsOf a) (ownerOf (bindingsOf a me) name) (newVariable a me name change n) me) (suc ((rowsOf a me) .place)))
   unfolding storeOf withSlot withVariable variableFrom named
   rows-named = ap (λ (x : Store). x .rows) (p .store n)
 
-  pub environment-named : environmentOf n m ≡ environmentWith (ownerOf (bindingsOf a (u .me)) name) (environmentOf n a) (newVariable a (u .me) name change n)
+  pub environment-named : environmentOf n m ≡ environmentWith (ownerOf (bindingsOf a me) name) (environmentOf n a) (newVariable a me name change n)
   unfolding storeOf withSlot withVariable variableFrom named
   environment-named = ap (λ (x : Store). x .environment) (p .store n)
+
+  pub routine-named : (rowsOf m me) .routine ≡ (rowsOf a me) .routine
+  unfolding storeOf withSlot withVariable atPlace
+  routine-named =
+      ap (λ (x : Store). (x .rows me) .routine) (p .store n) ∙ ap (λ (r : Row). r .routine) (with-row-same _ me _) ∙
+      same-routine (rowsOf a) (ownerOf (bindingsOf a me) name) _ me
+
+  pub place-named : (rowsOf m me) .place ≡ suc ((rowsOf a me) .place)
+  unfolding storeOf withSlot withVariable atPlace
+  place-named = ap (λ (x : Store). (x .rows me) .place) (p .store n) ∙ ap (λ (r : Row). r .place) (with-row-same _ me _)

@@ -27,9 +27,9 @@ evaluate-requires c κs = search needs
 owner-requires : tie.Need-owner-requires
 owner-requires c κs =
     let past = c .before .before .before .before .before in
-    let few = names-few (now (past .args .m)) (past .args .running .me) (past .pre .0 .runs .slot) in
-    let there = past .pre .0 .there in
-    (past .pre .0 .runs .size, past .pre .0 .runs .slot, omega arith)
+    let few = names-few (now (past .args .m)) (past .args .running .me) (past .pre .0 .changes .runs .slot) in
+    let there = past .pre .0 .changes .there in
+    (past .pre .0 .changes .runs .size, past .pre .0 .changes .runs .slot, omega arith)
 
 low-requires : tie.Need-low-requires
 low-requires c κs = search needs
@@ -41,7 +41,7 @@ place-requires : tie.Need-place-requires
 place-requires c κs = search needs
 
 add-next : tie.Need-add-next
-add-next c = let e = c .place .ensures in let n = c .before .before .before .before .before .before .before .before .before .before .before .before .before .pre .0 .runs .next in record { fits = omega arith }
+add-next c = let e = c .place .ensures in let n = c .before .before .before .before .before .before .before .before .before .before .before .before .before .pre .0 .changes .runs .next in record { fits = omega arith }
 
 assign-requires : tie.Need-assign-requires
 assign-requires c κs = search needs
@@ -63,12 +63,12 @@ returns c =
     let value = earlier .before .before .before .before .evaluate .result in
     let binding = earlier .before .before .owner .result in
     let bound = earlier .before .before .owner .ensures in
-    let few = former .pre .0 .there in
+    let few = former .pre .0 .changes .there in
     let here = (rowsOf (now (a .m)) (u .me)) .place in
     let next : past .before .before .place .result + 1 ≡ suc here = rw add-one (ap suc (past .before .before .place .ensures)) in
     let p = past .assign .ensures moment in
     let q = placed-as (past .before .before .place .result + 1) (suc here) next (c .before .before .set-place .ensures) in
-    let changed = changes-name u (a .name) binding bound few (former .pre .0 .runs .slot) (λ (y : Variable). writtenTo moment y value) p q
+    let changed = changes-name (u .me) (a .name) binding bound few (former .pre .0 .changes .runs .slot) (λ (y : Variable). writtenTo moment y value) p q
     (λ n there. assigned-all (binding .index) (bound .block) there value p) in
     let woken = past .before .before .before .before .wake in
     let low = earlier .low in

@@ -1,4 +1,4 @@
--- `schedule_step` meets its contract.
+-- `schedule_on` meets its contract.
 use denote.Ref.{now}
 use mathlib.Core.Path.{_≡_, refl, sym, ap, _∙_}
 use mathlib.Core.Bool.{true, false}
@@ -9,9 +9,14 @@ use borrow.Author.Tests.{not-true, not-false}
 use Rattle.words.specs.Words.{isPositive}
 use Rattle.words.specs.Moments.{laterAt, stopsWith, laterMoment, laterOf}
 use Rattle.table.specs.Decode.{piecesAt}
+use Rattle.engine_steps.specs.Outcome.{GoesOn, Onwards}
+use Rattle.engine_rows.specs.Rows.{Row}
+use Rattle.engine_blocks.specs.Blocks.{rowsOf}
+use native.Mathlib.Numerals.{add-one}
+use Rattle.engine_write_steps.proofs.Writing.{place-named, routine-named}
 use Rattle.engine_write_steps.proofs.Changing.{positive-some, later-at, too-late, delay-short, moment-late, schedules}
-use Rattle.engine_write_steps.proofs.writes.schedule_step.Statement.{statement}
-use Rattle.engine_write_steps.proofs.writes.schedule_step.Tie as tie
+use Rattle.engine_write_steps.proofs.writes.schedule_on.Statement.{statement}
+use Rattle.engine_write_steps.proofs.writes.schedule_on.Tie as tie
 
 evaluate-requires : tie.Need-evaluate-requires
 evaluate-requires c κs = search needs
@@ -32,10 +37,11 @@ same-length : tie.Need-same-length
 same-length c = search needs
 
 returns : tie.Need-returns
+unfolding Onwards GoesOn
 returns c = λ listing.
     let a = c .before .before .before .before .before .before .before .before .args in
     let short : isPositive (c .before .before .before .before .evaluate .result) ≡ false = sym (c .before .is-positive .ensures) ∙ not-true _ (c .if1 .taken) in
-    delay-short (a .running) (a .name) (c .before .before .before .before .evaluate .result) (c .before .before .evaluate2 .result) (a .present .0) (piecesAt (now (a .t)) (a .cells) (a .first))
+    delay-short (a .me) (a .name) (c .before .before .before .before .evaluate .result) (c .before .before .evaluate2 .result) (a .present .0) (piecesAt (now (a .t)) (a .cells) (a .first))
     (piecesAt (now (a .t)) (a .cells + 2 * a .first) (a .second)) listing (c .before .before .before .before .evaluate .ensures) short
 
 later-moment-requires : tie.Need-later-moment-requires
@@ -58,6 +64,9 @@ schedule-at-requires c κs =
     let is = l .1 in
     (earlier .pre .0, omega arith)
 
+add-next : tie.Need-add-next
+add-next c = search needs
+
 enum-told : tie.Need-enum-told
 enum-told c = search needs
 
@@ -65,6 +74,7 @@ same-length-2 : tie.Need-same-length-2
 same-length-2 c = search needs
 
 returns-2 : tie.Need-returns-2
+unfolding Onwards GoesOn
 returns-2 c =
     let past = c .before .before .before .before .before in
     let earlier = past .before .before .before .before .before in
@@ -75,14 +85,21 @@ returns-2 c =
     let positive : isPositive delay ≡ true = sym (past .before .before .before .before .is-positive .ensures) ∙ not-false _ (past .before .before .before .if1 .left) in
     let e : laterAt due ≡ laterMoment (a .present .0) delay = sym (ap laterOf (past .moment .given .1)) ∙ past .before .before .later-moment .ensures in
     let l = later-at (a .present .0) delay due e in
-    schedules (a .running) (a .name) delay (earlier .evaluate2 .result) (a .present .0) (piecesAt (now (a .t)) (a .cells) (a .first))
-    (piecesAt (now (a .t)) (a .cells + 2 * a .first) (a .second)) listing (earlier .before .before .evaluate .ensures) positive due (c .before .before .schedule-at .ensures)
-    (earlier .evaluate2 .ensures) (l .0) (l .1)
+    let changed = c .before .before .schedule-at .ensures in
+    let here = (rowsOf (now (a .m)) (a .me)) .place in
+    let next : a .place + 1 ≡ suc here = rw add-one (ap suc (earlier .before .before .before .before .before .before .pre .0 .runs .here)) in (
+      place-named changed 0 ∙ sym next,
+      routine-named changed 0,
+      schedules (a .me) (a .name) delay (earlier .evaluate2 .result) (a .present .0) (piecesAt (now (a .t)) (a .cells) (a .first))
+          (piecesAt (now (a .t)) (a .cells + 2 * a .first) (a .second)) listing (earlier .before .before .evaluate .ensures) positive due changed
+          (earlier .evaluate2 .ensures) (l .0) (l .1),
+    )
 
 same-length-3 : tie.Need-same-length-3
 same-length-3 c = search needs
 
 returns-3 : tie.Need-returns-3
+unfolding Onwards GoesOn
 returns-3 c =
     let past = c .before .before .before .before .before in
     λ listing.
@@ -90,11 +107,11 @@ returns-3 c =
     let delay = past .before .before .evaluate .result in
     let positive : isPositive delay ≡ true = sym (c .before .before .before .before .is-positive .ensures) ∙ not-false _ (c .before .before .before .if1 .left) in
     let e : stopsWith 17 ≡ laterMoment (a .present .0) delay = sym (ap laterOf (c .enum-told .given .1)) ∙ c .before .before .later-moment .ensures in
-    moment-late (a .running) (a .name) delay (past .evaluate2 .result) (a .present .0) (piecesAt (now (a .t)) (a .cells) (a .first))
+    moment-late (a .me) (a .name) delay (past .evaluate2 .result) (a .present .0) (piecesAt (now (a .t)) (a .cells) (a .first))
     (piecesAt (now (a .t)) (a .cells + 2 * a .first) (a .second)) listing (past .before .before .evaluate .ensures) positive (too-late (a .present .0) delay e)
 
-pub schedule-step-spec : {M : Type 1} → statement M
-schedule-step-spec =
+pub schedule-on-spec : {M : Type 1} → statement M
+schedule-on-spec =
     tie.close
     (tie.spec
     evaluate-requires
@@ -107,6 +124,7 @@ schedule-step-spec =
     later-moment-requires
     enum-known-moment
     schedule-at-requires
+    add-next
     enum-told
     same-length-2
     returns-2

@@ -1,7 +1,9 @@
 -- What the piece in a cell asks and does, by the number of its kind.
-use mathlib.Core.Path.{_≡_, refl, ap, _∙_}
+use mathlib.Core.Path.{_≡_, refl, sym, ap, _∙_}
+use mathlib.Core.Bool.{Bool, true, false, _&&_}
 use mathlib.Core.List.{List, _∷_}
-use Prim.Native.Nat.{ℕ, _+_, _≤_, _<_}
+use Prim.Native.Nat.{ℕ, zero, suc, _+_, _≤_, _<_}
+use lib.Dec.{eqb, leb}
 use native.Mathlib.Omega.{arith}
 use lib.ListN.{length}
 use borrow.Author.Tests.{ne-eqb, ltb-true, leb-true}
@@ -13,8 +15,14 @@ use Rattle.table.specs.Decode.{word, noPiece, pieceOf, pieceAt}
 use Rattle.walk.specs.State.{Variable}
 use Rattle.walk.specs.Memory.{operate, evaluatePiece}
 use Rattle.engine_evaluate.specs.Bound.{bindingsOf, FromNames}
-use Rattle.engine_evaluate.specs.Values.{held, signOf, Pushed, Operated}
-use Rattle.engine_evaluate.specs.Evaluable.{MayCome, Past}
+use Rattle.engine_evaluate.specs.Values.{heldBy, signOf, isSign, Pushed, Operated}
+use Rattle.engine_evaluate.specs.declared.stack.Held.{Held}
+use Rattle.engine_evaluate.specs.Evaluable.{PieceStands, MayCome, Adds, Past}
+
+-- both of two tests
+pub both : (x y : Bool) → x && y ≡ true → (x ≡ true) × (y ≡ true)
+both true y h = (refl, h)
+both false y h = let z : _≡_ {A = ℕ} 0 1 = cc in absurd (omega arith)
 
 -- ── the piece ────────────────────────────────────────────────────────────────────
 -- a number that is no kind's
@@ -22,10 +30,12 @@ pub record NoKind (kind : ℕ) : Type 0 where
   pub not0 : kind ≡ 0 → ⊥
   pub not1 : kind ≡ 1 → ⊥
   pub not2 : kind ≡ 2 → ⊥
-  pub not3 : kind ≡ 3 → ⊥
-  pub not4 : kind ≡ 4 → ⊥
-  pub not5 : kind ≡ 5 → ⊥
-  pub not6 : kind ≡ 6 → ⊥
+  pub no-sign : isSign kind ≡ false
+
+other-than-sign : (kind sign : ℕ) → isSign kind ≡ false → isSign sign ≡ true → kind ≡ sign → ⊥
+other-than-sign kind sign is-none is-one e =
+    let clash : false ≡ true = sym is-none ∙ (ap isSign e ∙ is-one) in
+    let z : _≡_ {A = ℕ} 0 1 = cc in absurd (omega arith)
 
 module _ (t : List ℕ) (a : ℕ) where
   -- the piece of kind k with the cell's value
@@ -40,67 +50,85 @@ module _ (t : List ℕ) (a : ℕ) where
   unfolding pieceOf
   no-piece n =
       let k = word t a in
-      by-kind k refl ∙ rw (ne-eqb k 0 (n .not0), ne-eqb k 1 (n .not1), ne-eqb k 2 (n .not2), ne-eqb k 3 (n .not3), ne-eqb k 4 (n .not4), ne-eqb k 5 (n .not5), ne-eqb k 6 (n .not6))
+      let other : (sign : ℕ) → isSign sign ≡ true → eqb k sign ≡ false = λ sign is-one. ne-eqb k sign (other-than-sign k sign (n .no-sign) is-one) in
+      by-kind k refl ∙ rw (ne-eqb k 0 (n .not0), ne-eqb k 1 (n .not1), ne-eqb k 2 (n .not2), other 3 refl, other 4 refl, other 5 refl, other 6 refl)
 
--- ── what it asks ─────────────────────────────────────────────────────────────────
-module _ {t m values : List ℕ} {me a count : ℕ} (asked : MayCome t m me a values count) where
-  pub room-for-one : (k : ℕ) → word t a ≡ k → effectOf (Of t a k) ≡ adds → count < 8
-  unfolding mayCome
-  room-for-one k e f = ltb-true count 8 (rw (by-kind t a k e, f) at (asked .room))
-
-  pub room-for-none : NoKind (word t a) → count < 8
-  unfolding mayCome effectOf
-  room-for-none n = ltb-true count 8 (rw (no-piece t a n) at (asked .room))
-
-  pub two-for-sign : (k : ℕ) → word t a ≡ k → effectOf (Of t a k) ≡ joins → 2 ≤ count
-  unfolding mayCome
-  two-for-sign k e f = leb-true 2 count (rw (by-kind t a k e, f) at (asked .room))
-
-  pub value-is-there : word t a ≡ 1 → word t (a + 1) < length (bindingsOf m me)
+-- ── a piece that adds a value ────────────────────────────────────────────────────
+module _ {t m : List ℕ} {me a : ℕ} where
+  pub value-is-there : PieceStands t m me a → word t a ≡ 1 → word t (a + 1) < length (bindingsOf m me)
   unfolding pieceIsThere pieceOf
-  value-is-there e = ltb-true (word t (a + 1)) (length (bindingsOf m me)) (rw (by-kind t a 1 e) at (asked .name))
+  value-is-there stands e = ltb-true (word t (a + 1)) (length (bindingsOf m me)) (rw (by-kind t a 1 e) at (stands .name))
 
-  pub mark-is-there : word t a ≡ 2 → word t (a + 1) < length (bindingsOf m me)
+  pub mark-is-there : PieceStands t m me a → word t a ≡ 2 → word t (a + 1) < length (bindingsOf m me)
   unfolding pieceIsThere pieceOf
-  mark-is-there e = ltb-true (word t (a + 1)) (length (bindingsOf m me)) (rw (by-kind t a 2 e) at (asked .name))
+  mark-is-there stands e = ltb-true (word t (a + 1)) (length (bindingsOf m me)) (rw (by-kind t a 2 e) at (stands .name))
 
--- ── what it does ─────────────────────────────────────────────────────────────────
-module _ {t m before after : List ℕ} {me a count r : ℕ} where
-  -- a piece that adds a value
-  past-one : (p : Piece) {v : ℕ} → pieceAt t a ≡ p → effectOf p ≡ adds → ((moment : ℕ) → FromNames m me (λ names. evaluatePiece moment names p (held before count)) (v ∷ held before count))
-      → Pushed before count v after r → Past t m me a before count after r
+  adds-one : (p : Piece) {v : ℕ} → pieceAt t a ≡ p → effectOf p ≡ adds → ((moment : ℕ) (below : List ℕ) → FromNames m me (λ names. evaluatePiece moment names p below) (v ∷ below))
+      → Adds t m me a v
+  adds-one p e f from = record { effect = rw e f; values = λ moment below. rw e (from moment below) }
+
+  pub adds-literal : word t a ≡ 0 → Adds t m me a (word t (a + 1))
+  unfolding effectOf pieceOf evaluatePiece
+  adds-literal e = adds-one (Of t a 0) (by-kind t a 0 e) refl (λ moment below. record { equal = λ n bound. refl })
+
+  pub adds-none : NoKind (word t a) → Adds t m me a 0
+  unfolding effectOf evaluatePiece
+  adds-none n = adds-one noPiece (no-piece t a n) refl (λ moment below. record { equal = λ n bound. refl })
+
+  pub adds-value : {v : ℕ} → word t a ≡ 1 → FromNames m me (λ names. (names (word t (a + 1))) .value) v → Adds t m me a v
+  unfolding effectOf pieceOf evaluatePiece
+  adds-value e f = adds-one (Of t a 1) (by-kind t a 1 e) refl (λ moment below. record { equal = λ n bound. ap (λ (v : ℕ). v ∷ below) (f .equal n bound) })
+
+  pub adds-mark : {v : ℕ} → word t a ≡ 2 → FromNames m me (λ names. bit ((names (word t (a + 1))) .written)) v → Adds t m me a v
+  unfolding effectOf pieceOf evaluatePiece
+  adds-mark e f = adds-one (Of t a 2) (by-kind t a 2 e) refl (λ moment below. record { equal = λ n bound. ap (λ (v : ℕ). v ∷ below) (f .equal n bound) })
+
+  pub room-for-one : {values : List ℕ} {count v : ℕ} → MayCome t m me a values count → Adds t m me a v → count < 8
+  unfolding mayCome
+  room-for-one {count = count} asked adding = ltb-true count 8 (rw (adding .effect) at (asked .room))
+
+  pub past-added : {before after : List ℕ} {h r : Held} {v : ℕ} → Adds t m me a v → Pushed before h v after r → Past t m me a before h after r
   unfolding heldWith
-  past-one p e f from o =
+  past-added {before = before} {h = h} adding o =
       record {
         size = o .size;
-        counted = rw (e, f) (o .counted);
-        values = λ moment. record { equal = λ n bound. rw e (o .values ∙ from moment .equal n bound) };
+        counted = rw (adding .effect) (o .counted);
+        values = λ moment. record { equal = λ n bound. o .values ∙ adding .values moment (heldBy before h) .equal n bound };
       }
 
-  pub past-literal : word t a ≡ 0 → Pushed before count (word t (a + 1)) after r → Past t m me a before count after r
-  unfolding effectOf pieceOf evaluatePiece
-  past-literal e o = past-one (Of t a 0) (by-kind t a 0 e) refl (λ moment. record { equal = λ n bound. refl }) o
+-- ── a sign ───────────────────────────────────────────────────────────────────────
+-- a piece that joins the two on top as f says
+pub record JoinsBy (f : ℕ → ℕ → ℕ) (p : Piece) : Type 0 where
+  pub effect : effectOf p ≡ joins
+  pub values : (moment : ℕ) (names : ℕ → Variable) (values : List ℕ) → operate f values ≡ evaluatePiece moment names p values
 
-  pub past-none : NoKind (word t a) → Pushed before count 0 after r → Past t m me a before count after r
-  unfolding effectOf evaluatePiece
-  past-none n o = past-one noPiece (no-piece t a n) refl (λ moment. record { equal = λ n bound. refl }) o
+sign-joins : (kind v : ℕ) → 3 ≤ kind → kind ≤ 6 → JoinsBy (signOf kind) (pieceOf kind v)
+unfolding effectOf pieceOf signOf evaluatePiece
+sign-joins zero v low high = absurd (omega arith)
+sign-joins (suc zero) v low high = absurd (omega arith)
+sign-joins (suc (suc zero)) v low high = absurd (omega arith)
+sign-joins (suc (suc (suc zero))) v low high = record { effect = refl; values = λ moment names values. refl }
+sign-joins (suc (suc (suc (suc zero)))) v low high = record { effect = refl; values = λ moment names values. refl }
+sign-joins (suc (suc (suc (suc (suc zero))))) v low high = record { effect = refl; values = λ moment names values. refl }
+sign-joins (suc (suc (suc (suc (suc (suc zero)))))) v low high = record { effect = refl; values = λ moment names values. refl }
+sign-joins (suc (suc (suc (suc (suc (suc (suc kind))))))) v low high = absurd (omega arith)
 
-  pub past-value : {v : ℕ} → word t a ≡ 1 → FromNames m me (λ names. (names (word t (a + 1))) .value) v → Pushed before count v after r → Past t m me a before count after r
-  unfolding effectOf pieceOf evaluatePiece
-  past-value e f o = past-one (Of t a 1) (by-kind t a 1 e) refl (λ moment. record { equal = λ n bound. ap (λ (v : ℕ). v ∷ held before count) (f .equal n bound) }) o
+joins-by : (t : List ℕ) (a : ℕ) → isSign (word t a) ≡ true → JoinsBy (signOf (word t a)) (pieceAt t a)
+joins-by t a is-one =
+    let kind = word t a in
+    let within = both (leb 3 kind) (leb kind 6) is-one in
+    rw (by-kind t a kind refl) (sign-joins kind (word t (a + 1)) (leb-true 3 kind (within .0)) (leb-true kind 6 (within .1)))
 
-  pub past-mark : {v : ℕ} → word t a ≡ 2 → FromNames m me (λ names. bit ((names (word t (a + 1))) .written)) v → Pushed before count v after r → Past t m me a before count after r
-  unfolding effectOf pieceOf evaluatePiece
-  past-mark e f o = past-one (Of t a 2) (by-kind t a 2 e) refl (λ moment. record { equal = λ n bound. ap (λ (v : ℕ). v ∷ held before count) (f .equal n bound) }) o
+module _ {t m values : List ℕ} {me a : ℕ} where
+  pub two-for-sign : {count : ℕ} → MayCome t m me a values count → isSign (word t a) ≡ true → 2 ≤ count
+  unfolding mayCome
+  two-for-sign {count} asked is-one = leb-true 2 count (rw (joins-by t a is-one .effect) at (asked .room))
 
-  -- a sign, whose number has its value
-  pub past-sign : (k : ℕ) → word t a ≡ k → effectOf (Of t a k) ≡ joins
-      → ((moment : ℕ) (names : ℕ → Variable) → operate (signOf k) (held before count) ≡ evaluatePiece moment names (Of t a k) (held before count))
-      → Operated before count (word t a) after r → Past t m me a before count after r
+  pub past-joined : {h r : Held} → isSign (word t a) ≡ true → length values ≡ 8 → Operated values h (word t a) r → Past t m me a values h values r
   unfolding heldWith
-  past-sign k e f is o =
+  past-joined {h} is-one size o =
       record {
-        size = o .size;
-        counted = rw (by-kind t a k e, f) (o .counted);
-        values = λ moment. record { equal = λ n bound. rw (by-kind t a k e) (o .values ∙ ap (λ (j : ℕ). operate (signOf j) (held before count)) e ∙ is moment _) };
+        size = size;
+        counted = rw (joins-by t a is-one .effect) (o .counted);
+        values = λ moment. record { equal = λ n bound. o .joined ∙ joins-by t a is-one .values moment _ (heldBy values h) };
       }

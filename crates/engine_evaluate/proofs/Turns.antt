@@ -1,10 +1,10 @@
 -- The loop over an expression's pieces: what holds before each piece.
 use mathlib.Core.Path.{_≡_, refl, sym, ap, _∙_}
-use mathlib.Core.Bool.{Bool, true, false, _&&_}
+use mathlib.Core.Bool.{true}
 use mathlib.Core.List.{List, _∷_}
 use Prim.Native.Nat.{ℕ, zero, suc, _+_, _*_, _-_, _≤_, _<_}
 use native.Mathlib.Omega.{arith}
-use lib.ListN.{length, getD}
+use lib.ListN.{length}
 use borrow.Author.Tests.{eqb-true}
 use Rattle.listing.specs.Lists.{all}
 use Rattle.listing.specs.Expressions.{effectOf, mayCome, heldWith, leavesOneFrom}
@@ -13,40 +13,38 @@ use Rattle.listing.specs.Questions.{pieceIsThere}
 use Rattle.table.specs.Decode.{pieceAt, cellsAt, piecesAt}
 use Rattle.walk.specs.Memory.{top, evaluatePieces, evaluateBy}
 use Rattle.engine_blocks.specs.Store.{storeOf}
+use Rattle.engine_evaluate.proofs.Pieces.{both}
 use Rattle.engine_evaluate.specs.Bound.{Bound, bindingsOf, variableNamed}
-use Rattle.engine_evaluate.specs.Values.{held}
-use Rattle.engine_evaluate.specs.Evaluable.{Evaluable, MayCome, Past}
+use Rattle.engine_evaluate.specs.Values.{held, heldBy}
+use Rattle.engine_evaluate.specs.declared.stack.Held.{Held}
+use Rattle.engine_evaluate.specs.Evaluable.{Evaluable, PieceStands, MayCome, Past}
 use Rattle.engine_evaluate.specs.Evaluable.{Evaluates}
 
 -- ── the pieces from one on ───────────────────────────────────────────────────────
-both : (x y : Bool) → x && y ≡ true → (x ≡ true) × (y ≡ true)
-both true y h = (refl, h)
-both false y h = let z : _≡_ {A = ℕ} 0 1 = cc in absurd (omega arith)
-
 first-piece : (t : List ℕ) (at left : ℕ) → 0 < left → piecesAt t at left ≡ pieceAt t at ∷ piecesAt t (at + 2) (left - 1)
 unfolding cellsAt
 first-piece t at zero h = absurd (omega arith)
 first-piece t at (suc left) h = let z : suc left - 1 ≡ left = omega arith in rw z
 
 -- ── before each piece ────────────────────────────────────────────────────────────
--- `left` pieces are left, the next one at `at`; `values` holds what those before it made
-pub record Before (t m : List ℕ) (me cells pieces : ℕ) (values : List ℕ) (count at left : ℕ) : Type 0 where
+-- `left` pieces are left, the next one at `at`; h and `values` hold what those before it made
+pub record Before (t m : List ℕ) (me cells pieces : ℕ) (values : List ℕ) (h : Held) (at left : ℕ) : Type 0 where
   pub place : at + 2 * left ≡ cells + 2 * pieces
   pub places : length values ≡ 8
-  pub most : count ≤ 8
-  pub form : leavesOneFrom count (piecesAt t at left) ≡ true
+  pub most : h .count ≤ 8
+  pub form : leavesOneFrom (h .count) (piecesAt t at left) ≡ true
   pub names : all (pieceIsThere (length (bindingsOf m me))) (piecesAt t at left) ≡ true
   pub value : (moment n : ℕ) → Bound (storeOf n m) (bindingsOf m me)
-      → top (evaluatePieces moment (variableNamed n m me) (piecesAt t at left) (held values count)) ≡ evaluateBy moment (variableNamed n m me) (piecesAt t cells pieces)
+      → top (evaluatePieces moment (variableNamed n m me) (piecesAt t at left) (heldBy values h)) ≡ evaluateBy moment (variableNamed n m me) (piecesAt t cells pieces)
 
 module _ {t m : List ℕ} {me cells pieces : ℕ} where
-  pub first-turn : (values : List ℕ) → length values ≡ 8 → Evaluable t m me cells pieces → Before t m me cells pieces values 0 cells pieces
+  pub first-turn : (values : List ℕ) → length values ≡ 8 → Evaluable t m me cells pieces → Before t m me cells pieces values (record { count = 0; top = 0 }) cells pieces
   unfolding held evaluateBy
   first-turn values size evaluable = record { place = refl; places = size; most = omega arith; form = evaluable .form; names = evaluable .names; value = λ moment n bound. refl }
 
-  module _ {values : List ℕ} {count at left : ℕ} (so-far : Before t m me cells pieces values count at left) where
+  module _ {values : List ℕ} {h : Held} {at left : ℕ} (so-far : Before t m me cells pieces values h at left) where
     module _ (some : 0 < left) where
-      split : (mayCome count (effectOf (pieceAt t at)) ≡ true) × (leavesOneFrom (heldWith count (effectOf (pieceAt t at))) (piecesAt t (at + 2) (left - 1)) ≡ true)
+      split : (mayCome (h .count) (effectOf (pieceAt t at)) ≡ true) × (leavesOneFrom (heldWith (h .count) (effectOf (pieceAt t at))) (piecesAt t (at + 2) (left - 1)) ≡ true)
       unfolding leavesOneFrom
       split = both _ _ (rw (first-piece t at left some) at (so-far .form))
 
@@ -54,25 +52,26 @@ module _ {t m : List ℕ} {me cells pieces : ℕ} where
       unfolding all
       there = both _ _ (rw (first-piece t at left some) at (so-far .names))
 
-      pub may-come : Evaluable t m me cells pieces → MayCome t m me at values count
+      pub may-come : Evaluable t m me cells pieces → MayCome t m me at values (h .count)
       may-come evaluable =
-          record { size = evaluable .size; slot = evaluable .slot; inside = omega (arith, evaluable .inside, so-far .place); places = so-far .places; most = so-far .most; room = split .0; name = there .0 }
+          let piece : PieceStands t m me at = record { size = evaluable .size; slot = evaluable .slot; inside = omega (arith, evaluable .inside, so-far .place); name = there .0 } in
+          record { piece = piece; places = so-far .places; most = so-far .most; room = split .0 }
 
-      pub next-turn : {after : List ℕ} {r : ℕ} → Past t m me at values count after r → Before t m me cells pieces after r (at + 2) (left - 1)
+      pub next-turn : {after : List ℕ} {r : Held} → Past t m me at values h after r → Before t m me cells pieces after r (at + 2) (left - 1)
       unfolding evaluatePieces
       next-turn past =
           record {
             place = omega (arith, so-far .place);
             places = past .size;
-            most = rw (past .counted) (held-most count (effectOf (pieceAt t at)) (split .0) (so-far .most));
+            most = rw (past .counted) (held-most (h .count) (effectOf (pieceAt t at)) (split .0) (so-far .most));
             form = rw (past .counted) (split .1);
             names = there .1;
-            value = λ moment n bound. ap (λ (h : List ℕ). top (evaluatePieces moment (variableNamed n m me) (piecesAt t (at + 2) (left - 1)) h)) (past .values moment .equal n bound)
+            value = λ moment n bound. ap (λ (vs : List ℕ). top (evaluatePieces moment (variableNamed n m me) (piecesAt t (at + 2) (left - 1)) vs)) (past .values moment .equal n bound)
                 ∙ (rw (first-piece t at left some) at (so-far .value moment n bound));
           }
 
-    pub last-turn : left ≡ 0 → Evaluates m me (piecesAt t cells pieces) (getD values 0 0)
+    pub last-turn : left ≡ 0 → Evaluates m me (piecesAt t cells pieces) (h .top)
     unfolding leavesOneFrom evaluatePieces cellsAt held top
     last-turn z = λ moment.
-        let one : count ≡ 1 = eqb-true count 1 (rw z at (so-far .form)) in
-        record { equal = λ n bound. sym (ap (λ (k : ℕ). top (held values k)) one) ∙ (rw z at (so-far .value moment n bound)) }
+        let one : h .count ≡ 1 = eqb-true (h .count) 1 (rw z at (so-far .form)) in
+        record { equal = λ n bound. sym (ap (λ (k : ℕ). top (held values k (h .top))) one) ∙ (rw z at (so-far .value moment n bound)) }

@@ -1,17 +1,26 @@
 -- The values held while an expression is evaluated. Document 01: "An expression is postfix".
-use mathlib.Core.Bool.{cond}
+use mathlib.Core.Bool.{Bool, cond, _&&_}
 use mathlib.Core.List.{List, [], _∷_}
 use mathlib.Core.Path.{_≡_}
 use Prim.Native.Nat.{ℕ, zero, suc, _-_}
-use lib.Dec.{eqb}
+use lib.Dec.{eqb, leb}
 use lib.ListN.{length, getD}
 use Rattle.words.specs.Words.{bit, wrappingAdd, wrappingSubtract, wrappingMultiply, signedLess}
 use Rattle.walk.specs.Memory.{operate}
+use Rattle.engine_evaluate.specs.declared.stack.Held.{Held}
 
--- The values held, the last one first: the first `count` places of an array of 8.
-unfoldable pub held : List ℕ → ℕ → List ℕ
-held values zero = []
-held values (suc count) = getD values count 0 ∷ held values count
+-- So many values below the one on top, the last one first: they stand in an array of 8, from place 1 on.
+unfoldable pub below : List ℕ → ℕ → List ℕ
+below values zero = []
+below values (suc count) = getD values (suc count) 0 ∷ below values count
+
+-- All values held, the one on top first.
+unfoldable pub held : List ℕ → ℕ → ℕ → List ℕ
+held values zero top = []
+held values (suc count) top = top ∷ below values count
+
+abbrev pub heldBy : List ℕ → Held → List ℕ
+heldBy values h = held values (h .count) (h .top)
 
 -- "`+ - * <`", by the number of the piece's kind in a table: 3, 4, 5, 6.
 unfoldable pub signOf : ℕ → ℕ → ℕ → ℕ
@@ -19,14 +28,17 @@ signOf kind x y =
     cond (eqb kind 3) (wrappingAdd x y) (cond (eqb kind 4) (wrappingSubtract x y)
     (cond (eqb kind 5) (wrappingMultiply x y) (cond (eqb kind 6) (bit (signedLess x y)) 0)))
 
--- One value more is held, v on top; r is their number.
-pub record Pushed (before : List ℕ) (count v : ℕ) (after : List ℕ) (r : ℕ) : Type 0 where
+-- Whether a kind's number is a sign's.
+abbrev pub isSign : ℕ → Bool
+isSign kind = leb 3 kind && leb kind 6
+
+-- One value more is held, v on top.
+pub record Pushed (before : List ℕ) (h : Held) (v : ℕ) (after : List ℕ) (r : Held) : Type 0 where
   pub size : length after ≡ 8
-  pub counted : r ≡ suc count
-  pub values : held after r ≡ v ∷ held before count
+  pub counted : r .count ≡ suc (h .count)
+  pub values : heldBy after r ≡ v ∷ heldBy before h
 
 -- The two values on top are joined by the sign.
-pub record Operated (before : List ℕ) (count kind : ℕ) (after : List ℕ) (r : ℕ) : Type 0 where
-  pub size : length after ≡ 8
-  pub counted : r ≡ count - 1
-  pub values : held after r ≡ operate (signOf kind) (held before count)
+pub record Operated (values : List ℕ) (h : Held) (kind : ℕ) (r : Held) : Type 0 where
+  pub counted : r .count ≡ h .count - 1
+  pub joined : heldBy values r ≡ operate (signOf kind) (heldBy values h)

@@ -1,22 +1,23 @@
 // An expression's pieces, one after the other. `t` is the table, `m` the machine's memory, `me` the running routine's slot.
+ghost use mathlib.Core.Bool.{false};
+ghost use mathlib.Core.Path.{_≡_};
 ghost use Prim.Native.Nat.{_<_};
 ghost use lib.ListN.{length};
 ghost use Rattle.machine.specs.Words.{HasMachine};
 ghost use Rattle.words.specs.Words.{bit};
-ghost use Rattle.table.specs.Decode.{piecesAt};
+ghost use Rattle.table.specs.Decode.{word, piecesAt};
 ghost use Rattle.engine_evaluate.specs.Bound.{bindingsOf, FromNames};
-ghost use Rattle.engine_evaluate.specs.Evaluable.{Evaluable, MayCome, Past, Evaluates};
+ghost use Rattle.engine_evaluate.specs.Evaluable.{Evaluable, PieceStands, MayCome, Adds, Past, Evaluates};
+ghost use Rattle.engine_evaluate.specs.Values.{isSign};
+use crate::stack::Held;
+use crate::stack::is_sign;
 use crate::stack::operate;
 use crate::stack::push;
 use engine_variables::owner;
 use engine_variables::value;
 use engine_variables::written;
 use table::CELL_WORDS;
-use table::LESS;
 use table::LITERAL;
-use table::MINUS;
-use table::PLUS;
-use table::TIMES;
 use table::VALUE_OF;
 use table::WRITTEN_MARK;
 
@@ -42,22 +43,31 @@ fn mark_of(m: &[u32], me: usize, name: u32) -> u32
     if written(m, block, index) { 1 } else { 0 }
 }
 
-// What the piece in the cell at `at` makes of the `count` values held; the new count.
-fn piece(t: &[u32], m: &[u32], me: usize, at: usize, values: &mut [u32; 8], count: usize) -> usize
-    requires { ⌜ MayCome (now t) (now m) me at (now values) count ⌝ }
-    ensures { λ r. ⌜ Past (now (t .entry)) (now (m .entry)) me at (now (values .entry)) count (now (values .exit)) r ⌝ }
+// The value that the piece in the cell at `at` adds, if it is no sign.
+fn operand(t: &[u32], m: &[u32], me: usize, at: usize) -> u32
+    requires { ⌜ PieceStands (now t) (now m) me at × (isSign (word (now t) at) ≡ false) ⌝ }
+    ensures { λ r. ⌜ Adds (now (t .entry)) (now (m .entry)) me at r ⌝ }
+{
+    let v = t[at + 1];
+    match t[at] {
+        LITERAL => v,
+        VALUE_OF => value_of(m, me, v),
+        WRITTEN_MARK => mark_of(m, me, v),
+        _ => 0,
+    }
+}
+
+// What the piece in the cell at `at` makes of the values held. (Signs are told from the others first: one match over all kinds is slower.)
+fn piece(t: &[u32], m: &[u32], me: usize, at: usize, values: &mut [u32; 8], held: Held) -> Held
+    requires { ⌜ MayCome (now t) (now m) me at (now values) (held .count) ⌝ }
+    ensures { λ r. ⌜ Past (now (t .entry)) (now (m .entry)) me at (now (values .entry)) held (now (values .exit)) r ⌝ }
 {
     let kind = t[at];
-    match kind {
-        LITERAL => push(values, count, t[at + 1]),
-        VALUE_OF => push(values, count, value_of(m, me, t[at + 1])),
-        WRITTEN_MARK => push(values, count, mark_of(m, me, t[at + 1])),
-        PLUS => operate(values, count, kind),
-        MINUS => operate(values, count, kind),
-        TIMES => operate(values, count, kind),
-        LESS => operate(values, count, kind),
-        _ => push(values, count, 0),
+    if is_sign(kind) {
+        return operate(values, held, kind);
     }
+    let v = operand(t, m, me, at);
+    push(values, held, v)
 }
 
 // The value of the `pieces` pieces whose cells stand from word `cells` of the table on.
@@ -66,13 +76,13 @@ pub fn evaluate(t: &[u32], m: &[u32], me: usize, cells: usize, pieces: usize) ->
     ensures { λ r. ⌜ Evaluates (now (m .entry)) me (piecesAt (now (t .entry)) cells pieces) r ⌝ }
 {
     let mut values: [u32; 8] = [0; 8];
-    let mut count: usize = 0;
+    let mut held = Held { count: 0, top: 0 };
     let mut at = cells;
     let mut left = pieces;
     while left > 0 {
-        count = piece(t, m, me, at, &mut values, count);
+        held = piece(t, m, me, at, &mut values, held);
         at += CELL_WORDS;
         left -= 1;
     }
-    values[0]
+    held.top
 }

@@ -1,9 +1,9 @@
-// The stack of values held while an expression is evaluated: "never .. more than 8". They stand in the first `count` places of an array,
-// which the caller keeps; the functions here give the new count.
+// The stack of values held while an expression is evaluated: "never .. more than 8". The one on top is handed on by value; those below it
+// stand in an array, which the caller keeps, from place 1 on. (The first push stores a top that is no value in place 0, which is never read.)
 ghost use mathlib.Core.Path.{_≡_};
 ghost use Prim.Native.Nat.{_≤_, _<_};
 ghost use lib.ListN.{length};
-ghost use Rattle.engine_evaluate.specs.Values.{Pushed, Operated, signOf};
+ghost use Rattle.engine_evaluate.specs.Values.{Pushed, Operated, isSign, signOf};
 use table::LESS;
 use table::MINUS;
 use table::PLUS;
@@ -13,13 +13,30 @@ use words::wrapping_add;
 use words::wrapping_multiply;
 use words::wrapping_subtract;
 
+// How many values are held, and the one on top.
+pub struct Held {
+    pub count: usize,
+    pub top: u32,
+}
+
 // One value more.
-pub fn push(values: &mut [u32; 8], count: usize, v: u32) -> usize
-    requires { ⌜ (length (now values) ≡ 8) × (count < 8) ⌝ }
-    ensures { λ r. ⌜ Pushed (now (values .entry)) count v (now (values .exit)) r ⌝ }
+pub fn push(values: &mut [u32; 8], held: Held, v: u32) -> Held
+    requires { ⌜ (length (now values) ≡ 8) × (held .count < 8) ⌝ }
+    ensures { λ r. ⌜ Pushed (now (values .entry)) held v (now (values .exit)) r ⌝ }
 {
-    values[count] = v;
-    count + 1
+    let count = held.count;
+    values[count] = held.top;
+    Held {
+        count: count + 1,
+        top: v,
+    }
+}
+
+// Whether a kind's number is a sign's.
+pub fn is_sign(kind: u32) -> bool
+    ensures { λ r. ⌜ r ≡ isSign kind ⌝ }
+{
+    PLUS <= kind && kind <= LESS
 }
 
 // The sign with this kind's number, between two values.
@@ -35,14 +52,16 @@ fn sign(kind: u32, left: u32, right: u32) -> u32
     }
 }
 
-// The two values on top joined by a sign: the one pushed first is the left.
-pub fn operate(values: &mut [u32; 8], count: usize, kind: u32) -> usize
-    requires { ⌜ (length (now values) ≡ 8) × (2 ≤ count) × (count ≤ 8) ⌝ }
-    ensures { λ r. ⌜ Operated (now (values .entry)) count kind (now (values .exit)) r ⌝ }
+// The two values on top joined by a sign: the one pushed first is the left. It is the last of those below the top.
+pub fn operate(values: &[u32; 8], held: Held, kind: u32) -> Held
+    requires { ⌜ (length (now values) ≡ 8) × (2 ≤ held .count) × (held .count ≤ 8) ⌝ }
+    ensures { λ r. ⌜ Operated (now (values .entry)) held kind r ⌝ }
 {
-    let at = count - 2;
-    let left = values[at];
-    let right = values[at + 1];
-    values[at] = sign(kind, left, right);
-    at + 1
+    let below = held.count - 1;
+    let left = values[below];
+    let right = held.top;
+    Held {
+        count: below,
+        top: sign(kind, left, right),
+    }
 }

@@ -6,10 +6,10 @@ use Rattle.engine_evaluate.proofs.expression.evaluate.Statement.{statem
 use Rattle.engine_evaluate.proofs.expression.evaluate.Tie as tie
 
 abbrev Inv-loop : tie.InvT-loop
-Inv-loop t m me cells pieces values₀ count₀ at₀ left₀ values count at left = Before t m me cells pieces values count at left
+Inv-loop t m me cells pieces values₀ held₀ at₀ left₀ values held at left = Before t m me cells pieces values held at left
 
 abbrev μ-loop : tie.MeasureT-loop
-μ-loop t m me cells pieces values₀ count₀ at₀ left₀ values count at left = left
+μ-loop t m me cells pieces values₀ held₀ at₀ left₀ values held at left = left
 
 loop-holds : tie.Need-loop-holds Inv-loop μ-loop
 loop-holds c =
@@ -33,9 +33,6 @@ loop-again : tie.Need-loop-again Inv-loop μ-loop
 loop-again c =
     next-turn (c .before .before .before .loop .inv) (c .before .before .loop-test .taken) (c .piece .ensures)
 
-array-read-result : tie.Need-array-read-result Inv-loop μ-loop
-array-read-result c = search needs
-
 returns : tie.Need-returns Inv-loop μ-loop
 returns c =
     last-turn (c .before .loop .inv) (omega arith)
@@ -52,5 +49,4 @@ evaluate-spec =
     sub-left
     loop-less
     loop-again
-    array-read-result
     returns)

@@ -19,6 +19,7 @@ mod peer;
 mod plain;
 mod played;
 mod programs;
+mod queues;
 mod random;
 #[cfg(feature = "archive")]
 mod report;

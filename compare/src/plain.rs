@@ -1,39 +1,39 @@
-//! A plain queue engine, the benchmark's peer: rows in arrays, a ready list by priority, trigger
-//! lists, waiting writes in a list. No proofs, no questions on memory; the same programs.
+//! A plain queue engine, the benchmark's peer: the listing decoded once, rows in arrays, a ready list
+//! by priority, trigger lists, waiting writes in a heap. No proofs, no questions on memory; the same
+//! programs. No step allocates, and none decodes.
 
-use crate::flat::{Code, Step};
+use crate::flat::{Code, Field, Operation, OPERATIONS};
 use crate::listing::Program;
+use crate::queues::{Ready, Triggers, Waiting, NAMES, NONE, SLOTS, VARIABLES};
+use std::hint::cold_path;
 
-const SLOTS: usize = 64;
-const NAMES: usize = 16;
-const NONE: u16 = u16::MAX;
-/// The row after the slots is the environment's, for its variables only.
-const ENVIRONMENT: usize = SLOTS;
+/// The slot after the others is the environment's, for its variables only.
+const ENVIRONMENT: usize = SLOTS * NAMES;
+const MAIN: usize = 0;
+const DEEPEST_LEVEL: u8 = 10;
+/// Places for the values that an expression holds: a delay and 8 more are in use; as many as a byte
+/// numbers, so that any byte is in range.
+const HELD: usize = 256;
 
-#[derive(Clone, Copy, Default)]
+#[derive(Clone, Copy)]
 struct Variable {
     value: i32,
-    waiting: i32,
-    due: u64,
-    /// The count of instants in which it was last written; 0 never.
-    written: u64,
-    /// Its place in the list of waiting writes.
-    queued: u16,
     /// The first of its triggers.
     first: u16,
+    /// The count of instants in which it was last written; 0 never.
+    written: u64,
 }
 
 #[derive(Clone, Copy)]
+#[repr(align(64))]
 struct Row {
+    /// The operation to go on with: after its `W` or `F`, else its first.
     at: u32,
     level: u8,
     parent: u8,
     children: u8,
-    own: u8,
+    /// The width of its range of priorities, in bits.
     bits: u8,
-    ready: bool,
-    asleep: bool,
-    priority: u32,
     names: [u16; NAMES],
 }
 
@@ -46,22 +46,70 @@ pub struct Result {
     pub due: Option<u64>,
 }
 
+/// The stop's number, if there is one.
+type Run<T> = std::result::Result<T, u32>;
+
+/// The steps that are left.
+struct Left(u32);
+
+impl Left {
+    #[inline(always)]
+    fn count(&mut self) -> Run<()> {
+        self.0 = self.0.checked_sub(1).ok_or(13u32)?;
+        Ok(())
+    }
+}
+
+/// The values that an expression holds; the last one stands apart.
+struct Held<'a> {
+    below: &'a mut [i32; HELD],
+    depth: u8,
+    top: i32,
+}
+
+impl Held<'_> {
+    #[inline(always)]
+    fn push(&mut self, value: i32) {
+        self.below[self.depth as usize] = self.top;
+        self.depth = self.depth.wrapping_add(1);
+        self.top = value;
+    }
+
+    #[inline(always)]
+    fn two(&mut self, of: impl Fn(i32, i32) -> i32) {
+        self.depth = self.depth.wrapping_sub(1);
+        self.top = of(self.below[self.depth as usize], self.top);
+    }
+
+    /// The value of an expression; none is held any more.
+    #[inline(always)]
+    fn value(&mut self) -> i32 {
+        self.depth = 0;
+        self.top
+    }
+
+    #[inline(always)]
+    fn value_and_delay(&mut self) -> (i32, i32) {
+        let delay = self.below[self.depth.wrapping_sub(1) as usize];
+        (self.value(), delay)
+    }
+}
+
 pub struct Plain {
     code: Code,
-    rows: Vec<Row>,
-    variables: Vec<Variable>,
-    free: Vec<u8>,
-    /// Falling by priority; a place is priority and slot.
-    ready: Vec<u64>,
-    /// The variables that have a waiting write.
-    waiting: Vec<u16>,
-    next_trigger: [u16; 4 * SLOTS],
-    previous_trigger: [u16; 4 * SLOTS],
+    rows: Box<[Row; SLOTS]>,
+    variables: Box<[Variable; VARIABLES]>,
+    /// The slots that are free, as bits, and how many live.
+    free: u64,
+    live: u32,
+    ready: Ready,
+    triggers: Triggers,
+    waiting: Waiting,
     count: u64,
     moment: u64,
-    steps: u32,
-    allowance: u32,
+    steps_left: u32,
     stopped: u32,
+    held: [i32; HELD],
     pub outputs: [(u32, i32); NAMES],
 }
 
@@ -71,32 +119,20 @@ fn refused(number: u32) -> Result {
 
 impl Plain {
     pub fn new(program: &Program) -> Plain {
-        let row = Row {
-            at: 0,
-            level: 0,
-            parent: 0,
-            children: 0,
-            own: 0,
-            bits: 32,
-            ready: false,
-            asleep: false,
-            priority: 0,
-            names: [0; NAMES],
-        };
         Plain {
             code: Code::new(program),
-            rows: vec![row; SLOTS],
-            variables: vec![Variable { queued: NONE, first: NONE, ..Variable::default() }; (SLOTS + 1) * NAMES],
-            free: Vec::with_capacity(SLOTS),
-            ready: Vec::with_capacity(SLOTS),
-            waiting: Vec::with_capacity((SLOTS + 1) * NAMES),
-            next_trigger: [NONE; 4 * SLOTS],
-            previous_trigger: [NONE; 4 * SLOTS],
+            rows: Box::new([Row { at: 0, level: 0, parent: 0, children: 0, bits: 32, names: [0; NAMES] }; SLOTS]),
+            variables: Box::new([Variable { value: 0, first: NONE, written: 0 }; VARIABLES]),
+            free: u64::MAX,
+            live: 0,
+            ready: Ready::new(),
+            triggers: Triggers::new(),
+            waiting: Waiting::new(),
             count: 0,
             moment: 0,
-            steps: 0,
-            allowance: 0,
+            steps_left: 0,
             stopped: 0,
+            held: [0; HELD],
             outputs: [(0, 0); NAMES],
         }
     }
@@ -105,29 +141,21 @@ impl Plain {
         if !(1..=1_000_000).contains(&allowance) {
             return refused(12);
         }
-        let none = Variable { queued: NONE, first: NONE, ..Variable::default() };
-        self.variables.fill(none);
+        self.variables.fill(Variable { value: 0, first: NONE, written: 0 });
         self.waiting.clear();
         self.ready.clear();
-        self.free.clear();
-        self.free.extend((0..SLOTS as u8).rev());
-        for row in &mut self.rows {
-            (row.ready, row.asleep) = (false, false);
-        }
         self.stopped = 0;
+        (self.free, self.live) = (!(1 << MAIN), 1);
         self.open(0, allowance);
-        let slot = self.free.pop().expect("all slots are free") as usize;
         let environment = self.code.inputs + self.code.outputs;
-        let row = &mut self.rows[slot];
-        (row.at, row.level, row.children, row.own, row.bits, row.priority) =
-            (self.code.entries[0].first, 0, 0, 0, 32, 0);
-        row.parent = SLOTS as u8;
-        for k in 0..environment {
-            row.names[k] = (ENVIRONMENT * NAMES + k) as u16;
-        }
-        self.add_locals(slot, 0, environment);
-        let went = self.run(slot);
-        self.close(went)
+        let names = std::array::from_fn(|name| match name.checked_sub(environment) {
+            None => ENVIRONMENT + name,
+            Some(local) => MAIN * NAMES + local,
+        } as u16);
+        self.rows[MAIN] = Row { at: 0, level: 0, parent: SLOTS as u8, children: 0, bits: 32, names };
+        self.ready.priorities[MAIN] = 0;
+        let went = self.run(Some(MAIN));
+        self.close(allowance, went)
     }
 
     pub fn instant(&mut self, t: u64, numbers: &[u32], values: &[u32], allowance: u32) -> Result {
@@ -137,7 +165,7 @@ impl Plain {
         if t <= self.moment {
             return refused(9);
         }
-        if self.due().is_some_and(|due| due < t) {
+        if self.waiting.due().is_some_and(|due| due < t) {
             return refused(10);
         }
         let rising = numbers.windows(2).all(|pair| pair[0] < pair[1]);
@@ -148,294 +176,205 @@ impl Plain {
             return refused(12);
         }
         self.open(t, allowance);
-        self.due_writes();
-        for (&number, &value) in numbers.iter().zip(values) {
-            self.write(ENVIRONMENT * NAMES + number as usize, value as i32, None);
+        while let Some((variable, value)) = self.waiting.take(t) {
+            self.write(variable as usize, value);
         }
-        let went = self.run_ready();
-        self.close(went)
+        for (&number, &value) in numbers.iter().zip(values) {
+            self.write(ENVIRONMENT + number as usize, value as i32);
+        }
+        let went = self.run(None);
+        self.close(allowance, went)
     }
 
     fn open(&mut self, t: u64, allowance: u32) {
         self.count += 1;
         self.moment = t;
-        self.steps = 0;
-        self.allowance = allowance;
+        self.steps_left = allowance;
     }
 
-    fn close(&mut self, went: std::result::Result<(), u32>) -> Result {
+    fn close(&mut self, allowance: u32, went: Run<()>) -> Result {
         if let Err(number) = went {
             self.stopped = number;
             return refused(number);
         }
         let mut listed = 0;
         for k in self.code.inputs..self.code.inputs + self.code.outputs {
-            let variable = &self.variables[ENVIRONMENT * NAMES + k];
+            let variable = &self.variables[ENVIRONMENT + k];
             if variable.written == self.count {
                 self.outputs[listed] = (k as u32, variable.value);
                 listed += 1;
             }
         }
-        Result { number: 0, steps: self.steps, listed: listed as u32, due: self.due() }
+        Result { number: 0, steps: allowance - self.steps_left, listed: listed as u32, due: self.waiting.due() }
     }
 
-    fn due(&self) -> Option<u64> {
-        self.waiting.iter().map(|&v| self.variables[v as usize].due).min()
+    /// A write before the run: a due one, or an input.
+    fn write(&mut self, v: usize, value: i32) {
+        let variable = &mut self.variables[v % VARIABLES];
+        (variable.value, variable.written) = (value, self.count);
+        self.triggers.wake(variable.first, None, &mut self.ready);
     }
 
-    fn due_writes(&mut self) {
-        let mut k = 0;
-        while k < self.waiting.len() {
-            let v = self.waiting[k] as usize;
-            if self.variables[v].due == self.moment {
-                let value = self.variables[v].waiting;
-                self.drop_waiting(v);
-                self.write(v, value, None);
-            } else {
-                k += 1;
-            }
-        }
-    }
-
-    fn drop_waiting(&mut self, v: usize) {
-        let place = self.variables[v].queued;
-        if place != NONE {
-            self.waiting.swap_remove(place as usize);
-            if let Some(&moved) = self.waiting.get(place as usize) {
-                self.variables[moved as usize].queued = place;
-            }
-            self.variables[v].queued = NONE;
-        }
-    }
-
-    /// Writes, and wakes the sleepers after the writer.
-    fn write(&mut self, v: usize, value: i32, writer: Option<u32>) {
-        self.variables[v].value = value;
-        self.variables[v].written = self.count;
-        let mut trigger = self.variables[v].first;
-        while trigger != NONE {
-            let slot = trigger as usize / 4;
-            let row = &mut self.rows[slot];
-            if !row.ready && writer.is_none_or(|priority| row.priority > priority) {
-                row.ready = true;
-                let key = (row.priority as u64) << 8 | slot as u64;
-                self.push(key);
-            }
-            trigger = self.next_trigger[trigger as usize];
-        }
-    }
-
-    fn push(&mut self, key: u64) {
-        let place = self.ready.iter().rposition(|&other| other > key).map_or(0, |p| p + 1);
-        self.ready.insert(place, key);
-    }
-
-    fn run_ready(&mut self) -> std::result::Result<(), u32> {
-        while let Some(key) = self.ready.pop() {
-            let slot = (key & 0xFF) as usize;
-            self.rows[slot].ready = false;
-            if self.rows[slot].asleep {
-                self.leave_triggers(slot);
-                self.rows[slot].at += 1;
-            }
-            self.run_one(slot)?;
+    /// Runs this routine, then the ready ones, until none is left.
+    fn run(&mut self, first: Option<usize>) -> Run<()> {
+        let mut next = first;
+        while let Some(slot) = next.or_else(|| self.take_ready()) {
+            next = match self.go_on(slot)? {
+                Operation::Wait { from, count } => self.sleep(slot, from as usize, count as usize),
+                Operation::Fork { from, count } => self.fork(slot, from as usize, count as usize)?,
+                _ => self.end(slot),
+            };
         }
         Ok(())
     }
 
-    fn run(&mut self, slot: usize) -> std::result::Result<(), u32> {
-        self.run_one(slot)?;
-        self.run_ready()
+    fn take_ready(&mut self) -> Option<usize> {
+        let (slot, asleep) = self.ready.take()?;
+        if asleep {
+            self.awake(slot);
+        }
+        Some(slot)
     }
 
-    /// Runs a routine, and its parent after the last child, until one sleeps.
-    fn run_one(&mut self, mut slot: usize) -> std::result::Result<(), u32> {
+    /// Runs a routine to its next `W`, `F` or `E`, and gives that.
+    #[inline]
+    fn go_on(&mut self, slot: usize) -> Run<Operation> {
+        let Plain { code, rows, variables, ready, triggers, waiting, count, moment, held, .. } = self;
+        let (row, count) = (&mut rows[slot % SLOTS], *count);
+        let (operations, variables) = (&*code.operations, &mut **variables);
+        let variable = |name: u8| row.names[name as usize % NAMES] as usize % VARIABLES;
+        let mut at = row.at as usize;
+        let mut left = Left(self.steps_left);
+        let mut held = Held { below: held, depth: 0, top: 0 };
         loop {
-            if self.steps == self.allowance {
-                return Err(13);
-            }
-            self.steps += 1;
-            let at = self.rows[slot].at;
-            match self.code.steps[at as usize] {
-                Step::Set { name, from, to } => {
-                    let value = self.evaluate(slot, from, to);
-                    let row = &mut self.rows[slot];
-                    row.at = at + 1;
-                    let (v, priority) = (row.names[name as usize] as usize, row.priority);
-                    self.write(v, value, Some(priority));
+            let operation = &operations[at % OPERATIONS];
+            at += 1;
+            match *operation {
+                Operation::Literal(value) => held.push(value),
+                Operation::Value { name } => held.push(variables[variable(name)].value),
+                Operation::Written { name } => held.push((variables[variable(name)].written == count) as i32),
+                Operation::Plus => held.two(i32::wrapping_add),
+                Operation::Minus => held.two(i32::wrapping_sub),
+                Operation::Times => held.two(i32::wrapping_mul),
+                Operation::Less => held.two(|left, right| (left < right) as i32),
+                Operation::Set { name } => {
+                    left.count()?;
+                    let variable = &mut variables[variable(name)];
+                    (variable.value, variable.written) = (held.value(), count);
+                    if variable.first != NONE {
+                        triggers.wake(variable.first, Some(ready.priorities[slot % SLOTS]), ready);
+                    }
                 }
-                Step::After { name, from, middle, to } => {
-                    self.put_waiting(slot, name, (from, middle, to))?;
-                    self.rows[slot].at = at + 1;
+                Operation::After { name } => {
+                    left.count()?;
+                    let (value, delay) = held.value_and_delay();
+                    if delay < 1 {
+                        return Err(16);
+                    }
+                    let due = moment.checked_add(delay as u64).ok_or(17u32)?;
+                    waiting.put(variable(name) as u16, due, value);
                 }
-                Step::Unless { from, to, target } => {
-                    let taken = self.evaluate(slot, from, to) == 0;
-                    self.rows[slot].at = if taken { target } else { at + 1 };
+                Operation::Unless { target } => {
+                    left.count()?;
+                    if held.value() == 0 {
+                        // Keeps this a branch: a conditional move would make what follows wait for the value.
+                        cold_path();
+                        at = target as usize;
+                    }
                 }
-                Step::Go { target } => self.rows[slot].at = target,
-                Step::Wait { from, to } => {
-                    self.enter_triggers(slot, from as usize, to as usize);
-                    return Ok(());
+                Operation::Go { target } => {
+                    left.count()?;
+                    at = target as usize;
                 }
-                Step::Fork { from, to } => {
-                    self.fork(slot, from as usize, to as usize)?;
-                    return Ok(());
+                Operation::Wait { .. } | Operation::Fork { .. } | Operation::End => {
+                    left.count()?;
+                    row.at = at as u32;
+                    self.steps_left = left.0;
+                    return Ok(*operation);
                 }
-                Step::End => match self.end(slot) {
-                    Some(parent) => slot = parent,
-                    None => return Ok(()),
-                },
-            }
-        }
-    }
-
-    fn put_waiting(&mut self, slot: usize, name: u8, parts: (u32, u32, u32)) -> std::result::Result<(), u32> {
-        let delay = self.evaluate(slot, parts.0, parts.1);
-        let value = self.evaluate(slot, parts.1, parts.2);
-        if delay < 1 {
-            return Err(16);
-        }
-        let due = self.moment.checked_add(delay as u64).ok_or(17u32)?;
-        let v = self.rows[slot].names[name as usize];
-        let variable = &mut self.variables[v as usize];
-        (variable.waiting, variable.due) = (value, due);
-        if variable.queued == NONE {
-            variable.queued = self.waiting.len() as u16;
-            self.waiting.push(v);
-        }
-        Ok(())
-    }
-
-    fn enter_triggers(&mut self, slot: usize, from: usize, to: usize) {
-        self.rows[slot].asleep = true;
-        for (j, k) in (from..to).enumerate() {
-            let name = self.code.waited[k] as usize;
-            let variable = &mut self.variables[self.rows[slot].names[name] as usize];
-            let trigger = 4 * slot + j;
-            self.next_trigger[trigger] = variable.first;
-            self.previous_trigger[trigger] = NONE;
-            if variable.first != NONE {
-                self.previous_trigger[variable.first as usize] = trigger as u16;
-            }
-            variable.first = trigger as u16;
-        }
-    }
-
-    fn leave_triggers(&mut self, slot: usize) {
-        self.rows[slot].asleep = false;
-        let Step::Wait { from, to } = self.code.steps[self.rows[slot].at as usize] else { return };
-        for j in 0..(to - from) as usize {
-            let trigger = 4 * slot + j;
-            let (next, previous) = (self.next_trigger[trigger], self.previous_trigger[trigger]);
-            if next != NONE {
-                self.previous_trigger[next as usize] = previous;
-            }
-            if previous != NONE {
-                self.next_trigger[previous as usize] = next;
-            } else {
-                let name = self.code.waited[from as usize + j] as usize;
-                self.variables[self.rows[slot].names[name] as usize].first = next;
             }
         }
     }
 
-    fn fork(&mut self, parent: usize, from: usize, to: usize) -> std::result::Result<(), u32> {
-        if to - from > self.free.len() {
+    fn sleep(&mut self, slot: usize, from: usize, count: usize) -> Option<usize> {
+        for (j, &name) in self.code.waited[from..from + count].iter().enumerate() {
+            let v = self.rows[slot % SLOTS].names[name as usize % NAMES];
+            self.triggers.enter(4 * slot + j, &mut self.variables[v as usize % VARIABLES].first);
+        }
+        None
+    }
+
+    /// Takes a sleeper out of the trigger lists of its `W`, the operation before the one it goes on with.
+    fn awake(&mut self, slot: usize) {
+        let row = &self.rows[slot % SLOTS];
+        let Operation::Wait { from, count } = self.code.operations[(row.at as usize - 1) % OPERATIONS] else { return };
+        for (j, &name) in self.code.waited[from as usize..from as usize + count as usize].iter().enumerate() {
+            let v = row.names[name as usize % NAMES];
+            self.triggers.leave(4 * slot + j, &mut self.variables[v as usize % VARIABLES].first);
+        }
+    }
+
+    /// Makes the children; gives the first, which runs at once. The others are ready.
+    fn fork(&mut self, parent: usize, from: usize, count: usize) -> Run<Option<usize>> {
+        if self.live as usize + count > SLOTS {
             return Err(14);
         }
-        if self.rows[parent].level >= 10 {
+        let row = &mut self.rows[parent % SLOTS];
+        if row.level >= DEEPEST_LEVEL {
             return Err(15);
         }
-        let bits = self.rows[parent].bits - (usize::BITS - (to - from - 1).leading_zeros()) as u8;
-        self.rows[parent].children = (to - from) as u8;
-        for k in from..to {
-            let slot = self.free.pop().expect("room was counted") as usize;
-            let priority = self.rows[parent].priority + (((k - from) as u64) << bits) as u32;
-            self.enter(slot, parent, k);
-            let row = &mut self.rows[slot];
-            (row.bits, row.priority, row.ready, row.asleep) = (bits, priority, true, false);
-            let key = (priority as u64) << 8 | slot as u64;
-            self.push(key);
-        }
-        Ok(())
-    }
-
-    fn enter(&mut self, slot: usize, parent: usize, k: usize) {
-        let routine = self.code.callees[k].routine;
-        let arguments = self.code.callees[k].names.len();
-        let level = self.rows[parent].level + 1;
-        let row = &mut self.rows[slot];
-        (row.at, row.level, row.parent, row.children) = (self.code.entries[routine].first, level, parent as u8, 0);
-        row.own = 0;
-        for j in 0..arguments {
-            let passed = self.rows[parent].names[self.code.callees[k].names[j] as usize];
-            if self.code.entries[routine].by_reference[j] {
-                self.rows[slot].names[j] = passed;
-            } else {
-                let value = self.variables[passed as usize].value;
-                self.add_variable(slot, j, value);
+        row.children = count as u8;
+        self.live += count as u32;
+        let bits = row.bits - (usize::BITS - (count - 1).leading_zeros()) as u8;
+        let mut slot = MAIN;
+        for k in (0..count).rev() {
+            slot = self.free.trailing_zeros() as usize;
+            self.free &= self.free - 1;
+            self.enter(slot, parent, bits, self.code.fields[from + k]);
+            let priority = u64::from(self.ready.priorities[parent % SLOTS]) + ((k as u64) << bits);
+            self.ready.priorities[slot % SLOTS] = priority as u32;
+            if k > 0 {
+                self.ready.put_first(slot);
             }
         }
-        self.add_locals(slot, routine, arguments);
+        Ok(Some(slot))
     }
 
-    fn add_locals(&mut self, slot: usize, routine: usize, arguments: usize) {
-        for j in 0..self.code.entries[routine].locals {
-            self.add_variable(slot, arguments + j, 0);
+    /// A new row: names passed by reference are the parent's variables, the others the row's own.
+    #[inline]
+    fn enter(&mut self, slot: usize, parent: usize, bits: u8, field: Field) {
+        let Row { level, names: passed, .. } = self.rows[parent % SLOTS];
+        let row = &mut self.rows[slot % SLOTS];
+        (row.at, row.level, row.parent, row.children, row.bits) = (field.first, level + 1, parent as u8, 0, bits);
+        let (mut own, from, count) = (slot * NAMES, field.from as usize, field.count as usize);
+        for (j, argument) in self.code.arguments[from..from + count].iter().enumerate() {
+            let v = passed[argument.name as usize % NAMES];
+            row.names[j % NAMES] = v;
+            if !argument.by_reference {
+                let value = self.variables[v as usize % VARIABLES].value;
+                row.names[j % NAMES] = own as u16;
+                self.variables[own % VARIABLES] = Variable { value, first: NONE, written: 0 };
+                own += 1;
+            }
         }
-    }
-
-    fn add_variable(&mut self, slot: usize, name: usize, value: i32) {
-        let row = &mut self.rows[slot];
-        let v = slot * NAMES + row.own as usize;
-        row.own += 1;
-        row.names[name] = v as u16;
-        self.variables[v] = Variable { value, queued: NONE, first: NONE, ..Variable::default() };
+        for j in count..count + field.locals as usize {
+            row.names[j % NAMES] = own as u16;
+            self.variables[own % VARIABLES] = Variable { value: 0, first: NONE, written: 0 };
+            own += 1;
+        }
     }
 
     /// Ends a routine; gives its parent if that goes on.
     fn end(&mut self, slot: usize) -> Option<usize> {
-        for i in 0..self.rows[slot].own as usize {
-            self.drop_waiting(slot * NAMES + i);
-        }
-        self.free.push(slot as u8);
-        let parent = self.rows[slot].parent as usize;
+        self.waiting.drop_slot(slot);
+        self.free |= 1 << slot;
+        self.live -= 1;
+        let parent = self.rows[slot % SLOTS].parent as usize;
         if parent == SLOTS {
             return None;
         }
-        let row = &mut self.rows[parent];
+        let row = &mut self.rows[parent % SLOTS];
         row.children -= 1;
-        if row.children > 0 {
-            return None;
-        }
-        row.at += 1;
-        Some(parent)
-    }
-
-    #[inline]
-    fn evaluate(&self, slot: usize, from: u32, to: u32) -> i32 {
-        let names = &self.rows[slot].names;
-        let mut held = [0i32; 8];
-        let mut n = 0;
-        for part in &self.code.parts[from as usize..to as usize] {
-            if part.kind < 3 {
-                held[n & 7] = match part.kind {
-                    0 => part.operand as i32,
-                    1 => self.variables[names[part.operand as usize & 15] as usize].value,
-                    _ => (self.variables[names[part.operand as usize & 15] as usize].written == self.count) as i32,
-                };
-                n += 1;
-            } else {
-                n -= 1;
-                let (left, right) = (held[(n - 1) & 7], held[n & 7]);
-                held[(n - 1) & 7] = match part.kind {
-                    3 => left.wrapping_add(right),
-                    4 => left.wrapping_sub(right),
-                    5 => left.wrapping_mul(right),
-                    _ => (left < right) as i32,
-                };
-            }
-        }
-        held[0]
+        (row.children == 0).then_some(parent)
     }
 }

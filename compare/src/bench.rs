@@ -1,6 +1,8 @@
 //! The benchmark: the library beside a plain Rust queue engine, in one run, printed as a page.
 
+use crate::bench_listings::{full, grouped, sleepers, ticking, waiting, FORKS, PRESS, SUMS, TIMERS};
 use crate::board::{self, Outputs};
+use crate::clock::{beside, longer, ROUNDS};
 use crate::layout::WORDS;
 use crate::listing::{self, Program};
 use crate::plain::Plain;
@@ -9,79 +11,11 @@ use std::cmp::Reverse;
 use std::collections::BinaryHeap;
 use std::hint::black_box;
 
-const ROUNDS: usize = 31;
-const ROUND_NANOSECONDS: f64 = 10e6;
-
-/// Listing A of document 01.
-const PRESS: &str = "P\t1\t1\nR\trr\t0\nW\t0\nS\t1\t#1\nA\t1\t#60000\t#0\nW\t1\nG\t0\n";
-/// As many turns as input 0 says, four steps each.
-const SUMS: &str = "P\t1\t1\nR\trr\t2\nW\t0\nS\t2\t#0\nU\t2 0 <\t0\nS\t3\t3 2 +\nS\t2\t2 #1 +\nG\t2\n";
-/// As many turns as input 0 says, each a fork of two children that end at once: five steps.
-const FORKS: &str =
-    "P\t1\t1\nR\trr\t1\nW\t0\nS\t2\t0\nU\t2\t0\nF\t1 2\t2 1\nS\t2\t2 #1 -\nG\t2\nR\tv\t1\nE\nR\tr\t1\nE\n";
-
-/// As many turns as input 0 says, each with a waiting write that replaces the last one: four steps.
-const TIMERS: &str = "P\t1\t1\nR\trr\t2\nW\t0\nS\t2\t#0\nU\t2 0 <\t0\nA\t3\t#1000000000\t2\nS\t2\t2 #1 +\nG\t2\n";
-
 /// The memories of one board.
 struct Lent {
     table: Vec<u32>,
     machine: Vec<u32>,
     out: Outputs,
-}
-
-/// The processor time of this process, in nanoseconds, so that other work on the machine counts
-/// little.
-fn processor_time() -> u64 {
-    #[repr(C)]
-    struct Time {
-        seconds: i64,
-        nanoseconds: i64,
-    }
-    extern "C" {
-        fn clock_gettime(clock: i32, time: *mut Time) -> i32;
-    }
-    const CLOCK_PROCESS_CPUTIME_ID: i32 = 2;
-    let mut time = Time { seconds: 0, nanoseconds: 0 };
-    // SAFETY: the C library's function, on a struct laid out as its timespec on x86-64 Linux.
-    let answered = unsafe { clock_gettime(CLOCK_PROCESS_CPUTIME_ID, &mut time) };
-    assert_eq!(answered, 0);
-    (time.seconds * 1_000_000_000 + time.nanoseconds) as u64
-}
-
-/// The time of a turn, over so many turns.
-fn taken(work: &mut dyn FnMut(), turns: usize) -> f64 {
-    let began = processor_time();
-    (0..turns).for_each(|_| work());
-    (processor_time() - began) as f64 / turns as f64
-}
-
-/// So many turns that a round is long enough to be measured.
-fn turns(work: &mut dyn FnMut()) -> usize {
-    let once = taken(work, 10).max(10.0);
-    ((ROUND_NANOSECONDS / once) as usize).clamp(1, 1_000_000)
-}
-
-/// The least time of a turn of each, in nanoseconds, over several rounds that take turns.
-fn beside<const N: usize>(mut works: [&mut dyn FnMut(); N]) -> [f64; N] {
-    let turns: Vec<usize> = works.iter_mut().map(|work| turns(work)).collect();
-    let mut least = [f64::INFINITY; N];
-    for _ in 0..ROUNDS {
-        for k in 0..N {
-            least[k] = taken(works[k], turns[k]).min(least[k]);
-        }
-    }
-    least
-}
-
-/// By how much a turn of the second takes longer than one of the first: the median over many short
-/// batches that take turns, so that what else the machine does falls on both.
-fn longer(first: &mut dyn FnMut(), second: &mut dyn FnMut()) -> f64 {
-    const BATCHES: usize = 1_001;
-    const TURNS: usize = 20;
-    let mut differences: Vec<f64> = (0..BATCHES).map(|_| -taken(first, TURNS) + taken(second, TURNS)).collect();
-    differences.sort_by(f64::total_cmp);
-    differences[BATCHES / 2]
 }
 
 fn program(text: &[u8]) -> Program {
@@ -151,12 +85,6 @@ fn waking_times() -> (f64, f64) {
     step_time(&sleepers("R\trr\t0\nW\t0\nS\t1\t1 #1 +\nG\t0\n"), (&[], &[]), (&[0], &[1]))
 }
 
-/// Main, 7 children and 56 grandchildren, which run the routine given.
-fn sleepers(leaf: &str) -> String {
-    let middle = format!("R\trr\t14\nF{}\nG\t0\n", "\t2 0 1".repeat(8));
-    format!("P\t1\t1\nR\trr\t14\nF{}\nG\t0\n{middle}{leaf}", "\t1 0 1".repeat(7))
-}
-
 /// A press and its timeout, turn by turn.
 fn small_instants() -> (f64, f64) {
     let Pair { mut lent, mut plain } = Pair::started(PRESS);
@@ -179,12 +107,6 @@ fn small_instants() -> (f64, f64) {
         },
     ]);
     (library, peer)
-}
-
-/// A table with all its instructions in use and nearly all its cells, a machine of 64 routines.
-fn full() -> String {
-    let sums = "S\t2\t2 #-2147483648 - 3 + 2 *\n".repeat(505);
-    sleepers(&format!("R\trr\t14\nW\t0 1\nG\t0\n{sums}E\n"))
 }
 
 /// Three scans of both memories, word by word.
@@ -221,13 +143,6 @@ fn refused_calls(text: &str) -> (f64, f64) {
     (library, scans)
 }
 
-/// 56 sleepers, of which input 0 wakes 8, input 1 16 and input 2 32.
-fn grouped() -> String {
-    let middles: String = [0, 1, 1, 2, 2, 2, 2].map(|input| format!("\t1 {input} 3")).concat();
-    let leaves = "\t2 0 1".repeat(8);
-    format!("P\t3\t1\nR\trrrr\t0\nF{middles}\nE\nR\trr\t0\nF{leaves}\nE\nR\trr\t0\nW\t0\nS\t1\t1 #1 +\nG\t0\n")
-}
-
 /// The time of an instant that wakes so many of the 56 sleepers.
 fn waking_instants() -> [(u32, f64); 5] {
     let text = grouped();
@@ -247,16 +162,6 @@ fn waking_instants() -> [(u32, f64); 5] {
     std::array::from_fn(|k| (steps[k] / 3, times[k]))
 }
 
-/// 48 sleepers with so many variables each, and a routine that writes its own variable one
-/// millisecond after each instant, or never.
-fn ticking(locals: usize, ticks: bool) -> String {
-    let middles = "\t1 0 1".repeat(6);
-    let leaves = "\t2 0 1".repeat(8);
-    let tick = if ticks { "A\t2\t#1\t#1\n" } else { "" };
-    let sleeper = format!("R\trr\t{locals}\nW\t0\nG\t0\n");
-    format!("P\t1\t1\nR\trr\t0\nF{middles}\t3 0 1\nE\nR\trr\t0\nF{leaves}\nE\n{sleeper}R\trr\t1\n{tick}W\t2\nG\t0\n")
-}
-
 /// An instant with nothing due and one in which a write is due, which wakes one routine for three steps.
 fn due_instants(locals: usize) -> (f64, f64, f64) {
     let mut works = [false, true].map(|ticks| {
@@ -273,21 +178,12 @@ fn due_instants(locals: usize) -> (f64, f64, f64) {
     (idle, due, over)
 }
 
-/// 49 sleepers of 14 variables each. So many variables of the last one, or of each, have a waiting
-/// write a long time ahead; or the instructions that would put them there are passed over.
-fn waiting(writes: usize, each: bool, put: bool) -> String {
-    let first = if put { 1 } else { 1 + writes };
-    let lines: String = (2..2 + writes).map(|name| format!("A\t{name}\t#{}\t#1\n", 2_000_000_000 - 97 * name)).collect();
-    let waits = format!("R\trr\t14\nG\t{first}\n{lines}W\t0\nG\t{}\n", 1 + writes);
-    let sleeper = if each { waits.clone() } else { "R\trr\t14\nW\t0\nG\t0\n".to_string() };
-    let (middles, leaves) = ("\t1 0 1".repeat(6), "\t2 0 1".repeat(8));
-    format!("P\t1\t1\nR\trr\t0\nF{middles}\t3 0 1\nE\nR\trr\t0\nF{leaves}\nE\n{sleeper}{waits}")
-}
-
 /// The waiting writes in a machine's words, block by block (docs/LAYOUT.md): variable and moment.
 fn waiting_writes(machine: &[u32]) -> impl Iterator<Item = (usize, u64)> + '_ {
     let blocks = machine[328..].chunks_exact(184).enumerate().filter(|(_, block)| block[0] != 0);
-    let variables = blocks.flat_map(|(s, block)| block[8..].chunks_exact(6).take(block[4] as usize).enumerate().map(move |(i, v)| (16 * s + i, v)));
+    let variables = blocks.flat_map(|(s, block)| {
+        block[8..].chunks_exact(6).take(block[4] as usize).enumerate().map(move |(i, v)| (16 * s + i, v))
+    });
     variables.map(|(place, v)| (place, u64::from(v[2]) + (u64::from(v[3]) << 32))).filter(|&(_, due)| due != 0)
 }
 
@@ -348,7 +244,9 @@ fn waiting_times(writes: usize, each: bool) -> (f64, f64, f64) {
     let mut room = Vec::with_capacity(1_040);
     let mut heaped = || {
         let mut late = false;
-        room.extend(waiting_writes(black_box(&machine)).inspect(|&(_, due)| late |= due < 2).map(|(_, due)| Reverse(due)));
+        room.extend(
+            waiting_writes(black_box(&machine)).inspect(|&(_, due)| late |= due < 2).map(|(_, due)| Reverse(due)),
+        );
         let heap = BinaryHeap::from(std::mem::take(&mut room));
         black_box((late, heap.peek()));
         room = heap.into_vec();
@@ -440,7 +338,9 @@ fn woken() {
 }
 
 fn due_found() {
-    println!("\n| a write due, beside 48 sleepers | nothing due | one write due, three steps | over |\n|---|---|---|---|");
+    println!(
+        "\n| a write due, beside 48 sleepers | nothing due | one write due, three steps | over |\n|---|---|---|---|"
+    );
     for locals in [0, 14] {
         let (idle, due, over) = due_instants(locals);
         println!("| of {locals} variables each | {idle:.1} | {due:.1} | {over:.1} |");

@@ -7,8 +7,12 @@
 #[cfg(feature = "archive")]
 mod bench;
 #[cfg(feature = "archive")]
+mod bench_listings;
+#[cfg(feature = "archive")]
 mod board;
 mod calls;
+#[cfg(feature = "archive")]
+mod clock;
 #[cfg(feature = "archive")]
 mod compare;
 mod data;

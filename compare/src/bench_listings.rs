@@ -1,0 +1,52 @@
+//! The benchmark's listings.
+
+/// Listing A of document 01.
+pub const PRESS: &str = "P\t1\t1\nR\trr\t0\nW\t0\nS\t1\t#1\nA\t1\t#60000\t#0\nW\t1\nG\t0\n";
+/// As many turns as input 0 says, four steps each.
+pub const SUMS: &str = "P\t1\t1\nR\trr\t2\nW\t0\nS\t2\t#0\nU\t2 0 <\t0\nS\t3\t3 2 +\nS\t2\t2 #1 +\nG\t2\n";
+/// As many turns as input 0 says, each a fork of two children that end at once: six steps.
+pub const FORKS: &str =
+    "P\t1\t1\nR\trr\t1\nW\t0\nS\t2\t0\nU\t2\t0\nF\t1 2\t2 1\nS\t2\t2 #1 -\nG\t2\nR\tv\t1\nE\nR\tr\t1\nE\n";
+/// As many turns as input 0 says, each with a waiting write that replaces the last one: four steps.
+pub const TIMERS: &str = "P\t1\t1\nR\trr\t2\nW\t0\nS\t2\t#0\nU\t2 0 <\t0\nA\t3\t#1000000000\t2\nS\t2\t2 #1 +\nG\t2\n";
+
+/// Main, 7 children and 56 grandchildren, which run the routine given.
+pub fn sleepers(leaf: &str) -> String {
+    let middle = format!("R\trr\t14\nF{}\nG\t0\n", "\t2 0 1".repeat(8));
+    format!("P\t1\t1\nR\trr\t14\nF{}\nG\t0\n{middle}{leaf}", "\t1 0 1".repeat(7))
+}
+
+/// A table with all its instructions in use and nearly all its cells, a machine of 64 routines.
+pub fn full() -> String {
+    let sums = "S\t2\t2 #-2147483648 - 3 + 2 *\n".repeat(505);
+    sleepers(&format!("R\trr\t14\nW\t0 1\nG\t0\n{sums}E\n"))
+}
+
+/// 56 sleepers, of which input 0 wakes 8, input 1 16 and input 2 32.
+pub fn grouped() -> String {
+    let middles: String = [0, 1, 1, 2, 2, 2, 2].map(|input| format!("\t1 {input} 3")).concat();
+    let leaves = "\t2 0 1".repeat(8);
+    format!("P\t3\t1\nR\trrrr\t0\nF{middles}\nE\nR\trr\t0\nF{leaves}\nE\nR\trr\t0\nW\t0\nS\t1\t1 #1 +\nG\t0\n")
+}
+
+/// 48 sleepers with so many variables each, and a routine that writes its own variable one
+/// millisecond after each instant, or never.
+pub fn ticking(locals: usize, ticks: bool) -> String {
+    let middles = "\t1 0 1".repeat(6);
+    let leaves = "\t2 0 1".repeat(8);
+    let tick = if ticks { "A\t2\t#1\t#1\n" } else { "" };
+    let sleeper = format!("R\trr\t{locals}\nW\t0\nG\t0\n");
+    format!("P\t1\t1\nR\trr\t0\nF{middles}\t3 0 1\nE\nR\trr\t0\nF{leaves}\nE\n{sleeper}R\trr\t1\n{tick}W\t2\nG\t0\n")
+}
+
+/// 49 sleepers of 14 variables each. So many variables of the last one, or of each, have a waiting
+/// write a long time ahead; or the instructions that would put them there are passed over.
+pub fn waiting(writes: usize, each: bool, put: bool) -> String {
+    let first = if put { 1 } else { 1 + writes };
+    let lines: String =
+        (2..2 + writes).map(|name| format!("A\t{name}\t#{}\t#1\n", 2_000_000_000 - 97 * name)).collect();
+    let waits = format!("R\trr\t14\nG\t{first}\n{lines}W\t0\nG\t{}\n", 1 + writes);
+    let sleeper = if each { waits.clone() } else { "R\trr\t14\nW\t0\nG\t0\n".to_string() };
+    let (middles, leaves) = ("\t1 0 1".repeat(6), "\t2 0 1".repeat(8));
+    format!("P\t1\t1\nR\trr\t0\nF{middles}\t3 0 1\nE\nR\trr\t0\nF{leaves}\nE\n{sleeper}{waits}")
+}

@@ -1,21 +1,26 @@
 //! A listing decoded once, when it is loaded, into the flat arrays that the plain queue engine runs over.
 
-use crate::listing::{Child, Instruction, Piece, Program};
+use crate::expression::{parts, Operator, Part, SHORT};
+use crate::listing::{Child, Instruction, Piece, Program, Routine};
 
 /// 4,096 pieces and 512 instructions at most; a power of two, so that a masked place is in range.
 pub const OPERATIONS: usize = 8_192;
 
 /// A piece or an instruction. An instruction stands right after the pieces whose values it takes, so
-/// that the code is one postfix array.
+/// that the code is one postfix array. An operator takes its right side along if that is a literal or a
+/// name's value; and its left side too, if it takes the right one.
 #[derive(Clone, Copy)]
 pub enum Operation {
     Literal(i32),
     Value { name: u8 },
     Written { name: u8 },
-    Plus,
-    Minus,
-    Times,
-    Less,
+    Two { operator: Operator },
+    WithLiteral { operator: Operator, right: i32 },
+    WithValue { operator: Operator, right: u8 },
+    TwoValues { operator: Operator, left: u8, right: u8 },
+    ValueAndLiteral { operator: Operator, left: u8, right: i32 },
+    LiteralAndValue { operator: Operator, left: i32, right: u8 },
+    Long { from: u16, count: u16 },
     Set { name: u8 },
     After { name: u8 },
     Unless { target: u32 },
@@ -49,13 +54,23 @@ pub struct Code {
     pub waited: Vec<u8>,
     pub fields: Vec<Field>,
     pub arguments: Vec<Argument>,
+    pub parts: Vec<Part>,
 }
 
 impl Code {
     pub fn new(program: &Program) -> Code {
-        let mut decoder = Decoder::new(program);
-        for (routine, places) in program.routines.iter().zip(places(program)) {
-            routine.code.iter().for_each(|instruction| decoder.instruction(instruction, &places));
+        let mut decoder = Decoder {
+            program,
+            first: Vec::new(),
+            operations: Vec::with_capacity(OPERATIONS),
+            waited: Vec::new(),
+            fields: Vec::new(),
+            arguments: Vec::new(),
+            parts: Vec::new(),
+        };
+        program.routines.iter().for_each(|routine| decoder.routine(routine));
+        for field in &mut decoder.fields {
+            field.first = decoder.first[field.first as usize];
         }
         decoder.operations.resize(OPERATIONS, Operation::End);
         Code {
@@ -65,30 +80,9 @@ impl Code {
             waited: decoder.waited,
             fields: decoder.fields,
             arguments: decoder.arguments,
+            parts: decoder.parts,
         }
     }
-}
-
-/// How many operations an instruction becomes: one for each piece of its expressions, and its own.
-fn length(instruction: &Instruction) -> u32 {
-    let pieces = match instruction {
-        Instruction::Set { value, .. } => value.len(),
-        Instruction::After { delay, value, .. } => delay.len() + value.len(),
-        Instruction::Unless { test, .. } => test.len(),
-        _ => 0,
-    };
-    pieces as u32 + 1
-}
-
-/// For each routine, where the operations of each instruction begin.
-fn places(program: &Program) -> Vec<Vec<u32>> {
-    let mut next = 0;
-    let mut place = |instruction| {
-        let begins = next;
-        next += length(instruction);
-        begins
-    };
-    program.routines.iter().map(|routine| routine.code.iter().map(&mut place).collect()).collect()
 }
 
 struct Decoder<'a> {
@@ -97,24 +91,28 @@ struct Decoder<'a> {
     first: Vec<u32>,
     operations: Vec<Operation>,
     waited: Vec<u8>,
+    /// With the number of the callee in place of its first operation, until all routines are decoded.
     fields: Vec<Field>,
     arguments: Vec<Argument>,
+    parts: Vec<Part>,
 }
 
-impl<'a> Decoder<'a> {
-    fn new(program: &'a Program) -> Decoder<'a> {
-        Decoder {
-            program,
-            first: places(program).iter().map(|places| places[0]).collect(),
-            operations: Vec::with_capacity(OPERATIONS),
-            waited: Vec::new(),
-            fields: Vec::new(),
-            arguments: Vec::new(),
+impl Decoder<'_> {
+    fn routine(&mut self, routine: &Routine) {
+        let first = self.operations.len();
+        self.first.push(first as u32);
+        let places: Vec<u32> = routine.code.iter().map(|instruction| self.instruction(instruction)).collect();
+        for operation in &mut self.operations[first..] {
+            if let Operation::Unless { target } | Operation::Go { target } = operation {
+                *target = places[*target as usize];
+            }
         }
     }
 
-    /// `places`: where the instructions of its routine begin.
-    fn instruction(&mut self, instruction: &Instruction, places: &[u32]) {
+    /// Gives the place of its first operation. A jump keeps the number of the instruction it goes to,
+    /// until its routine is decoded.
+    fn instruction(&mut self, instruction: &Instruction) -> u32 {
+        let place = self.operations.len() as u32;
         let operation = match instruction {
             Instruction::Set { name, value } => {
                 self.expression(value);
@@ -127,9 +125,9 @@ impl<'a> Decoder<'a> {
             }
             Instruction::Unless { test, target } => {
                 self.expression(test);
-                Operation::Unless { target: places[*target] }
+                Operation::Unless { target: *target as u32 }
             }
-            Instruction::Go { target } => Operation::Go { target: places[*target] },
+            Instruction::Go { target } => Operation::Go { target: *target as u32 },
             Instruction::Wait { names } => {
                 let from = self.waited.len() as u16;
                 self.waited.extend(names.iter().map(|&name| name as u8));
@@ -143,6 +141,7 @@ impl<'a> Decoder<'a> {
             Instruction::End => Operation::End,
         };
         self.operations.push(operation);
+        place
     }
 
     fn field(&mut self, child: &Child) {
@@ -152,18 +151,45 @@ impl<'a> Decoder<'a> {
             self.arguments.push(Argument { name: name as u8, by_reference });
         }
         let (count, locals) = (child.names.len() as u8, callee.locals as u8);
-        self.fields.push(Field { first: self.first[child.routine], from, count, locals });
+        self.fields.push(Field { first: child.routine as u32, from, count, locals });
     }
 
     fn expression(&mut self, pieces: &[Piece]) {
-        self.operations.extend(pieces.iter().map(|piece| match *piece {
-            Piece::Literal(value) => Operation::Literal(value),
-            Piece::Value(name) => Operation::Value { name: name as u8 },
-            Piece::Written(name) => Operation::Written { name: name as u8 },
-            Piece::Plus => Operation::Plus,
-            Piece::Minus => Operation::Minus,
-            Piece::Times => Operation::Times,
-            Piece::Less => Operation::Less,
-        }));
+        if pieces.len() > SHORT {
+            let (from, parts) = (self.parts.len() as u16, parts(pieces));
+            self.operations.push(Operation::Long { from, count: parts.len() as u16 });
+            return self.parts.extend(parts);
+        }
+        for piece in pieces {
+            let operation = match (*piece, Operator::of_piece(piece)) {
+                (_, Some(operator)) => self.operator(operator),
+                (Piece::Literal(value), _) => Operation::Literal(value),
+                (Piece::Value(name), _) => Operation::Value { name: name as u8 },
+                (Piece::Written(name), _) => Operation::Written { name: name as u8 },
+                _ => unreachable!("an operator"),
+            };
+            self.operations.push(operation);
+        }
+    }
+
+    /// The operation before, if it is a literal or a name's value.
+    fn taken(&mut self) -> Option<Operation> {
+        self.operations.pop_if(|last| matches!(last, Operation::Literal(_) | Operation::Value { .. }))
+    }
+
+    /// An operator with the sides that it takes along. Each side of an operator is the operation before
+    /// it, if it is one piece.
+    fn operator(&mut self, operator: Operator) -> Operation {
+        use Operation::*;
+        let Some(right) = self.taken() else { return Two { operator } };
+        match (self.taken(), right) {
+            (Some(Value { name: left }), Value { name: right }) => TwoValues { operator, left, right },
+            (Some(Value { name: left }), Literal(right)) => ValueAndLiteral { operator, left, right },
+            (Some(Literal(left)), Value { name: right }) => LiteralAndValue { operator, left, right },
+            (Some(Literal(left)), Literal(right)) => Literal(operator.of(left, right)),
+            (_, Literal(right)) => WithLiteral { operator, right },
+            (_, Value { name: right }) => WithValue { operator, right },
+            _ => unreachable!("a literal or a name's value"),
+        }
     }
 }

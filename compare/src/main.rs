@@ -16,6 +16,7 @@ mod clock;
 #[cfg(feature = "archive")]
 mod compare;
 mod data;
+mod expression;
 mod flat;
 mod layout;
 mod listing;

@@ -2,6 +2,7 @@
 //! by priority, trigger lists, waiting writes in a heap. No proofs, no questions on memory; the same
 //! programs. No step allocates, and none decodes.
 
+use crate::expression::{Held, HELD};
 use crate::flat::{Code, Field, Operation, OPERATIONS};
 use crate::listing::Program;
 use crate::queues::{Ready, Triggers, Waiting, NAMES, NONE, SLOTS, VARIABLES};
@@ -11,9 +12,6 @@ use std::hint::cold_path;
 const ENVIRONMENT: usize = SLOTS * NAMES;
 const MAIN: usize = 0;
 const DEEPEST_LEVEL: u8 = 10;
-/// Places for the values that an expression holds: a delay and 8 more are in use; as many as a byte
-/// numbers, so that any byte is in range.
-const HELD: usize = 256;
 
 #[derive(Clone, Copy)]
 struct Variable {
@@ -57,41 +55,6 @@ impl Left {
     fn count(&mut self) -> Run<()> {
         self.0 = self.0.checked_sub(1).ok_or(13u32)?;
         Ok(())
-    }
-}
-
-/// The values that an expression holds; the last one stands apart.
-struct Held<'a> {
-    below: &'a mut [i32; HELD],
-    depth: u8,
-    top: i32,
-}
-
-impl Held<'_> {
-    #[inline(always)]
-    fn push(&mut self, value: i32) {
-        self.below[self.depth as usize] = self.top;
-        self.depth = self.depth.wrapping_add(1);
-        self.top = value;
-    }
-
-    #[inline(always)]
-    fn two(&mut self, of: impl Fn(i32, i32) -> i32) {
-        self.depth = self.depth.wrapping_sub(1);
-        self.top = of(self.below[self.depth as usize], self.top);
-    }
-
-    /// The value of an expression; none is held any more.
-    #[inline(always)]
-    fn value(&mut self) -> i32 {
-        self.depth = 0;
-        self.top
-    }
-
-    #[inline(always)]
-    fn value_and_delay(&mut self) -> (i32, i32) {
-        let delay = self.below[self.depth.wrapping_sub(1) as usize];
-        (self.value(), delay)
     }
 }
 
@@ -237,6 +200,8 @@ impl Plain {
     }
 
     /// Runs a routine to its next `W`, `F` or `E`, and gives that.
+    /// With more than 16 branches here the compiler makes one jump for all of them, where each now has its
+    /// own to the next operation; that was slower by a third.
     #[inline]
     fn go_on(&mut self, slot: usize) -> Run<Operation> {
         let Plain { code, rows, variables, ready, triggers, waiting, count, moment, held, .. } = self;
@@ -245,7 +210,7 @@ impl Plain {
         let variable = |name: u8| row.names[name as usize % NAMES] as usize % VARIABLES;
         let mut at = row.at as usize;
         let mut left = Left(self.steps_left);
-        let mut held = Held { below: held, depth: 0, top: 0 };
+        let mut held = Held::new(held);
         loop {
             let operation = &operations[at % OPERATIONS];
             at += 1;
@@ -253,10 +218,25 @@ impl Plain {
                 Operation::Literal(value) => held.push(value),
                 Operation::Value { name } => held.push(variables[variable(name)].value),
                 Operation::Written { name } => held.push((variables[variable(name)].written == count) as i32),
-                Operation::Plus => held.two(i32::wrapping_add),
-                Operation::Minus => held.two(i32::wrapping_sub),
-                Operation::Times => held.two(i32::wrapping_mul),
-                Operation::Less => held.two(|left, right| (left < right) as i32),
+                Operation::Two { operator } => held.two(operator),
+                Operation::WithLiteral { operator, right } => held.with(operator, right),
+                Operation::WithValue { operator, right } => held.with(operator, variables[variable(right)].value),
+                Operation::TwoValues { operator, left, right } => {
+                    held.push(operator.of(variables[variable(left)].value, variables[variable(right)].value))
+                }
+                Operation::ValueAndLiteral { operator, left, right } => {
+                    held.push(operator.of(variables[variable(left)].value, right))
+                }
+                Operation::LiteralAndValue { operator, left, right } => {
+                    held.push(operator.of(left, variables[variable(right)].value))
+                }
+                Operation::Long { from, count: parts } => {
+                    let parts = &code.parts[from as usize..from as usize + parts as usize];
+                    held.long(parts, |name| {
+                        let variable = &variables[variable(name)];
+                        (variable.value, variable.written == count)
+                    });
+                }
                 Operation::Set { name } => {
                     left.count()?;
                     let variable = &mut variables[variable(name)];

@@ -1,6 +1,10 @@
 //! The benchmark: the library beside a plain Rust queue engine, in one run, printed as a page.
 
-use crate::bench_listings::{full, grouped, sleepers, ticking, waiting, FORKS, PRESS, SUMS, TIMERS};
+use crate::bench_listings::{
+    full, full_board, full_table, grouped, seventy_three_pieces, sleepers, ticking, twelve_pieces, waiting,
+};
+use crate::bench_listings::{COUNTED, FORKS, PRESS, SUMS, TIMERS};
+use crate::bench_queue::{waiting_writes, Queue};
 use crate::board::{self, Outputs};
 use crate::clock::{beside, longer, ROUNDS};
 use crate::layout::WORDS;
@@ -109,9 +113,9 @@ fn small_instants() -> (f64, f64) {
     (library, peer)
 }
 
-/// Three scans of both memories, word by word.
-fn three_scans(table: &[u32], machine: &[u32]) {
-    for memory in [table, machine, table, machine, table, machine] {
+/// Scans of both memories, word by word.
+fn scans(count: usize, table: &[u32], machine: &[u32]) {
+    for memory in [table, machine].repeat(count) {
         let mut zeros = 0;
         for word in memory {
             // SAFETY: a reference to a word of the slice. Volatile: one load a word.
@@ -121,8 +125,8 @@ fn three_scans(table: &[u32], machine: &[u32]) {
     }
 }
 
-/// Calls that have nothing to do, and three scans.
-fn idle_calls(text: &str) -> (f64, f64) {
+/// Calls that have nothing to do, and so many scans.
+fn idle_calls(text: &str, count: usize) -> (f64, f64) {
     let mut lent = started(text.as_bytes());
     let (table, machine) = (lent.table.clone(), lent.machine.clone());
     let mut t = 0;
@@ -130,8 +134,8 @@ fn idle_calls(text: &str) -> (f64, f64) {
         t += 1;
         assert_eq!(instant(&mut lent, t, (&[], &[]), 10).number, 0);
     };
-    let [library, scans] = beside([&mut idle, &mut || three_scans(&table, &machine)]);
-    (library, scans)
+    let [library, scanned] = beside([&mut idle, &mut || scans(count, &table, &machine)]);
+    (library, scanned)
 }
 
 /// Calls refused with 12, after every other question, and three scans.
@@ -139,8 +143,26 @@ fn refused_calls(text: &str) -> (f64, f64) {
     let mut lent = started(text.as_bytes());
     let (table, machine) = (lent.table.clone(), lent.machine.clone());
     let mut refused = || assert_eq!(instant(&mut lent, 1, (&[], &[]), 0).number, 12);
-    let [library, scans] = beside([&mut refused, &mut || three_scans(&table, &machine)]);
-    (library, scans)
+    let [library, scanned] = beside([&mut refused, &mut || scans(SCANS, &table, &machine)]);
+    (library, scanned)
+}
+
+/// Starts, and one scan.
+fn starts(text: &str) -> (f64, f64) {
+    let Lent { table, mut machine, mut out } = started(text.as_bytes());
+    let copy = machine.clone();
+    let mut start = || assert_eq!(board::start(&table, &mut machine, &mut out, 10_000).number, 0);
+    let [library, scanned] = beside([&mut start, &mut || scans(1, &table, &copy)]);
+    (library, scanned)
+}
+
+/// Comparisons of two machines that are alike, and one scan of the table and of one of them.
+fn comparisons(text: &str) -> (f64, f64) {
+    let Lent { table, machine, .. } = started(text.as_bytes());
+    let again = machine.clone();
+    let mut compare = || assert_eq!(board::alike(&table, &machine, &again).alike, 1);
+    let [library, scanned] = beside([&mut compare, &mut || scans(1, &table, &machine)]);
+    (library, scanned)
 }
 
 /// The time of an instant that wakes so many of the 56 sleepers.
@@ -178,40 +200,6 @@ fn due_instants(locals: usize) -> (f64, f64, f64) {
     (idle, due, over)
 }
 
-/// The waiting writes in a machine's words, block by block (docs/LAYOUT.md): variable and moment.
-fn waiting_writes(machine: &[u32]) -> impl Iterator<Item = (usize, u64)> + '_ {
-    let blocks = machine[328..].chunks_exact(184).enumerate().filter(|(_, block)| block[0] != 0);
-    let variables = blocks.flat_map(|(s, block)| {
-        block[8..].chunks_exact(6).take(block[4] as usize).enumerate().map(move |(i, v)| (16 * s + i, v))
-    });
-    variables.map(|(place, v)| (place, u64::from(v[2]) + (u64::from(v[3]) << 32))).filter(|&(_, due)| due != 0)
-}
-
-/// An event queue by moment, one place a variable: a heap that knows where each variable stands, so
-/// that a new waiting write can take the place of the old one.
-struct Queue {
-    heap: Vec<(u64, usize)>,
-    places: Vec<u16>,
-}
-
-impl Queue {
-    fn insert(&mut self, variable: usize, due: u64) {
-        let mut at = self.heap.len();
-        self.heap.push((due, variable));
-        while at > 0 && self.heap[(at - 1) / 2].0 > due {
-            self.heap[at] = self.heap[(at - 1) / 2];
-            self.places[self.heap[at].1] = at as u16;
-            at = (at - 1) / 2;
-        }
-        self.heap[at] = (due, variable);
-        self.places[variable] = at as u16;
-    }
-
-    fn clear(&mut self) {
-        self.heap.drain(..).for_each(|(_, variable)| self.places[variable] = u16::MAX);
-    }
-}
-
 /// What waiting writes add: to an instant of the library in which none is due; and, were there such
 /// a queue made anew in each call, to a pass that tests each moment, if it also puts each into the
 /// queue; the next moment due is looked at and the queue cleared. And the same with a heap in which
@@ -226,7 +214,7 @@ fn waiting_times(writes: usize, each: bool) -> (f64, f64, f64) {
         }
     });
     let machine = started(waiting(writes, each, true).as_bytes()).machine;
-    let mut queue = Queue { heap: Vec::with_capacity(1_040), places: vec![u16::MAX; 1_040] };
+    let mut queue = Queue::new();
     let mut pass = || {
         black_box(waiting_writes(black_box(&machine)).any(|(_, due)| due < 2));
     };
@@ -267,7 +255,7 @@ fn load_times(text: &str) -> (f64, f64) {
 /// The most stack that each call used over the benchmark's listings.
 fn stacks() -> [(&'static str, usize); 4] {
     let (mut load, mut start, mut tick, mut alike) = (0, 0, 0, 0);
-    for text in [PRESS, SUMS, FORKS, TIMERS, &full()] {
+    for text in [PRESS, SUMS, FORKS, TIMERS, &full(), &full_board()] {
         let mut lent = started(text.as_bytes());
         let Lent { table, machine, out } = &mut lent;
         load = load.max(stack::used(|| {
@@ -295,9 +283,12 @@ fn machine_line() -> String {
     format!("{}, {cores} cores, x86-64 Linux", model.trim_start_matches([' ', '\t', ':']))
 }
 
-const STEP_AIM: f64 = 1.5;
+const LOOP_AIM: f64 = 1.5;
+const STEP_AIM: f64 = 1.3;
 const FIXED_AIM: f64 = 1.0;
-const STACK_AIM: usize = 8_192;
+const STACK_AIM: usize = 4_096;
+/// Scans beside a call on a small listing or on 64 routines without waiting writes.
+const SCANS: usize = 3;
 
 /// One line of a table; `aim` is the largest ratio.
 fn row(what: &str, (library, peer): (f64, f64), aim: Option<f64>) {
@@ -312,9 +303,12 @@ fn row(what: &str, (library, peer): (f64, f64), aim: Option<f64>) {
 
 fn steps_and_calls(full: &str) {
     println!("| what | library | plain engine | ratio | aim |\n|---|---|---|---|---|");
-    row("a step: sums, tests and jumps", step_times(SUMS), Some(STEP_AIM));
+    row("a step: a counted loop of `U`, `S` and `G`", step_times(COUNTED), Some(LOOP_AIM));
+    row("a step: expressions of 12 pieces", step_times(&twelve_pieces()), Some(STEP_AIM));
+    row("a step: expressions of 73 pieces", step_times(&seventy_three_pieces()), Some(STEP_AIM));
+    row("a step: sums, tests and jumps", step_times(SUMS), Some(LOOP_AIM));
+    row("a step: every fourth one puts a waiting write", step_times(TIMERS), Some(LOOP_AIM));
     row("a step: forks, ends and joins", step_times(FORKS), Some(STEP_AIM));
-    row("a step: every fourth one puts a waiting write", step_times(TIMERS), Some(STEP_AIM));
     row("a step: every third one wakes", waking_times(), Some(STEP_AIM));
     row("a small instant, the whole call: a press or its timeout", small_instants(), None);
     row(&format!("loading, a byte of {}; beside the model's loader", full.len()), load_times(full), None);
@@ -323,9 +317,20 @@ fn steps_and_calls(full: &str) {
 fn fixed(full: &str) {
     println!("\n| fixed cost of a call | library | three scans | ratio | aim |\n|---|---|---|---|---|");
     for (name, text) in [("small listing", PRESS), ("full table, 64 routines", full)] {
-        row(&format!("{name}: nothing to do"), idle_calls(text), Some(FIXED_AIM));
+        row(&format!("{name}: nothing to do"), idle_calls(text, SCANS), Some(FIXED_AIM));
         row(&format!("{name}: refused with 12, every question asked"), refused_calls(text), Some(FIXED_AIM));
     }
+}
+
+fn full_boards() {
+    let board = full_board();
+    let machine = started(board.as_bytes()).machine;
+    let variables = machine[328..WORDS].chunks_exact(184).flat_map(|block| block[8..104].chunks_exact(6));
+    assert_eq!(variables.filter(|variable| variable[2..4] != [0, 0]).count(), 1_024);
+    println!("\n| a call on a full table | library | one scan | ratio | aim |\n|---|---|---|---|---|");
+    row("64 routines, 1024 waiting writes: nothing to do", idle_calls(&board, 1), Some(FIXED_AIM));
+    row("64 routines, 1024 waiting writes: the comparison of two such machines", comparisons(&board), None);
+    row("the start; main waits at once", starts(&full_table()), None);
 }
 
 fn woken() {
@@ -366,11 +371,13 @@ pub fn run(date: &str) -> bool {
     println!(
         "Nanoseconds of processor time, the least of {ROUNDS} rounds by turns. The plain engine is a Rust queue engine without"
     );
-    println!("proofs and without questions on memory (`compare/src/plain.rs`), on the same listings in the same run.");
-    println!("Three scans: of both memories, word by word.\n");
+    println!("proofs and without questions on memory (`compare/src/plain.rs`), on the same listings in the same run. It decodes a");
+    println!("listing once, when it is loaded: in the row of loading, and before the first round of all others.");
+    println!("A scan: of both memories, a table and a machine, one load a word.\n");
     let full = full();
     steps_and_calls(&full);
     fixed(&full);
+    full_boards();
     woken();
     due_found();
     stack_used();

@@ -2,6 +2,8 @@
 
 /// Listing A of document 01.
 pub const PRESS: &str = "P\t1\t1\nR\trr\t0\nW\t0\nS\t1\t#1\nA\t1\t#60000\t#0\nW\t1\nG\t0\n";
+/// As many turns as input 0 says, three steps each.
+pub const COUNTED: &str = "P\t1\t1\nR\trr\t1\nW\t0\nS\t2\t0\nU\t2\t0\nS\t2\t2 #1 -\nG\t2\n";
 /// As many turns as input 0 says, four steps each.
 pub const SUMS: &str = "P\t1\t1\nR\trr\t2\nW\t0\nS\t2\t#0\nU\t2 0 <\t0\nS\t3\t3 2 +\nS\t2\t2 #1 +\nG\t2\n";
 /// As many turns as input 0 says, each a fork of two children that end at once: six steps.
@@ -9,6 +11,31 @@ pub const FORKS: &str =
     "P\t1\t1\nR\trr\t1\nW\t0\nS\t2\t0\nU\t2\t0\nF\t1 2\t2 1\nS\t2\t2 #1 -\nG\t2\nR\tv\t1\nE\nR\tr\t1\nE\n";
 /// As many turns as input 0 says, each with a waiting write that replaces the last one: four steps.
 pub const TIMERS: &str = "P\t1\t1\nR\trr\t2\nW\t0\nS\t2\t#0\nU\t2 0 <\t0\nA\t3\t#1000000000\t2\nS\t2\t2 #1 +\nG\t2\n";
+
+/// Counts name 2 down by 1 (3 pieces); after it, terms that are 0 whatever the names hold.
+const ONE_LESS: &str = "2 #1 -";
+/// 8 pieces each.
+const LESS_TERM: &str = " 3 4 < 4 3 < * +";
+const MINUS_TERM: &str = " 3 4 - 4 3 - + +";
+const TIMES_TERM: &str = " #5 2 * 2 #-5 * + +";
+/// 4 pieces.
+const WRITTEN_TERM: &str = " @1 #0 * +";
+
+/// A loop of `U`, these `S` and `G`, as many turns as input 0 says. Names 2 to 4 are locals, 2 counts.
+fn counting(sets: &str) -> String {
+    format!("P\t1\t1\nR\trr\t3\nW\t0\nS\t2\t0\nU\t2\t0\n{sets}G\t2\n")
+}
+
+/// Two expressions in each turn, of 11 and 13 pieces: an expression has an odd number of them.
+pub fn twelve_pieces() -> String {
+    counting(&format!("S\t2\t{ONE_LESS}{LESS_TERM}\nS\t3\t3 2 + @0 + 4 #7 * - #5 < 2 *\n"))
+}
+
+/// One expression in each turn, of 73 pieces.
+pub fn seventy_three_pieces() -> String {
+    let terms = [LESS_TERM, MINUS_TERM, TIMES_TERM, LESS_TERM].concat().repeat(2);
+    counting(&format!("S\t2\t{ONE_LESS}{terms}{WRITTEN_TERM} 4 +\n"))
+}
 
 /// Main, 7 children and 56 grandchildren, which run the routine given.
 pub fn sleepers(leaf: &str) -> String {
@@ -20,6 +47,35 @@ pub fn sleepers(leaf: &str) -> String {
 pub fn full() -> String {
     let sums = "S\t2\t2 #-2147483648 - 3 + 2 *\n".repeat(505);
     sleepers(&format!("R\trr\t14\nW\t0 1\nG\t0\n{sums}E\n"))
+}
+
+/// Fills a table up: after these routines come as many as make 64, and in the first of them as many
+/// instructions and pieces as make 512 and 4,096.
+fn filled(text: &str) -> String {
+    let (routines, code): (Vec<&str>, Vec<&str>) = text.lines().skip(1).partition(|line| line.starts_with('R'));
+    let pieces: usize = code.iter().map(|line| line.split(['\t', ' ']).count() - 1).sum();
+    let more = 64 - routines.len();
+    let lines = 512 - code.len() - more;
+    // A line has two pieces and then pairs of an operand and an operator.
+    let pairs = (4_096 - pieces) / 2 - lines;
+    let sums: String =
+        (0..lines).map(|j| format!("S\t0\t0{}\n", " #-2147483648 -".repeat((pairs + j) / lines))).collect();
+    format!("{text}R\t-\t1\n{sums}E\n{}", "R\t-\t0\nE\n".repeat(more - 1))
+}
+
+/// A full table whose main waits at once.
+pub fn full_table() -> String {
+    filled("P\t1\t1\nR\trr\t0\nW\t0\nG\t0\n")
+}
+
+/// A full table, 64 live routines, and a waiting write a long time ahead on each of the 1,024 variables
+/// that a listing can have at most: 16 of the environment and of each routine but main.
+pub fn full_board() -> String {
+    let writes: String = (0..16).map(|name| format!("A\t{name}\t#{}\t#1\n", 2_000_000_000 - 97 * name)).collect();
+    let main = format!("R\t{}\t0\n{writes}F{}\nE\n", "r".repeat(16), "\t1".repeat(7));
+    let middle = format!("R\t-\t16\n{writes}F{}\nE\n", "\t2".repeat(8));
+    let leaf = format!("R\t-\t16\n{writes}W\t0 1 2 3\nG\t16\n");
+    filled(&format!("P\t8\t8\n{main}{middle}{leaf}"))
 }
 
 /// 56 sleepers, of which input 0 wakes 8, input 1 16 and input 2 32.

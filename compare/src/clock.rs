@@ -1,6 +1,6 @@
 //! Times of work, taken by turns.
 
-pub const ROUNDS: usize = 31;
+pub const ROUNDS: usize = 7;
 const ROUND_NANOSECONDS: f64 = 10e6;
 
 /// The processor time of this process, in nanoseconds, so that other work on the machine counts

@@ -9,6 +9,8 @@ mod bench;
 #[cfg(feature = "archive")]
 mod bench_listings;
 #[cfg(feature = "archive")]
+mod bench_queue;
+#[cfg(feature = "archive")]
 mod board;
 mod calls;
 #[cfg(feature = "archive")]

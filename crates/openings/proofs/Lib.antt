@@ -1,0 +1,9 @@
+pub mod Writes
+pub mod Asking
+pub mod All
+pub mod Sorting
+pub mod Closings
+pub mod SortedOpenings
+pub mod OneMore
+pub mod Listed
+pub mod Examples

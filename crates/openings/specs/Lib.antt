@@ -1,0 +1,4 @@
+pub mod Writes
+pub mod Openings
+pub mod Order
+pub mod Questions

@@ -1,0 +1,4 @@
+pub mod Stores
+pub mod Columns
+pub mod RowBytes
+pub mod Examples

@@ -1,0 +1,70 @@
+-- `test_pages::run_case` meets its contract.
+use mathlib.Core.Path.{_≡_, sym, ap, _∙_}
+use native.Mathlib.Omega.{arith}
+use lib.ListN.{length, length-replicate}
+use lib.Seq.{length-take-le}
+use denote.Ref.{now}
+use borrow.Author.Needs.{needs}
+use Rattle.test_pages.proofs.run_case.Statement.{statement}
+use Rattle.test_pages.proofs.run_case.Tie as tie
+
+fill-bytes-requires : tie.Need-fill-bytes-requires
+fill-bytes-requires c κs = search needs
+
+slice-aggregate-print-page : tie.Need-slice-aggregate-print-page
+slice-aggregate-print-page c =
+    let a = c .before .before .before .before .before .before .before .before .before .args in
+    sym (length-take-le (a .case .moments) (now (a .moments)) (c .before .before .before .before .before .before .before .before .before .pre .0))
+
+slice-aggregate-print-page-2 : tie.Need-slice-aggregate-print-page-2
+slice-aggregate-print-page-2 c =
+    let a = c .before .before .before .before .before .before .before .before .before .before .args in
+    sym (length-take-le (a .case .outputs) (now (a .outputs)) (c .before .before .before .before .before .before .before .before .before .before .pre .1))
+
+slice-aggregate-print-page-3 : tie.Need-slice-aggregate-print-page-3
+slice-aggregate-print-page-3 c =
+    let a = c .before .before .before .before .before .before .before .before .before .before .before .args in
+    sym (length-take-le (a .case .values) (now (a .values)) (c .before .before .before .before .before .before .before .before .before .before .before .pre .2))
+
+slice-relend-prefix-print-page : tie.Need-slice-relend-prefix-print-page
+slice-relend-prefix-print-page c = search needs
+
+slice-aggregate-print-page-4 : tie.Need-slice-aggregate-print-page-4
+slice-aggregate-print-page-4 c =
+    sym (length-take-le _ _ (search needs))
+
+print-page-requires : tie.Need-print-page-requires
+print-page-requires c κs = search needs
+
+slice-reshare-prefix-say-case : tie.Need-slice-reshare-prefix-say-case
+slice-reshare-prefix-say-case c = search needs
+
+slice-aggregate-say-case : tie.Need-slice-aggregate-say-case
+slice-aggregate-say-case c =
+    sym (length-take-le _ _ (search needs))
+
+say-case-requires : tie.Need-say-case-requires
+say-case-requires c κs = search needs
+
+same-length : tie.Need-same-length
+same-length c = search needs
+
+returns : tie.Need-returns
+returns c = search needs
+
+pub run-case-spec : {M : Type 1} → statement M
+run-case-spec =
+    tie.close
+    (tie.spec
+    fill-bytes-requires
+    slice-aggregate-print-page
+    slice-aggregate-print-page-2
+    slice-aggregate-print-page-3
+    slice-relend-prefix-print-page
+    slice-aggregate-print-page-4
+    print-page-requires
+    slice-reshare-prefix-say-case
+    slice-aggregate-say-case
+    say-case-requires
+    same-length
+    returns)

@@ -1,0 +1,77 @@
+-- `test_stored_pages::read_words` meets its contract.
+use mathlib.Core.Path.{_≡_, refl, sym, ap, _∙_}
+use Prim.Native.Nat.{_-_, _≤_}
+use native.Mathlib.Omega.{arith}
+use lib.ListN.{length, take}
+use denote.Ref.{now}
+use Rattle.test_cases.specs.Frame.{wordAt, onward}
+use Rattle.test_stored_pages.specs.Lists.{entriesFrom}
+use Rattle.test_stored_pages.proofs.Reading as reading
+use borrow.Author.Needs.{needs}
+use Rattle.test_stored_pages.proofs.lists.read_words.Statement.{statement}
+use Rattle.test_stored_pages.proofs.lists.read_words.Tie as tie
+
+abbrev Inv-loop : tie.InvT-loop
+Inv-loop s at count list₀ place₀ k₀ list place k =
+    (k ≤ count) × reading.Reading (λ p. wordAt s p) (λ p. onward s p 4) at list₀ list place k
+
+abbrev μ-loop : tie.MeasureT-loop
+μ-loop s at count list₀ place₀ k₀ list place k =
+    count - k
+
+loop-holds : tie.Need-loop-holds Inv-loop μ-loop
+loop-holds c =
+    (omega arith, reading.reading-begun _ _ _ _)
+
+word-at-requires : tie.Need-word-at-requires Inv-loop μ-loop
+word-at-requires c κs = search needs
+
+mul-list : tie.Need-mul-list Inv-loop μ-loop
+mul-list c =
+    omega (arith, c .before .loop-test .taken, c .before .before .loop .inv .1 .long, c .before .before .before .before .before .pre)
+
+slice-write-list : tie.Need-slice-write-list Inv-loop μ-loop
+slice-write-list c =
+    omega (arith, c .before .loop-test .taken, c .before .before .loop .inv .1 .long, c .before .before .before .before .before .pre)
+
+past-requires : tie.Need-past-requires Inv-loop μ-loop
+past-requires c κs = search needs
+
+add-k : tie.Need-add-k Inv-loop μ-loop
+add-k c = search needs
+
+loop-less : tie.Need-loop-less Inv-loop μ-loop
+loop-less c = search needs
+
+loop-again : tie.Need-loop-again Inv-loop μ-loop
+loop-again c =
+    let past = c .before .before .before .before .before .before in
+    let v = c .before .before .before .loop in
+    (omega (arith, c .before .before .loop-test .taken), reading.reading-on (λ p. wordAt (now (past .args .s)) p) (λ p. onward (now (past .args .s)) p 4) (past .args .at) _ _ _ _ (v .inv .1) (omega (arith, c .before .before .loop-test .taken, past .pre)) _ _ (c .before .word-at .ensures) (c .past .ensures))
+
+same-length : tie.Need-same-length Inv-loop μ-loop
+same-length c =
+    c .before .loop .inv .1 .long
+
+returns : tie.Need-returns Inv-loop μ-loop
+returns c =
+    let v = c .before .loop in
+    let e : v .k ≡ c .before .before .before .before .args .count = omega (arith, c .loop-test .left) in
+    (v .inv .1 .long, ap (λ n. take n (v .list)) (sym e) ∙ v .inv .1 .stored ∙ ap (entriesFrom (λ p. wordAt (now (c .before .before .before .before .args .s)) p) (λ p. onward (now (c .before .before .before .before .args .s)) p 4) (c .before .before .before .before .args .at)) e)
+
+pub read-words-spec : {M : Type 1} → statement M
+read-words-spec =
+    tie.close
+    (tie.spec
+    Inv-loop
+    μ-loop
+    loop-holds
+    word-at-requires
+    mul-list
+    slice-write-list
+    past-requires
+    add-k
+    loop-less
+    loop-again
+    same-length
+    returns)

@@ -1,0 +1,15 @@
+-- The lists of a stored case: so many entries one behind another.
+use mathlib.Core.List.{List, [], _∷_}
+use Prim.Native.Nat.{ℕ, zero, suc}
+use Rattle.test_cases.specs.Frame.{wordAt, momentAt, onward}
+
+-- by how an entry is read at a place, and where the next one stands
+unfoldable pub entriesFrom : (ℕ → ℕ) → (ℕ → ℕ) → ℕ → ℕ → List ℕ
+entriesFrom read next at zero = []
+entriesFrom read next at (suc count) = read at ∷ entriesFrom read next (next at) count
+
+abbrev pub momentsFrom : List ℕ → ℕ → ℕ → List ℕ
+momentsFrom s at count = entriesFrom (λ place. momentAt s place) (λ place. onward s place 8) at count
+
+abbrev pub wordsFrom : List ℕ → ℕ → ℕ → List ℕ
+wordsFrom s at count = entriesFrom (λ place. wordAt s place) (λ place. onward s place 4) at count

@@ -5,3 +5,4 @@ pub mod Demands
 pub mod Headings
 pub mod ReadRows
 pub mod Examples
+pub mod Distinct

@@ -19,7 +19,7 @@ use Rattle.openings.proofs.SortedOpenings.{rising-passable, sorted-by-writes}
 use Rattle.page_rows.specs.Rows.{blankRow, joined}
 use Rattle.page_book.specs.Book.{Book, bookOf, entered, allEntered}
 use Rattle.page_book.proofs.Kept.{Valve, shut, Kept, one-more}
-use Rattle.page_book.proofs.RowList.{rowNumber, rowsFrom, shown}
+use Rattle.page_book.proofs.RowList.{Fits, rowNumber, rowsFrom, shown}
 
 -- a write whose numbers have room in their columns
 abbrev Small : Write → Type 0
@@ -70,10 +70,11 @@ all-small e (m ∷ ms) (o ∷ os) (v ∷ vs) h s =
     let w : Write = record { moment = m; output = o; value = v } in
     each (first-below e w (writesOf ms os vs) h, s 0) (all-small (w ∷ e) ms os vs (rest-once e w (writesOf ms os vs) h) (λ k. s (suc k)))
 
--- the memory and the count that are left
+-- the memory and the count that are left; the numbers of the openings have room in their columns
 pub record Shows (first : ℕ) (tail : Bytes) (xs : List Opening) (b : Book) : Type 0 where
   pub rows : b .memory ≡ joined (shown first xs) ++ tail
   pub counted : b .count ≡ length xs
+  pub fit : All Fits xs
 
 pub book-shows : (first : ℕ) (tail memory : Bytes) (ms os vs : List ℕ) → noneFalls ms ≡ true → listedOnce (writesOf ms os vs) ≡ true →
     ((k : ℕ) → getD ms k 0 < 18446744073709551616) → memory ≡ joined (replicate 60 blankRow) ++ tail →
@@ -83,4 +84,4 @@ book-shows first tail memory ms os vs rises once small e =
     let ws = writesOf ms os vs in
     let k = all-kept first tail [] (sort writePrecedes ws) (bookOf memory (replicate 16 0) (replicate 16 0) 0) (none-kept first tail memory e)
     (sort-all writePrecedes ws (all-small [] ms os vs once small)) in
-    rw (sorted-by-writes ws (rising-passable 0 ms os vs rises)) (record { rows = k .rows; counted = k .counted })
+    rw (sorted-by-writes ws (rising-passable 0 ms os vs rises)) (record { rows = k .rows; counted = k .counted; fit = k .fit })

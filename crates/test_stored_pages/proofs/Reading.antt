@@ -6,12 +6,7 @@ use native.Mathlib.Numerals.{add-one}
 use native.Mathlib.Omega.{arith}
 use lib.ListN.{length, set, take, length-set}
 use lib.Seq.{take-suc-set}
-use Rattle.test_stored_pages.specs.Lists.{entriesFrom}
-
--- the place after k entries
-unfoldable pub placeAfter : (ℕ → ℕ) → ℕ → ℕ → ℕ
-placeAfter next at zero = at
-placeAfter next at (suc k) = placeAfter next (next at) k
+use Rattle.test_stored_pages.specs.Lists.{entriesFrom, placeAfter}
 
 module _ (read next : ℕ → ℕ) where
   place-next : (at k : ℕ) → placeAfter next at (suc k) ≡ next (placeAfter next at k)

@@ -2,7 +2,7 @@
 ghost use mathlib.Core.Path.{_≡_};
 ghost use Prim.Native.Nat.{_≤_};
 ghost use lib.ListN.{length, take};
-ghost use Rattle.test_stored_pages.specs.Lists.{momentsFrom, wordsFrom};
+ghost use Rattle.test_stored_pages.specs.Lists.{momentsFrom, wordsFrom, pastEntries};
 use test_cases::frame::moment_at;
 use test_cases::frame::past;
 use test_cases::frame::word_at;
@@ -10,7 +10,8 @@ use test_cases::frame::word_at;
 // So many moments.
 pub fn read_moments(s: &[u8], at: usize, count: usize, list: &mut [u64]) -> usize
     requires { ⌜ count ≤ length (now list) ⌝ }
-    ensures { λ _. ⌜ (length (now (list .exit)) ≡ length (now (list .entry))) × (take count (now (list .exit)) ≡ momentsFrom (now (s .entry)) at count) ⌝ }
+    ensures { λ r. ⌜ (length (now (list .exit)) ≡ length (now (list .entry))) × (take count (now (list .exit)) ≡ momentsFrom (now (s .entry)) at count)
+        × (r ≡ pastEntries (now (s .entry)) 8 at count) ⌝ }
 {
     let mut place = at;
     let mut k: usize = 0;
@@ -25,7 +26,8 @@ pub fn read_moments(s: &[u8], at: usize, count: usize, list: &mut [u64]) -> usiz
 // So many words.
 pub fn read_words(s: &[u8], at: usize, count: usize, list: &mut [u32]) -> usize
     requires { ⌜ count ≤ length (now list) ⌝ }
-    ensures { λ _. ⌜ (length (now (list .exit)) ≡ length (now (list .entry))) × (take count (now (list .exit)) ≡ wordsFrom (now (s .entry)) at count) ⌝ }
+    ensures { λ r. ⌜ (length (now (list .exit)) ≡ length (now (list .entry))) × (take count (now (list .exit)) ≡ wordsFrom (now (s .entry)) at count)
+        × (r ≡ pastEntries (now (s .entry)) 4 at count) ⌝ }
 {
     let mut place = at;
     let mut k: usize = 0;

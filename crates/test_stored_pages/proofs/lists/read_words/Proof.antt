@@ -5,7 +5,7 @@ use native.Mathlib.Omega.{arith}
 use lib.ListN.{length, take}
 use denote.Ref.{now}
 use Rattle.test_cases.specs.Frame.{wordAt, onward}
-use Rattle.test_stored_pages.specs.Lists.{entriesFrom}
+use Rattle.test_stored_pages.specs.Lists.{entriesFrom, placeAfter}
 use Rattle.test_stored_pages.proofs.Reading as reading
 use borrow.Author.Needs.{needs}
 use Rattle.test_stored_pages.proofs.lists.read_words.Statement.{statement}
@@ -57,7 +57,7 @@ returns : tie.Need-returns Inv-loop μ-loop
 returns c =
     let v = c .before .loop in
     let e : v .k ≡ c .before .before .before .before .args .count = omega (arith, c .loop-test .left) in
-    (v .inv .1 .long, ap (λ n. take n (v .list)) (sym e) ∙ v .inv .1 .stored ∙ ap (entriesFrom (λ p. wordAt (now (c .before .before .before .before .args .s)) p) (λ p. onward (now (c .before .before .before .before .args .s)) p 4) (c .before .before .before .before .args .at)) e)
+    (v .inv .1 .long, ap (λ n. take n (v .list)) (sym e) ∙ v .inv .1 .stored ∙ ap (entriesFrom (λ p. wordAt (now (c .before .before .before .before .args .s)) p) (λ p. onward (now (c .before .before .before .before .args .s)) p 4) (c .before .before .before .before .args .at)) e, v .inv .1 .stands ∙ ap (placeAfter (λ p. onward (now (c .before .before .before .before .args .s)) p 4) (c .before .before .before .before .args .at)) e)
 
 pub read-words-spec : {M : Type 1} → statement M
 read-words-spec =

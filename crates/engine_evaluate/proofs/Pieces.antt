@@ -32,7 +32,7 @@ pub record NoKind (kind : ℕ) : Type 0 where
   pub not2 : kind ≡ 2 → ⊥
   pub no-sign : isSign kind ≡ false
 
-other-than-sign : (kind sign : ℕ) → isSign kind ≡ false → isSign sign ≡ true → kind ≡ sign → ⊥
+pub other-than-sign : (kind sign : ℕ) → isSign kind ≡ false → isSign sign ≡ true → kind ≡ sign → ⊥
 other-than-sign kind sign is-none is-one e =
     let clash : false ≡ true = sym is-none ∙ (ap isSign e ∙ is-one) in
     let z : _≡_ {A = ℕ} 0 1 = cc in absurd (omega arith)
@@ -42,7 +42,7 @@ module _ (t : List ℕ) (a : ℕ) where
   abbrev pub Of : ℕ → Piece
   Of k = pieceOf k (word t (a + 1))
 
-  by-kind : (k : ℕ) → word t a ≡ k → pieceAt t a ≡ Of k
+  pub by-kind : (k : ℕ) → word t a ≡ k → pieceAt t a ≡ Of k
   unfolding pieceAt
   by-kind k e = let z : a + 0 ≡ a = omega arith in rw (z, e)
 
@@ -113,7 +113,7 @@ sign-joins (suc (suc (suc (suc (suc zero))))) v low high = record { effect = ref
 sign-joins (suc (suc (suc (suc (suc (suc zero)))))) v low high = record { effect = refl; values = λ moment names values. refl }
 sign-joins (suc (suc (suc (suc (suc (suc (suc kind))))))) v low high = absurd (omega arith)
 
-joins-by : (t : List ℕ) (a : ℕ) → isSign (word t a) ≡ true → JoinsBy (signOf (word t a)) (pieceAt t a)
+pub joins-by : (t : List ℕ) (a : ℕ) → isSign (word t a) ≡ true → JoinsBy (signOf (word t a)) (pieceAt t a)
 joins-by t a is-one =
     let kind = word t a in
     let within = both (leb 3 kind) (leb kind 6) is-one in

@@ -13,6 +13,7 @@ use crate::stack::Held;
 use crate::stack::is_sign;
 use crate::stack::operate;
 use crate::stack::push;
+use crate::stack::sign;
 use engine_variables::owner;
 use engine_variables::value;
 use engine_variables::written;
@@ -70,8 +71,8 @@ fn piece(t: &[u32], m: &[u32], me: usize, at: usize, values: &mut [u32; 8], held
     push(values, held, v)
 }
 
-// The value of the `pieces` pieces whose cells stand from word `cells` of the table on.
-pub fn evaluate(t: &[u32], m: &[u32], me: usize, cells: usize, pieces: usize) -> u32
+// The value of an expression of any number of pieces, piece by piece.
+fn each_piece(t: &[u32], m: &[u32], me: usize, cells: usize, pieces: usize) -> u32
     requires { ⌜ Evaluable (now t) (now m) me cells pieces ⌝ }
     ensures { λ r. ⌜ Evaluates (now (m .entry)) me (piecesAt (now (t .entry)) cells pieces) r ⌝ }
 {
@@ -85,4 +86,29 @@ pub fn evaluate(t: &[u32], m: &[u32], me: usize, cells: usize, pieces: usize) ->
         left -= 1;
     }
     held.top
+}
+
+// The value of an expression of three pieces: two that add a value, and a sign.
+fn joined(t: &[u32], m: &[u32], me: usize, cells: usize) -> u32
+    requires { ⌜ Evaluable (now t) (now m) me cells 3 ⌝ }
+    ensures { λ r. ⌜ Evaluates (now (m .entry)) me (piecesAt (now (t .entry)) cells 3) r ⌝ }
+{
+    let left = operand(t, m, me, cells);
+    let right = operand(t, m, me, cells + CELL_WORDS);
+    sign(t[cells + 2 * CELL_WORDS], left, right)
+}
+
+// The value of the `pieces` pieces whose cells stand from word `cells` of the table on. (One piece and three are most of what
+// listings have, and need no stack.)
+pub fn evaluate(t: &[u32], m: &[u32], me: usize, cells: usize, pieces: usize) -> u32
+    requires { ⌜ Evaluable (now t) (now m) me cells pieces ⌝ }
+    ensures { λ r. ⌜ Evaluates (now (m .entry)) me (piecesAt (now (t .entry)) cells pieces) r ⌝ }
+{
+    if pieces == 1 {
+        return operand(t, m, me, cells);
+    }
+    if pieces == 3 {
+        return joined(t, m, me, cells);
+    }
+    each_piece(t, m, me, cells, pieces)
 }

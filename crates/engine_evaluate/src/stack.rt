@@ -40,7 +40,7 @@ pub fn is_sign(kind: u32) -> bool
 }
 
 // The sign with this kind's number, between two values.
-fn sign(kind: u32, left: u32, right: u32) -> u32
+pub fn sign(kind: u32, left: u32, right: u32) -> u32
     ensures { λ r. ⌜ r ≡ signOf kind left right ⌝ }
 {
     match kind {

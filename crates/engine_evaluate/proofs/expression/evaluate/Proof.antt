@@ -1,52 +1,39 @@
--- `evaluate` meets its contract: the loop keeps `Before`: what is left of the expression, on the values held, gives the value of the whole.
+-- `evaluate` meets its contract: one piece and three by their form, others piece by piece.
+use mathlib.Core.Path.{_≡_}
 use native.Mathlib.Omega.{arith}
 use borrow.Author.Needs.{needs}
-use Rattle.engine_evaluate.proofs.Turns.{Before, first-turn, may-come, next-turn, last-turn}
+use Rattle.engine_evaluate.proofs.Short.{one-piece, one-value}
 use Rattle.engine_evaluate.proofs.expression.evaluate.Statement.{statement}
 use Rattle.engine_evaluate.proofs.expression.evaluate.Tie as tie
 
-abbrev Inv-loop : tie.InvT-loop
-Inv-loop t m me cells pieces values₀ held₀ at₀ left₀ values held at left = Before t m me cells pieces values held at left
+operand-requires : tie.Need-operand-requires
+operand-requires c κs =
+    let one : c .before .before .before .args .pieces ≡ 1 = omega arith in
+    let piece = one-piece (rw one at (c .before .before .before .pre)) in
+    (piece .piece, piece .no-sign)
 
-abbrev μ-loop : tie.MeasureT-loop
-μ-loop t m me cells pieces values₀ held₀ at₀ left₀ values held at left = left
-
-loop-holds : tie.Need-loop-holds Inv-loop μ-loop
-loop-holds c =
-    first-turn _ (search needs) (c .before .before .pre)
-
-piece-requires : tie.Need-piece-requires Inv-loop μ-loop
-piece-requires c κs =
-    may-come (c .before .before .loop .inv) (c .before .loop-test .taken) (c .before .before .before .before .before .pre)
-
-add-at : tie.Need-add-at Inv-loop μ-loop
-add-at c =
-    omega (arith, c .before .before .before .loop .inv .place, c .before .before .before .before .before .before .pre .inside)
-
-sub-left : tie.Need-sub-left Inv-loop μ-loop
-sub-left c = search needs
-
-loop-less : tie.Need-loop-less Inv-loop μ-loop
-loop-less c = search needs
-
-loop-again : tie.Need-loop-again Inv-loop μ-loop
-loop-again c =
-    next-turn (c .before .before .before .loop .inv) (c .before .before .loop-test .taken) (c .piece .ensures)
-
-returns : tie.Need-returns Inv-loop μ-loop
+returns : tie.Need-returns
 returns c =
-    last-turn (c .before .loop .inv) (omega arith)
+    let one : c .before .before .before .before .args .pieces ≡ 1 = omega arith in
+    rw one (one-value (c .operand .ensures))
+
+joined-requires : tie.Need-joined-requires
+joined-requires c κs =
+    let three : c .before .before .before .before .args .pieces ≡ 3 = omega arith in
+    rw three at (c .before .before .before .before .pre)
+
+returns-2 : tie.Need-returns-2
+returns-2 c =
+    let three : c .before .before .before .before .before .args .pieces ≡ 3 = omega arith in
+    rw three (c .joined .ensures)
+
+each-piece-requires : tie.Need-each-piece-requires
+each-piece-requires c κs = search needs
+
+returns-3 : tie.Need-returns-3
+returns-3 c = search needs
 
 pub evaluate-spec : {M : Type 1} → statement M
 evaluate-spec =
     tie.close
-    (tie.spec
-    Inv-loop
-    μ-loop
-    loop-holds
-    piece-requires
-    add-at
-    sub-left
-    loop-less
-    loop-again
-    returns)
+    (tie.spec operand-requires returns joined-requires returns-2 each-piece-requires returns-3)

@@ -10,11 +10,11 @@ use Rattle.walk.specs.Calls.{Outcome}
 use Rattle.walk.specs.Boards.{BoardCall, BoardCalls, no-more, and-then, BoardRun, CallArguments, argumentsOf}
 use Rattle.board_promises.specs.Sessions.{SessionOf}
 use Rattle.layout.specs.Layout.{layout}
-use Rattle.fabrwent.specs.Figures.{dueIn, resultIn, DueTold}
+use Rattle.call_figures.specs.Figures.{dueIn, resultIn, DueTold}
 use Rattle.fabrwent.specs.Loading.{LoadFigures}
 use Rattle.fabrwent.specs.Runs.{ExportedCall, ExportedCalls, no-call, one-call, ExportedRun, asBoardCall, asBoardCalls, asBoardRun}
-use Rattle.fabrwent.specs.declared.calls.FabrwentCall.{FabrwentCall}
-use Rattle.fabrwent.specs.declared.loading.FabrwentLoad.{FabrwentLoad}
+use Rattle.call_figures.specs.declared.FabrwentCall.{FabrwentCall}
+use Rattle.call_figures.specs.declared.loading.FabrwentLoad.{FabrwentLoad}
 use Rattle.fabrwent.proofs.Told.{left-words}
 use Rattle.demands.specs.Exists.{ExportedSessionOf}
 

@@ -7,7 +7,7 @@ use Rattle.walk.specs.Calls.{laterWords}
 use Rattle.walk.specs.Promises.{TableAfter}
 use Rattle.table.specs.Areas.{tableWords}
 use Rattle.layout.specs.Layout.{layout}
-use Rattle.fabrwent.specs.declared.loading.FabrwentLoad.{FabrwentLoad}
+use Rattle.call_figures.specs.declared.loading.FabrwentLoad.{FabrwentLoad}
 
 -- The table afterwards: "a refusal leaves all lent memory untouched"; else the listing's 12,288 words, and "The loader clears the table's unused
 -- words among the 12,288. Words past 12,288 are never touched." (table `unused-words-are-0`: a word that holds nothing of the listing is 0.)

@@ -6,10 +6,11 @@ use Rattle.listing.specs.Load.{loading, isLongEnough}
 use Rattle.walk.specs.Calls.{Words32}
 use Rattle.walk.specs.Boards.{BoardCall, BoardCalls, no-more, and-then, BoardRun, CallArguments}
 use Rattle.layout.specs.Layout.{layout}
-use Rattle.fabrwent.specs.Figures.{resultIn, StartFigures, InstantFigures}
+use Rattle.call_figures.specs.Figures.{resultIn}
+use Rattle.fabrwent.specs.Figures.{StartFigures, InstantFigures}
 use Rattle.fabrwent.specs.Loading.{LoadFigures}
-use Rattle.fabrwent.specs.declared.calls.FabrwentCall.{FabrwentCall}
-use Rattle.fabrwent.specs.declared.loading.FabrwentLoad.{FabrwentLoad}
+use Rattle.call_figures.specs.declared.FabrwentCall.{FabrwentCall}
+use Rattle.call_figures.specs.declared.loading.FabrwentLoad.{FabrwentLoad}
 
 -- One call of `fabrwent_instant`: what it was handed, table and machine apart, what it left, and its figures.
 pub record ExportedCall : Type 0 where

@@ -1,81 +1,10 @@
-// Start, instant and comparison, with their answers as figures.
-ghost use Rattle.fabrwent.specs.Figures.{StartFigures, InstantFigures, AlikeFigures, turnedAway, goneThrough, ofAnswer};
-ghost use mathlib.Core.Path.{_≡_};
-use call_alike::Comparison;
-use call_engine::Answer;
-use call_engine::Due;
-use call_engine::Figures;
+// Start, instant and comparison.
+ghost use Rattle.fabrwent.specs.Figures.{StartFigures, InstantFigures, AlikeFigures};
+use call_figures::FabrwentAlike;
+use call_figures::FabrwentCall;
+use call_figures::alike_figures;
+use call_figures::figures_of;
 use words::Moment;
-
-// Number, place, steps used, output writes listed; 1 and the next moment due, or 0 and 0 for none.
-#[repr(C)]
-pub struct FabrwentCall {
-    pub number: u32,
-    pub place: u32,
-    pub steps: u32,
-    pub listed: u32,
-    pub due_known: u32,
-    pub due: u64,
-}
-
-// Number, place, and 1 if the machines are alike.
-#[repr(C)]
-pub struct FabrwentAlike {
-    pub number: u32,
-    pub place: u32,
-    pub alike: u32,
-}
-
-// The figures of a refusal or a stop.
-fn turned_away(number: u32) -> FabrwentCall
-    ensures { λ r. ⌜ r ≡ turnedAway number ⌝ }
-{
-    FabrwentCall {
-        number: number,
-        place: 0,
-        steps: 0,
-        listed: 0,
-        due_known: 0,
-        due: 0,
-    }
-}
-
-fn gone_through(figures: Figures) -> FabrwentCall
-    ensures { λ r. ⌜ r ≡ goneThrough (figures .steps) (figures .listed) (figures .due) ⌝ }
-{
-    let due = figures.due;
-    let steps = figures.steps;
-    let listed = figures.listed;
-    match due {
-        Due::Never => FabrwentCall {
-            number: 0,
-            place: 0,
-            steps: steps,
-            listed: listed,
-            due_known: 0,
-            due: 0,
-        },
-        Due::At(moment) => FabrwentCall {
-            number: 0,
-            place: 0,
-            steps: steps,
-            listed: listed,
-            due_known: 1,
-            due: moment,
-        },
-    }
-}
-
-// The figures of an answer.
-fn figures_of(answer: Answer) -> FabrwentCall
-    ensures { λ r. ⌜ r ≡ ofAnswer answer ⌝ }
-{
-    match answer {
-        Answer::Refused(number) => turned_away(number),
-        Answer::Stopped(number) => turned_away(number),
-        Answer::Done(figures) => gone_through(figures),
-    }
-}
 
 #[no_mangle]
 pub extern "C" fn fabrwent_start(
@@ -123,16 +52,5 @@ pub extern "C" fn fabrwent_instant(
 pub extern "C" fn fabrwent_alike(table: &[u32], a: &[u32], b: &[u32]) -> FabrwentAlike
     ensures { λ r. ⌜ AlikeFigures (now (table .entry)) (now (a .entry)) (now (b .entry)) r ⌝ }
 {
-    match call_alike::alike(table, a, b) {
-        Comparison::Refused(number) => FabrwentAlike {
-            number: number,
-            place: 0,
-            alike: 0,
-        },
-        Comparison::Alike(alike) => FabrwentAlike {
-            number: 0,
-            place: 0,
-            alike: alike as u32,
-        },
-    }
+    alike_figures(call_alike::alike(table, a, b))
 }

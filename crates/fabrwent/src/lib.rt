@@ -3,10 +3,10 @@
 pub mod calls;
 pub mod loading;
 
-pub use calls::FabrwentAlike;
-pub use calls::FabrwentCall;
+pub use call_figures::FabrwentAlike;
+pub use call_figures::FabrwentCall;
+pub use call_figures::FabrwentLoad;
 pub use calls::fabrwent_alike;
 pub use calls::fabrwent_instant;
 pub use calls::fabrwent_start;
-pub use loading::FabrwentLoad;
 pub use loading::fabrwent_load;

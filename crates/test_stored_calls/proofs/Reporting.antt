@@ -1,8 +1,8 @@
 -- The figures of a call.
 use mathlib.Core.Path.{_≡_, refl, ap, _∙_}
 use Prim.Native.Nat.{ℕ, zero, suc}
-use Rattle.fabrwent.specs.Figures.{dueIn, resultIn, DueTold}
-use Rattle.fabrwent.specs.declared.calls.FabrwentCall.{FabrwentCall}
+use Rattle.call_figures.specs.Figures.{dueIn, resultIn, DueTold}
+use Rattle.call_figures.specs.declared.FabrwentCall.{FabrwentCall}
 use Rattle.test_stored_calls.specs.Reports.{dueFigure, reportOf}
 use Rattle.test_stored_answers.specs.declared.Report.{Report}
 

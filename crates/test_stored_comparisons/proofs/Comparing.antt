@@ -8,7 +8,7 @@ use lib.ListN.{take}
 use borrow.Author.Tests.{eqb-true, eq-eqb}
 use Rattle.walk.specs.Comparison.{Compared, comparedNumber, comparedPlace, comparedAlike, alikeCall}
 use Rattle.layout.specs.Layout.{layout}
-use Rattle.fabrwent.specs.Figures.{bit}
+use Rattle.call_figures.specs.Figures.{bit}
 use Rattle.test_cases.specs.Frame.{wordAt, onward}
 use Rattle.test_cases.specs.Words.{Tells}
 use Rattle.test_lending.specs.Places.{lentPlaces, spoiltTable, spoiltMachine}

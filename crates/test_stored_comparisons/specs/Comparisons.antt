@@ -5,7 +5,7 @@ use mathlib.Core.List.{List}
 use Prim.Native.Nat.{ℕ}
 use Rattle.walk.specs.Comparison.{Compared, comparedNumber, comparedAlike, alikeCall}
 use Rattle.layout.specs.Layout.{layout}
-use Rattle.fabrwent.specs.Figures.{bit}
+use Rattle.call_figures.specs.Figures.{bit}
 use Rattle.test_cases.specs.Frame.{wordAt, onward}
 use Rattle.test_cases.specs.Words.{Tells}
 use Rattle.test_lending.specs.Places.{lentPart, spoiltTable, spoiltMachine}

@@ -1,9 +1,9 @@
--- `fabrwent::gone_through` meets its contract.
+-- `call_figures::gone_through` meets its contract.
 use mathlib.Core.Path.{sym, ap}
-use Rattle.fabrwent.specs.Figures.{goneThrough}
+use Rattle.call_figures.specs.Figures.{goneThrough}
 use borrow.Author.Needs.{needs}
-use Rattle.fabrwent.proofs.calls.gone_through.Statement.{statement}
-use Rattle.fabrwent.proofs.calls.gone_through.Tie as tie
+use Rattle.call_figures.proofs.gone_through.Statement.{statement}
+use Rattle.call_figures.proofs.gone_through.Tie as tie
 
 enum-told : tie.Need-enum-told
 enum-told c = search needs

@@ -1,9 +1,9 @@
--- `fabrwent::figures_of` meets its contract.
+-- `call_figures::figures_of` meets its contract.
 use mathlib.Core.Path.{sym, ap, _∙_}
-use Rattle.fabrwent.specs.Figures.{ofAnswer}
+use Rattle.call_figures.specs.Figures.{ofAnswer}
 use borrow.Author.Needs.{needs}
-use Rattle.fabrwent.proofs.calls.figures_of.Statement.{statement}
-use Rattle.fabrwent.proofs.calls.figures_of.Tie as tie
+use Rattle.call_figures.proofs.figures_of.Statement.{statement}
+use Rattle.call_figures.proofs.figures_of.Tie as tie
 
 enum-known-answer : tie.Need-enum-known-answer
 enum-known-answer c = search needs

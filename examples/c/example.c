@@ -16,54 +16,45 @@ static const char listing[] =
     "G\t0\n";
 
 /* All memory is ours; the library is lent it call by call. */
-static uint32_t table[FABRWENT_TABLE_WORDS];
-static uint32_t machine[FABRWENT_MACHINE_WORDS];
-static uint32_t out_numbers[FABRWENT_OUTPUT_PLACES];
-static uint32_t out_values[FABRWENT_OUTPUT_PLACES];
+static fabrwent_table table;
+static fabrwent_machine machine;
+static fabrwent_outputs outputs;
+
+enum { ALLOWANCE = 10000 };
 
 static int show(const char *call, uint64_t t, fabrwent_ran ran)
 {
-    if (ran.number != 0) {
+    if (ran.number != FABRWENT_OK) {
         printf("%s at %" PRIu64 ": number %" PRIu32 "\n", call, t, ran.number);
         return 0;
     }
     for (uint32_t k = 0; k < ran.listed; k++) {
-        printf("O\t%" PRIu64 "\t%" PRIu32 "\t%" PRId32 "\n", t, out_numbers[k], (int32_t)out_values[k]);
+        printf("O\t%" PRIu64 "\t%" PRIu32 "\t%" PRId32 "\n", t, outputs.numbers[k], (int32_t)outputs.values[k]);
     }
     return 1;
 }
 
-static fabrwent_ran instant(uint64_t t, const uint32_t *numbers, const uint32_t *values, size_t inputs)
-{
-    return fabrwent_instant(table, FABRWENT_TABLE_WORDS, machine, FABRWENT_MACHINE_WORDS, t,
-                            numbers, inputs, values, inputs,
-                            out_numbers, FABRWENT_OUTPUT_PLACES, out_values, FABRWENT_OUTPUT_PLACES,
-                            10000);
-}
-
 int main(void)
 {
-    fabrwent_loaded loaded = fabrwent_load((const uint8_t *)listing, strlen(listing), table, FABRWENT_TABLE_WORDS);
-    if (loaded.number != 0) {
+    fabrwent_loaded loaded = fabrwent_table_load(&table, listing, strlen(listing));
+    if (loaded.number != FABRWENT_OK) {
         printf("load: number %" PRIu32 " at line %" PRIu64 "\n", loaded.number, loaded.place);
         return 1;
     }
-    fabrwent_ran ran = fabrwent_start(table, FABRWENT_TABLE_WORDS, machine, FABRWENT_MACHINE_WORDS,
-                                      out_numbers, FABRWENT_OUTPUT_PLACES, out_values, FABRWENT_OUTPUT_PLACES,
-                                      10000);
+    fabrwent_ran ran = fabrwent_machine_start(&table, &machine, &outputs, ALLOWANCE);
     if (!show("start", 0, ran)) {
         return 1;
     }
     const uint32_t press_number[] = {0};
     const uint32_t press_value[] = {1};
     uint64_t t = 5000;
-    ran = instant(t, press_number, press_value, 1);
+    ran = fabrwent_machine_instant(&table, &machine, t, press_number, press_value, 1, &outputs, ALLOWANCE);
     if (!show("instant", t, ran)) {
         return 1;
     }
     while (ran.due_known) {
         t = ran.due;
-        ran = instant(t, press_number, press_value, 0);
+        ran = fabrwent_machine_instant(&table, &machine, t, NULL, NULL, 0, &outputs, ALLOWANCE);
         if (!show("instant", t, ran)) {
             return 1;
         }

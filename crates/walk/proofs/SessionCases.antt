@@ -1,8 +1,15 @@
 -- Cases of the session: a listing, a trace and what is printed, derived from document 01. (More in walk_cases SessionCases.)
 use mathlib.Core.Path.{_≡_, refl}
 use mathlib.Core.List.{List, [], _∷_}
+use Prim.Native.Nat.{ℕ}
 use Prim.Native.String.{String}
 use Rattle.listing.specs.Bytes.{Bytes, bytesOf}
+use Rattle.listing.specs.Listing.{Listing}
+use Rattle.walk.specs.State.{State}
+use Rattle.walk.specs.Instant.{Write}
+use Rattle.walk.specs.Calls.{startOn, instantFrom}
+use Rattle.walk.specs.Trace.{Script}
+use Rattle.walk.specs.Session.{played, andThen, callFrom, play, playAll}
 use Rattle.walk.specs.Evaluation.{sessionQuoted}
 use Rattle.walk.proofs.Cases.{shown}
 
@@ -117,17 +124,13 @@ pub sessions-print-as-stated : printedIn sessions ≡ expectedIn sessions
 unfolding printedIn expectedIn
 sessions-print-as-stated = refl
 
--- ── "allowance 10,000" ────────────────────────────────────────────────────────────────────────────
--- 909 turns of eleven instructions, but for the last `G`, are 9,998 steps; `S` before and `E` after make 10,000, and one `G` more 10,001.
--- (Most are `G`, which is quick to evaluate.) Of other steps see walk_cases SessionCases, of an instant walk_laws SessionAllowance.
-pub start-of-10000-steps-goes-through : Prints (session "a start of 10,000 steps goes through"
-    "P|0|1\nR|r|0\nS|0|#909\nG|2\nG|3\nG|4\nG|5\nG|6\nG|7\nG|8\nG|9\nS|0|0 #1 -\nU|0|12\nG|1\nE\n"
-    "Q|9\n" "O|0|0|0\nX|0|0\n")
-unfolding printedIn expectedIn
-start-of-10000-steps-goes-through = refl
+-- ── "allowance 10,000" ─────────────────────────────────────────────────────────
+-- The start and every instant that a session makes have it. (Starts of 10,000 and of 10,001 steps: walk_cases SessionCases; instants: walk_laws SessionAllowance.)
+pub the-start-has-10000-steps : (listing : Listing) (sc : Script) → playAll listing sc ≡ andThen (played 0 0 (startOn listing 10000)) (play listing sc)
+unfolding playAll
+the-start-has-10000-steps listing sc = refl
 
-pub start-of-10001-steps-is-13 : Prints (session "a start of 10,001 steps is 13"
-    "P|0|1\nR|r|0\nS|0|#909\nG|2\nG|3\nG|4\nG|5\nG|6\nG|7\nG|8\nG|9\nS|0|0 #1 -\nU|0|12\nG|1\nG|13\nE\n"
-    "Q|9\n" "X|13|0\n")
-unfolding printedIn expectedIn
-start-of-10001-steps-is-13 = refl
+pub each-instant-has-10000-steps : (listing : Listing) (t : ℕ) (inputs : List Write) (s : State)
+    → callFrom listing t inputs s ≡ played (s .now) t (instantFrom listing s t inputs 10000)
+unfolding callFrom
+each-instant-has-10000-steps listing t inputs s = refl

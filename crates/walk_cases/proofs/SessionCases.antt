@@ -93,6 +93,19 @@ pub start-of-10001-steps-with-sums-is-13 : Prints (session "a start of 10,001 st
 unfolding printedIn expectedIn
 start-of-10001-steps-with-sums-is-13 = refl
 
+-- 909 turns of eleven instructions, but for the last `G`, are 9,998 steps; `S` before and `E` after make 10,000, and one `G` more 10,001.
+pub start-of-10000-steps-goes-through : Prints (session "a start of 10,000 steps goes through"
+    "P|0|1\nR|r|0\nS|0|#909\nG|2\nG|3\nG|4\nG|5\nG|6\nG|7\nG|8\nG|9\nS|0|0 #1 -\nU|0|12\nG|1\nE\n"
+    "Q|9\n" "O|0|0|0\nX|0|0\n")
+unfolding printedIn expectedIn
+start-of-10000-steps-goes-through = refl
+
+pub start-of-10001-steps-is-13 : Prints (session "a start of 10,001 steps is 13"
+    "P|0|1\nR|r|0\nS|0|#909\nG|2\nG|3\nG|4\nG|5\nG|6\nG|7\nG|8\nG|9\nS|0|0 #1 -\nU|0|12\nG|1\nG|13\nE\n"
+    "Q|9\n" "X|13|0\n")
+unfolding printedIn expectedIn
+start-of-10001-steps-is-13 = refl
+
 -- ── "Before loading, a listing over 49,152 bytes has code 3, else a trace over 49,152 code 2." ────
 -- So many spaces.
 abbrev pub spaces : ℕ → Bytes

@@ -5,7 +5,7 @@
  * of the two memories. `tools/install PREFIX` installs the archive, this header and a
  * pkg-config file; `rt staticlib fabrwent` writes target/staticlib/libfabrwent.a alone.
  *
- * The parts of this header: version, lengths, numbers, results, the four calls, and the
+ * The parts of this header: version, lengths, numbers, results, the five calls, and the
  * same calls on typed memories.
  *
  * PLATFORM. The kit compiles the archive for x86-64 Linux (System V calling
@@ -47,6 +47,7 @@
  *     instant     2,488       28 us on a full table with 64 routines and 1,024 waiting
  *                             writes, and its steps
  *     alike       1,880       17 us for two such machines
+ *     look      not measured; it puts the questions of an alike to one machine
  *
  * A step takes 6 to 40 ns with expressions of up to 73 pieces, 0.9 us if it writes a
  * variable on which 49 routines wait four times each, and 8 us, the most that was
@@ -71,7 +72,7 @@ extern "C" {
  * MINOR if something is added. The archive has no version of its own: keep both of one
  * installation. */
 #define FABRWENT_VERSION_MAJOR 1
-#define FABRWENT_VERSION_MINOR 0
+#define FABRWENT_VERSION_MINOR 1
 #define FABRWENT_VERSION (FABRWENT_VERSION_MAJOR * 1000 + FABRWENT_VERSION_MINOR)
 
 /* ---- Lengths ---------------------------------------------------------------------- */
@@ -104,11 +105,12 @@ enum fabrwent_number {
     FABRWENT_NOT_THERE = 4,
     /* load: a routine has no line, or its last line is neither E nor G */
     FABRWENT_NO_END = 5,
-    /* start, instant, alike: the table is none that a load leaves */
+    /* start, instant, alike, look: the table is none that a load leaves */
     FABRWENT_NO_TABLE = 6,
-    /* instant, alike: the machine is neither stopped nor a state of the walk on this table */
+    /* instant, alike, look: the machine is neither stopped nor a state of the walk on this
+     * table */
     FABRWENT_NO_MACHINE = 7,
-    /* instant, alike: the machine is stopped */
+    /* instant, alike, look: the machine is stopped */
     FABRWENT_STOPPED = 8,
     /* instant: t is not after the present moment */
     FABRWENT_NOT_AFTER = 9,
@@ -158,6 +160,15 @@ typedef struct {
     uint32_t alike; /* 1 if the machines are alike, else 0 */
 } fabrwent_compared;
 
+/* The result of a look. */
+typedef struct {
+    uint32_t number;
+    uint32_t place;     /* 0 */
+    uint32_t due_known; /* 1 if a moment is due, else 0 */
+    uint64_t moment;    /* the present moment; 0 for a refusal */
+    uint64_t due;       /* the next moment due; 0 if none is */
+} fabrwent_seen;
+
 /* A compiler that lays the results out otherwise than the archive does is told here
  * (from C11 and C++11 on). */
 #if defined(__cplusplus) && __cplusplus >= 201103L
@@ -170,6 +181,7 @@ FABRWENT_ASSERT(sizeof(void *) == 8 && sizeof(size_t) == 8);
 FABRWENT_ASSERT(sizeof(fabrwent_loaded) == 16 && offsetof(fabrwent_loaded, place) == 8);
 FABRWENT_ASSERT(sizeof(fabrwent_ran) == 32 && offsetof(fabrwent_ran, due_known) == 16 && offsetof(fabrwent_ran, due) == 24);
 FABRWENT_ASSERT(sizeof(fabrwent_compared) == 12 && offsetof(fabrwent_compared, alike) == 8);
+FABRWENT_ASSERT(sizeof(fabrwent_seen) == 32 && offsetof(fabrwent_seen, due_known) == 8 && offsetof(fabrwent_seen, moment) == 16 && offsetof(fabrwent_seen, due) == 24);
 #endif
 
 /* ---- The calls -------------------------------------------------------------------- */
@@ -210,6 +222,12 @@ fabrwent_ran fabrwent_instant(const uint32_t *table, size_t table_words,
 fabrwent_compared fabrwent_alike(const uint32_t *table, size_t table_words,
                                  const uint32_t *a, size_t a_words,
                                  const uint32_t *b, size_t b_words);
+
+/* Looks at a machine that was found, as after a power cut: the present moment, which is
+ * the t of the last call with number 0 on it (0 after the start), and the next moment
+ * due, as that call gave it. Writes nothing. Questions 1, 6, 7, 8. */
+fabrwent_seen fabrwent_look(const uint32_t *table, size_t table_words,
+                            const uint32_t *machine, size_t machine_words);
 
 /* ---- The same calls on typed memories --------------------------------------------- */
 
@@ -260,6 +278,11 @@ static inline fabrwent_compared fabrwent_machines_alike(const fabrwent_table *ta
                                                         const fabrwent_machine *b)
 {
     return fabrwent_alike(table->words, FABRWENT_WORDS, a->words, FABRWENT_WORDS, b->words, FABRWENT_WORDS);
+}
+
+static inline fabrwent_seen fabrwent_machine_look(const fabrwent_table *table, const fabrwent_machine *machine)
+{
+    return fabrwent_look(table->words, FABRWENT_WORDS, machine->words, FABRWENT_WORDS);
 }
 
 #ifdef FABRWENT_ASSERT

@@ -28,6 +28,16 @@ pub struct Compared {
     pub alike: u32,
 }
 
+#[repr(C)]
+#[derive(Clone, Copy, Debug, PartialEq)]
+pub struct Seen {
+    pub number: u32,
+    pub place: u32,
+    pub due_known: u32,
+    pub moment: u64,
+    pub due: u64,
+}
+
 extern "C" {
     fn fabrwent_load(listing: *const u8, listing_length: usize, table: *mut u32, table_length: usize) -> Loaded;
     fn fabrwent_start(
@@ -65,6 +75,7 @@ extern "C" {
         b: *const u32,
         b_length: usize,
     ) -> Compared;
+    fn fabrwent_look(table: *const u32, table_length: usize, machine: *const u32, machine_length: usize) -> Seen;
 }
 
 /// The two lent lists of outputs.
@@ -131,6 +142,11 @@ pub fn instant(
 pub fn alike(table: &[u32], a: &[u32], b: &[u32]) -> Compared {
     // SAFETY: as above; the three memories are only read.
     unsafe { fabrwent_alike(table.as_ptr(), table.len(), a.as_ptr(), a.len(), b.as_ptr(), b.len()) }
+}
+
+pub fn look(table: &[u32], machine: &[u32]) -> Seen {
+    // SAFETY: as above; both memories are only read.
+    unsafe { fabrwent_look(table.as_ptr(), table.len(), machine.as_ptr(), machine.len()) }
 }
 
 /// What a call must return for the model's answer.

@@ -1,7 +1,7 @@
 //! The comparison: the model against the library on random cases, with counts by number. Every
 //! answer is compared whole: number, place, steps, outputs, due moment, and each lent memory.
 
-use crate::board::{self, expected, Compared, Loaded, Outputs, Ran};
+use crate::board::{self, expected, Compared, Loaded, Outputs, Ran, Seen};
 use crate::calls::{answer, random_call, Call};
 use crate::layout::{machine_standing, same_state, table_program, table_words, Standing, WORDS};
 use crate::listing::{self, Program};
@@ -16,6 +16,7 @@ pub struct Counts {
     pub start: [u64; 18],
     pub instant: [u64; 18],
     pub alike: [u64; 18],
+    pub look: [u64; 18],
     /// Calls on a table or machine damaged on purpose: those that still passed 6 and 7.
     pub damaged: u64,
     pub damaged_passed: u64,
@@ -23,7 +24,7 @@ pub struct Counts {
 
 impl Counts {
     pub fn answers(&self) -> u64 {
-        [self.load, self.start, self.instant, self.alike].iter().flatten().sum()
+        [self.load, self.start, self.instant, self.alike, self.look].iter().flatten().sum()
     }
 }
 
@@ -309,7 +310,29 @@ fn compare_sides(random: &mut Random, table: &[u32], sides: &[Side; 2], counts: 
         return Err(format!("alike: {got:?}, the model has {want:?}"));
     }
     counts.alike[want.number as usize] += 1;
+    let want = seen(&table, &words[1]);
+    let got = board::look(&table, &words[1]);
+    if got != want {
+        return Err(format!("look: {got:?}, the model has {want:?}"));
+    }
+    counts.look[want.number as usize] += 1;
     Ok(())
+}
+
+// ---- the look
+
+fn seen(table: &[u32], words: &[u32]) -> Seen {
+    let refused = |number| Seen { number, place: 0, due_known: 0, moment: 0, due: 0 };
+    if table.len() < WORDS || words.len() < WORDS {
+        return refused(1);
+    }
+    let Some(program) = table_program(table) else { return refused(6) };
+    let Some(machine) = standing(words, &program) else { return refused(7) };
+    if machine.stopped.is_some() {
+        return refused(8);
+    }
+    let due = machine.due();
+    Seen { number: 0, place: 0, due_known: due.is_some() as u32, moment: machine.moment, due: due.unwrap_or(0) }
 }
 
 fn compared(table: &[u32], words: &[Vec<u32>; 2]) -> Compared {

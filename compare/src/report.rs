@@ -18,10 +18,10 @@ pub fn run(answers: u64, seed: u64) -> bool {
     }
     println!("cases {cases} from seed {seed}, answers {}, {:.0} s", counts.answers(), began.elapsed().as_secs_f64());
     println!("damaged words: {} calls, of which {} still passed 6 and 7", counts.damaged, counts.damaged_passed);
-    println!("{:>6} {:>10} {:>10} {:>10} {:>10}", "number", "load", "start", "instant", "alike");
+    println!("{:>6} {:>10} {:>10} {:>10} {:>10} {:>10}", "number", "load", "start", "instant", "alike", "look");
     for number in 0..18 {
-        let row = [counts.load, counts.start, counts.instant, counts.alike].map(|by_number| by_number[number]);
-        println!("{number:>6} {:>10} {:>10} {:>10} {:>10}", row[0], row[1], row[2], row[3]);
+        let row = [counts.load, counts.start, counts.instant, counts.alike, counts.look].map(|by_number| by_number[number]);
+        println!("{number:>6} {:>10} {:>10} {:>10} {:>10} {:>10}", row[0], row[1], row[2], row[3], row[4]);
     }
     println!("no difference");
     true

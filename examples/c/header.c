@@ -36,6 +36,14 @@ static uint32_t instant(uint64_t t, uint32_t input, size_t inputs, uint32_t allo
     return fabrwent_machine_instant(&table, &machine, t, &input, &value, inputs, &outputs, allowance).number;
 }
 
+/* A look gives this present moment, and this moment as due (0: none). */
+static void look_tells(const char *what, uint64_t moment, uint64_t due)
+{
+    const fabrwent_seen seen = fabrwent_machine_look(&table, &machine);
+    expect(what, seen.number, FABRWENT_OK);
+    expect(what, seen.moment == moment && seen.due == due && seen.due_known == (due != 0), 1);
+}
+
 static const char board[] = "P\t1\t1\nR\trr\t0\nW\t0\nS\t1\t#1\nA\t1\t#60000\t#0\nW\t1\nG\t0\n";
 
 static void numbers_of_a_load(void)
@@ -53,6 +61,7 @@ static void numbers_of_an_instant(void)
     memset(&table, 0, sizeof table);
     expect("no table", fabrwent_machine_start(&table, &machine, &outputs, 10).number, FABRWENT_NO_TABLE);
     expect("the start", start(board, 10), FABRWENT_OK);
+    look_tells("the start seen", 0, 0);
     expect("not after", instant(0, 0, 1, 10), FABRWENT_NOT_AFTER);
     expect("no such input", instant(5, 1, 1, 10), FABRWENT_INPUTS);
     expect("no allowance", instant(5, 0, 1, 0), FABRWENT_ALLOWANCE);
@@ -60,8 +69,10 @@ static void numbers_of_an_instant(void)
     expect("due before", instant(60006, 0, 0, 10), FABRWENT_DUE_BEFORE);
     other = machine;
     expect("alike", fabrwent_machines_alike(&table, &machine, &other).alike, 1);
+    look_tells("a press seen", 5, 60005);
     expect("no step left", instant(60005, 0, 0, 1), FABRWENT_STOP_STEPS);
     expect("stopped", instant(60005, 0, 0, 10), FABRWENT_STOPPED);
+    expect("a stopped machine seen", fabrwent_machine_look(&table, &machine).number, FABRWENT_STOPPED);
     memset(&machine, 255, sizeof machine);
     expect("no machine", instant(5, 0, 0, 10), FABRWENT_NO_MACHINE);
 }
@@ -84,6 +95,7 @@ static void null_with_nothing(void)
     expect("start on NULL", fabrwent_start(none, 0, none, 0, none, 0, none, 0, 10).number, FABRWENT_TOO_SHORT);
     expect("instant on NULL", fabrwent_instant(none, 0, none, 0, 5, none, 0, none, 0, none, 0, none, 0, 10).number, FABRWENT_TOO_SHORT);
     expect("alike on NULL", fabrwent_alike(none, 0, none, 0, none, 0).number, FABRWENT_TOO_SHORT);
+    expect("look on NULL", fabrwent_look(none, 0, none, 0).number, FABRWENT_TOO_SHORT);
     expect("the start", start(board, 10), FABRWENT_OK);
     expect("typed instant, inputs NULL", fabrwent_machine_instant(&table, &machine, 1, none, none, 0, &outputs, 10).number, FABRWENT_OK);
     expect("instant, inputs NULL", fabrwent_instant(table.words, FABRWENT_WORDS, machine.words, FABRWENT_WORDS, 2, none, 0, none, 0,

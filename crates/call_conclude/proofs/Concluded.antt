@@ -16,11 +16,11 @@ use Rattle.engine_rows.specs.Engine.{RowsResult, halts, ends}
 use Rattle.engine_rows.proofs.Holds.{unmarkedState}
 use Rattle.engine_rows.proofs.InstantOnRows.{Agrees, SameOutcome, same-stop, same-done}
 use Rattle.engine_blocks.specs.Blocks.{rowsOf, environmentOf}
-use Rattle.engine_run.specs.Whole.{ranBy}
-use Rattle.engine_run.specs.declared.whole.Left.{Left}
-use Rattle.engine_run.specs.declared.whole.Ran.{Ran}
-use Rattle.engine_run.specs.declared.whole.Ran.the-variants.{Ended}
-use Rattle.engine_run.specs.declared.whole.Ran.the-variants as ran-variants
+use Rattle.engine_run_laws.specs.Runs.{ranBy}
+use Rattle.engine_run_laws.specs.declared.Left.{Left}
+use Rattle.engine_run_laws.specs.declared.Ran.{Ran}
+use Rattle.engine_run_laws.specs.declared.Ran.the-variants.{Ended}
+use Rattle.engine_run_laws.specs.declared.Ran.the-variants as ran-variants
 use Rattle.call_conclude.specs.declared.answers.Answer.{Answer}
 use Rattle.call_conclude.specs.declared.answers.Answer.the-variants.{Stopped}
 use Rattle.call_conclude.specs.Answers.{resultOf}

@@ -21,10 +21,10 @@ use Rattle.engine_rows.specs.Beginning.{unmarkedRows, nextDueOfRows}
 use Rattle.engine_rows.specs.Holds.{Holds, SameOutcome}
 use Rattle.engine_blocks.specs.Blocks.{rowsOf, environmentOf}
 use Rattle.engine_clean.specs.Clean.{Clean}
-use Rattle.engine_run.specs.Whole.{ranBy}
-use Rattle.engine_run.specs.declared.whole.Left.{Left}
-use Rattle.engine_run.specs.declared.whole.Ran.{Ran}
-use Rattle.engine_run.specs.declared.whole.Ran.the-variants.{Ended}
+use Rattle.engine_run_laws.specs.Runs.{ranBy}
+use Rattle.engine_run_laws.specs.declared.Left.{Left}
+use Rattle.engine_run_laws.specs.declared.Ran.{Ran}
+use Rattle.engine_run_laws.specs.declared.Ran.the-variants.{Ended}
 use Rattle.call_conclude.specs.declared.answers.Answer.{Answer}
 use Rattle.call_conclude.specs.Answers.{resultOf}
 

@@ -10,7 +10,7 @@ ghost use Rattle.call_conclude.specs.Conclusions.{Concludes, MayFinish, 
 use crate::answers::Answer;
 use crate::answers::Due;
 use crate::answers::Figures;
-use engine_run::Ran;
+use engine_run_laws::Ran;
 use table::INPUTS;
 use table::OUTPUTS;
 use words::Moment;

@@ -19,8 +19,8 @@ use Rattle.engine_rows.proofs.StartOnRows.{start-on-rows}
 use Rattle.engine_rows.proofs.Reachable.{Reached}
 use Rattle.engine_rows.proofs.FirstReached.{start-reaches}
 use Rattle.engine_steps.specs.declared.running.Running.{Running}
-use Rattle.engine_run.specs.Whole.{MayRunOn, ranBy, RunsOn}
-use Rattle.engine_run.specs.declared.whole.Ran.{Ran}
+use Rattle.engine_run_laws.specs.Runs.{MayRunOn, ranBy, RunsOn}
+use Rattle.engine_run_laws.specs.declared.Ran.{Ran}
 use Rattle.engine_begin.specs.Begun.{BegunStart}
 use Rattle.engine_begin.proofs.Filled.{table-fits}
 use Rattle.call_conclude.specs.declared.answers.Answer.{Answer}

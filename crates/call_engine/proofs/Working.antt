@@ -30,8 +30,9 @@ use Rattle.engine_rows.proofs.FirstReached.{instant-reaches}
 use Rattle.engine_blocks.specs.Blocks.{rowsOf, environmentOf}
 use Rattle.engine_ready.specs.declared.ReadyList.{ReadyList}
 use Rattle.engine_ready.specs.Slots.{slotsOf}
-use Rattle.engine_run.specs.Whole.{MayBeginRun, ranBy, RunsReady}
-use Rattle.engine_run.specs.declared.whole.Ran.{Ran}
+use Rattle.engine_run_laws.specs.Runs.{ranBy}
+use Rattle.engine_run.specs.Whole.{MayBeginRun, RunsReady}
+use Rattle.engine_run_laws.specs.declared.Ran.{Ran}
 use Rattle.engine_begin.specs.Begun.{MayBegin, BegunFrom, Begun}
 use Rattle.engine_begin.proofs.Filled.{table-fits}
 use Rattle.call_conclude.specs.declared.answers.Answer.{Answer}

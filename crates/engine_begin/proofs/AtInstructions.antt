@@ -24,7 +24,7 @@ use Rattle.engine_rows.proofs.Held.{Entry, rowFor, rootCount, Held, held-nil, h
 use Rattle.engine_rows.proofs.Kept.{slotsOf}
 use Rattle.engine_rows.proofs.Begun.{Settled, state-settled, tree-rests}
 use Rattle.engine_rows.proofs.Holds.{Holds}
-use Rattle.engine_run.specs.Placed.{GoesOn}
+use Rattle.engine_run_laws.specs.Placed.{GoesOn}
 
 -- ── in the table ──────────────────────────────────────────────────────────────────────────────────
 no-instruction : (k : ℕ) → getD {A = Instruction} [] k end ≡ end

@@ -30,7 +30,7 @@ use Rattle.engine_triggers.proofs.Listing.{length-names, awaited-wait, awaited-
 use Rattle.engine_evaluate.specs.Bound.{bindingsOf}
 use Rattle.engine_evaluate.proofs.Standing.{table-names}
 use Rattle.engine_finish.proofs.EndedIsRead.{zero-of}
-use Rattle.engine_run.specs.Placed.{GoesOn, Placed}
+use Rattle.engine_run_laws.specs.Placed.{GoesOn, Placed}
 use Rattle.engine_begin.proofs.Found.{no-row}
 use Rattle.engine_begin.proofs.AtInstructions.{used-goes-on, asleep-goes-on}
 

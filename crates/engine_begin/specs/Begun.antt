@@ -24,7 +24,7 @@ use Rattle.engine_ready.specs.Slots.{slotsOf}
 use Rattle.engine_ready.specs.Ordered.{Ordered}
 use Rattle.engine_triggers.specs.Chains.{triggersAt}
 use Rattle.engine_steps.specs.declared.running.Running.{Running}
-use Rattle.engine_run.specs.Placed.{Placed}
+use Rattle.engine_run_laws.specs.Placed.{Placed}
 
 -- ── an instant ────────────────────────────────────────────────────────────────────────────────────
 -- The words are read as a running state, and the soonest moment due of each block is known; the moment is not the start's, and nothing is due before

@@ -25,13 +25,14 @@ use Rattle.engine_steps.specs.declared.running.Answer.the-variants.{Goes, Ends,
 use Rattle.engine_steps.specs.declared.running.Stepped.{Stepped}
 use Rattle.engine_steps.specs.Outcome.{left-by, RunsLive, Pops}
 use Rattle.engine_steps.proofs.Stores.{stays-then}
-use Rattle.engine_run.specs.Placed.{GoesOn}
-use Rattle.engine_run.specs.Whole.{MayRunOn, MayBeginRun, ranBy, RunsOn, RunsReady}
-use Rattle.engine_run.specs.declared.whole.Ran.{Ran}
-use Rattle.engine_run.specs.declared.whole.Ran.the-variants.{Ended, Stopped}
-use Rattle.engine_run.proofs.Reaching.{slots-of-order}
-use Rattle.engine_run.proofs.Keeping.{running-childless}
-use Rattle.engine_run.proofs.Placing.{saying, Kept, KeptBy, pop-kept}
+use Rattle.engine_run_laws.specs.Placed.{GoesOn}
+use Rattle.engine_run_laws.specs.Runs.{MayRunOn, ranBy, RunsOn}
+use Rattle.engine_run.specs.Whole.{MayBeginRun, RunsReady}
+use Rattle.engine_run_laws.specs.declared.Ran.{Ran}
+use Rattle.engine_run_laws.specs.declared.Ran.the-variants.{Ended, Stopped}
+use Rattle.engine_run_laws.proofs.Reaching.{slots-of-order}
+use Rattle.engine_run_laws.proofs.Keeping.{running-childless}
+use Rattle.engine_run_laws.proofs.Placing.{saying, Kept, KeptBy, pop-kept}
 
 abbrev before : ReadyList → ℕ → Running
 before ready live = record { ready = ready; live = live; woken = 0; me = 0 }

@@ -1,11 +1,1 @@
-pub mod Arms
-pub mod Reaching
-pub mod ReadyLive
-pub mod Parents
-pub mod Invariant
-pub mod Keeping
-pub mod Placing
-pub mod PlacedSteps
-pub mod Going
 pub mod FirstReady
-pub mod OnTheWay

@@ -1,4 +1,1 @@
-pub mod Asked
-pub mod Placed
 pub mod Whole
-pub mod Going

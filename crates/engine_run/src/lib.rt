@@ -1,67 +1,90 @@
-// The run of the routines of an instant, instruction by instruction. `t` is the table, `m` the machine's memory.
-pub mod straight;
-pub mod whole;
-
-ghost use Prim.Native.Nat.{ℕ};
-ghost use Rattle.walk.specs.Walk.{instructionAt};
-ghost use Rattle.table.specs.Decode.{tableListing};
-ghost use Rattle.table.specs.Entry.{Fetched};
-ghost use Rattle.engine_blocks.specs.Blocks.{rowsOf};
-ghost use Rattle.engine_steps.specs.Outcome.{Executes, NeedsReady};
-ghost use Rattle.engine_run.specs.Asked.{MayStep};
+// The routines of an instant, run to its end, to a stop, or until the allowance is used up. `t` is the table, `m` the
+// machine's memory.
+ghost use Rattle.engine_run_laws.specs.Runs.{MayRunOn, RunsOn};
+ghost use Rattle.engine_run.specs.Whole.{MayBeginRun, RunsReady};
+use engine_ready::ReadyList;
+use engine_ready_step::step;
+use engine_run_laws::Left;
+use engine_run_laws::Ran;
+use engine_steps::Answer;
 use engine_steps::Running;
-use engine_steps::Stepped;
-use table::ASSIGN;
-use table::FORK;
-use table::WAIT;
-use table_read::Entry;
-pub use whole::Left;
-pub use whole::Ran;
-pub use whole::run_on;
-pub use whole::run_ready;
-use words::number;
+use engine_straight::Straight;
+use engine_straight::run_straight;
+use words::Moment;
 
-// The instruction whose entry was read, executed: one that may change the ready list. The cases are those of its number in the table.
-fn execute(t: &[u32], m: &mut [u32], running: Running, entry: Entry) -> Stepped
-    requires { ⌜ (MayStep (now t) (now m) running)
-        × (NeedsReady (instructionAt (tableListing (now t)) ((rowsOf (now m) (running .me)) .routine) ((rowsOf (now m) (running .me)) .place)))
-        × (Fetched (now t) ((rowsOf (now m) (running .me)) .routine) ((rowsOf (now m) (running .me)) .place) (entry .kind) (entry .operand) (entry .cells) (entry .first) (entry .second)) ⌝ }
-    ensures { λ r. ⌜ ((moment : ℕ) → Executes (tableListing (now (t .entry))) moment
-        (instructionAt (tableListing (now (t .entry))) ((rowsOf (now (m .entry)) (running .me)) .routine) ((rowsOf (now (m .entry)) (running .me)) .place))
-        (now (m .entry)) (now (m .exit)) running r) ⌝ }
+// The routine that runs goes on, and all that are ready after it. "13 Is a step left?"
+pub fn run_on(t: &[u32], m: &mut [u32], present: Moment, running: Running, allowance: u32) -> Ran
+    requires { ⌜ MayRunOn (now t) (now m) (present .0) allowance running ⌝ }
+    ensures { λ r. ⌜ RunsOn (now (t .entry)) (now (m .entry)) (now (m .exit)) (present .0) allowance running r ⌝ }
 {
-    let kind = entry.kind;
-    let operand = entry.operand;
-    let cells = entry.cells;
-    let first = entry.first;
-    match kind {
-        ASSIGN => {
-            return engine_write_steps::assign_step(t, m, running, operand, cells, first);
+    let mut runs = running;
+    let mut left = allowance;
+    while left > 0 {
+        let me = runs.me;
+        match run_straight(t, m, present, me, left) {
+            Straight::At(on) => {
+                left = on;
+            }
+            Straight::StopsWith(number) => {
+                return Ran::Stopped(number);
+            }
         }
-        WAIT => {
-            return engine_steps::wait_step(m, running);
+        if left == 0 {
+            return Ran::Stopped(13);
         }
-        FORK => {
-            return engine_fork::fork_step(t, m, running, cells, first);
-        }
-        // An `E`: no other number is left.
-        _ => {
-            return engine_end_step::end_step(m, running);
+        left -= 1;
+        let stepped = step(t, m, runs);
+        let answer = stepped.answer;
+        runs = stepped.running;
+        match answer {
+            Answer::Goes => {}
+            Answer::Ends => {
+                let live = runs.live;
+                let woken = runs.woken;
+                return Ran::Ended(Left { left, live, woken });
+            }
+            Answer::Stops(k) => {
+                return Ran::Stopped(k);
+            }
         }
     }
+    Ran::Stopped(13)
 }
 
-// One instruction of the running routine that may change the ready list.
-pub fn step(t: &[u32], m: &mut [u32], running: Running) -> Stepped
-    requires { ⌜ (MayStep (now t) (now m) running)
-        × (NeedsReady (instructionAt (tableListing (now t)) ((rowsOf (now m) (running .me)) .routine) ((rowsOf (now m) (running .me)) .place))) ⌝ }
-    ensures { λ r. ⌜ ((moment : ℕ) → Executes (tableListing (now (t .entry))) moment
-        (instructionAt (tableListing (now (t .entry))) ((rowsOf (now (m .entry)) (running .me)) .routine) ((rowsOf (now (m .entry)) (running .me)) .place))
-        (now (m .entry)) (now (m .exit)) running r) ⌝ }
+// The first that is ready goes on, and all after it. If nobody is, the instant ends.
+pub fn run_ready(
+    t: &[u32],
+    m: &mut [u32],
+    present: Moment,
+    ready: ReadyList,
+    live: u32,
+    allowance: u32,
+) -> Ran
+    requires { ⌜ MayBeginRun (now t) (now m) (present .0) allowance ready live ⌝ }
+    ensures { λ r. ⌜ RunsReady (now (t .entry)) (now (m .entry)) (now (m .exit)) (present .0) allowance ready live r ⌝ }
 {
-    let me = running.me;
-    let routine = number(engine_row::routine(m, me));
-    let place = number(engine_row::place(m, me));
-    let entry = table_read::fetch(t, routine, place);
-    execute(t, m, running, entry)
+    let first = Running {
+        ready,
+        live,
+        woken: 0,
+        me: 0,
+    };
+    let stepped = engine_steps::next_ready(m, first);
+    let answer = stepped.answer;
+    let running = stepped.running;
+    match answer {
+        Answer::Goes => {
+            return run_on(t, m, present, running, allowance);
+        }
+        Answer::Ends => {
+            return Ran::Ended(Left {
+                left: allowance,
+                live: running.live,
+                woken: running.woken,
+            });
+        }
+        Answer::Stops(k) => {
+            return Ran::Stopped(k);
+        }
+    }
 }

@@ -1,0 +1,9 @@
+pub mod Arms
+pub mod Reaching
+pub mod ReadyLive
+pub mod Parents
+pub mod Invariant
+pub mod Keeping
+pub mod Placing
+pub mod PlacedSteps
+pub mod Going

@@ -1,0 +1,4 @@
+pub mod Asked
+pub mod Placed
+pub mod Runs
+pub mod Going

@@ -1,2 +1,4 @@
 pub mod Finished
 pub mod Concluded
+pub mod Earlier
+pub mod Literals

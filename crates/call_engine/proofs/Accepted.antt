@@ -30,7 +30,7 @@ use Rattle.call_conclude.specs.declared.answers.Answer.the-variants as answers
 use Rattle.call_arguments.specs.Asked.{longEnough, asked, InstantAsked, StartAsked}
 use Rattle.call_conclude.specs.Answers.{resultOf}
 use Rattle.call_conclude.specs.Conclusions.{Leaves, leaves-stopped, leaves-state, Concludes}
-use Rattle.call_engine.specs.Works.{MayInstant}
+use Rattle.call_instant_work.specs.Works.{MayInstant}
 use Rattle.call_questions.proofs.Calling.{Long, long}
 
 -- ── a refusal ─────────────────────────────────────────────────────────────────────────────────────

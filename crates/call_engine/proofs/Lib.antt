@@ -1,5 +1,2 @@
-pub mod Literals
-pub mod Working
-pub mod Starting
-pub mod Accepted
 pub mod Ways
+pub mod Accepted

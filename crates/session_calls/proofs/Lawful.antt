@@ -18,7 +18,7 @@ use Rattle.table.proofs.WalkBounds.{ports-few}
 use Rattle.machine.proofs.MachineWords.{read-is-a-state}
 use Rattle.session_calls.specs.Clock.{Runs}
 use Rattle.session_calls.specs.declared.clock.Clock.{Clock}
-use Rattle.call_engine.proofs.Literals.{literals-are-words}
+use Rattle.call_conclude.proofs.Literals.{literals-are-words}
 use Rattle.call_arguments.proofs.TableSize.{first-words32}
 
 -- of a listing

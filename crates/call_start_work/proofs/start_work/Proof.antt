@@ -1,9 +1,9 @@
--- `call_engine::start_call::start_work` meets its contract.
+-- `call_start_work::start_work` meets its contract.
 use denote.Ref.{now}
-use Rattle.call_engine.proofs.Starting.{may-run, may-conclude, start-concludes}
+use Rattle.call_start_work.proofs.Starting.{may-run, may-conclude, start-concludes}
 use borrow.Author.Needs.{needs}
-use Rattle.call_engine.proofs.start_call.start_work.Statement.{statement}
-use Rattle.call_engine.proofs.start_call.start_work.Tie as tie
+use Rattle.call_start_work.proofs.start_work.Statement.{statement}
+use Rattle.call_start_work.proofs.start_work.Tie as tie
 
 begin-start-requires : tie.Need-begin-start-requires
 begin-start-requires c κs = search needs

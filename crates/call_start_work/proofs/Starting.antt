@@ -1,4 +1,5 @@
--- The start: from main newly called through the run and the end to the walk's outcome. Letters as in Working.
+-- The start: from main newly called through the run and the end to the walk's outcome. Letters: t the table's words,
+-- w₀ to w₃ the machine's words before, after the beginning, after the run and after the end.
 use mathlib.Core.Path.{_≡_, sym, subst, _∙_}
 use mathlib.Core.Bool.{true}
 use mathlib.Core.List.{List, []}
@@ -25,8 +26,8 @@ use Rattle.engine_begin.specs.Begun.{BegunStart}
 use Rattle.engine_begin.proofs.Filled.{table-fits}
 use Rattle.call_conclude.specs.declared.answers.Answer.{Answer}
 use Rattle.call_conclude.specs.Conclusions.{Concludes, MayConclude}
-use Rattle.call_engine.proofs.Literals.{literals-are-words}
-use Rattle.call_engine.proofs.Working.{concludes-from}
+use Rattle.call_conclude.proofs.Earlier.{concludes-from}
+use Rattle.call_conclude.proofs.Literals.{literals-are-words}
 
 five : {A B C D E F : Type 0} (f : A → B → C → D → E → F) {a a′ : A} {b b′ : B} {c c′ : C} {d d′ : D} {e e′ : E} → a ≡ a′ → b ≡ b′ → c ≡ c′ →
     d ≡ d′ → e ≡ e′ → f a b c d e ≡ f a′ b′ c′ d′ e′

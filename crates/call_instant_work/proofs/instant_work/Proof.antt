@@ -1,13 +1,13 @@
--- `call_engine::instant_call::instant_work` meets its contract.
+-- `call_instant_work::instant_work` meets its contract.
 use native.Mathlib.Omega.{arith}
 use Prim.Native.Nat.{_<_}
 use mathlib.Core.Path.{refl}
 use denote.Ref.{now}
 use Rattle.walk.specs.Calls.{Words32}
-use Rattle.call_engine.proofs.Working.{may-begin, may-run, may-conclude, instant-concludes}
+use Rattle.call_instant_work.proofs.Working.{may-begin, may-run, may-conclude, instant-concludes}
 use borrow.Author.Needs.{needs}
-use Rattle.call_engine.proofs.instant_call.instant_work.Statement.{statement}
-use Rattle.call_engine.proofs.instant_call.instant_work.Tie as tie
+use Rattle.call_instant_work.proofs.instant_work.Statement.{statement}
+use Rattle.call_instant_work.proofs.instant_work.Tie as tie
 
 slice-read-live : tie.Need-slice-read-live
 slice-read-live c = search needs

@@ -2,15 +2,14 @@
 -- Letters: t the table's words, w₀ to w₃ the machine's words before, after the beginning, after the run and after the end.
 use mathlib.Core.Path.{_≡_, refl, sym, ap, ap₂, subst, _∙_}
 use mathlib.Core.Bool.{true}
-use mathlib.Core.List.{List, _++_}
+use mathlib.Core.List.{List}
 use Prim.Native.Nat.{ℕ, _+_, _<_}
 use native.Mathlib.Omega.{arith}
-use lib.ListN.{length, getD, take, drop}
+use lib.ListN.{getD, take}
 use Rattle.listing.specs.Listing.{Listing}
 use Rattle.walk.specs.State.{Variable, State, liveInForest}
-use Rattle.walk.specs.State as walk
-use Rattle.walk.specs.Instant.{Done, Write, environmentSize, dueWrites, applyInputs, instant}
-use Rattle.walk.specs.Calls.{Words32, haltedWords, inputsOf}
+use Rattle.walk.specs.Instant.{Write, environmentSize, dueWrites, applyInputs, instant}
+use Rattle.walk.specs.Calls.{Words32, inputsOf}
 use Rattle.walk.specs.Question7.{IsState}
 use Rattle.walk_laws.proofs.Stays.{instant-leaves-state}
 use Rattle.table.specs.Decode.{tableListing}
@@ -36,23 +35,12 @@ use Rattle.engine_run_laws.specs.declared.Ran.{Ran}
 use Rattle.engine_begin.specs.Begun.{MayBegin, BegunFrom, Begun}
 use Rattle.engine_begin.proofs.Filled.{table-fits}
 use Rattle.call_conclude.specs.declared.answers.Answer.{Answer}
-use Rattle.call_conclude.specs.Conclusions.{Leaves, leaves-stopped, leaves-state, Concludes, MayConclude}
-use Rattle.call_engine.specs.Works.{MayInstant}
+use Rattle.call_conclude.specs.Conclusions.{Concludes, MayConclude}
+use Rattle.call_conclude.proofs.Earlier.{concludes-from}
+use Rattle.call_conclude.proofs.Literals.{literals-are-words}
+use Rattle.call_instant_work.specs.Works.{MayInstant}
 use Rattle.call_arguments.proofs.TableSize.{first-words32}
 use Rattle.walk_laws.proofs.Literals.{inputs-are-words}
-use Rattle.call_engine.proofs.Literals.{literals-are-words}
-
--- ── words of before that the call's first parts keep ──────────────────────────────────────────────
-leaves-from : {listing : Listing} {w₀ w₂ w₃ : List ℕ} {o : walk.Result Done} → length w₂ ≡ length w₀ → drop 12288 w₂ ≡ drop 12288 w₀ →
-    Leaves listing w₂ w₃ o → Leaves listing w₀ w₃ o
-leaves-from {w₀ = w₀} size past (leaves-stopped {k = k} e) = leaves-stopped (e ∙ ap (λ (l : List ℕ). haltedWords k ++ l) past)
-leaves-from size past (leaves-state e l p) = leaves-state e (l ∙ size) (p ∙ past)
-
-pub concludes-from : (listing : Listing) (w₀ w₂ w₃ numbers values numbers′ values′ : List ℕ) (o : walk.Result Done) (r : Answer) →
-    length w₂ ≡ length w₀ → drop 12288 w₂ ≡ drop 12288 w₀ →
-    Concludes listing w₂ numbers values w₃ numbers′ values′ o r → Concludes listing w₀ numbers values w₃ numbers′ values′ o r
-concludes-from listing w₀ w₂ w₃ numbers values numbers′ values′ o r size past C =
-    record { result = C .result; machine = leaves-from size past (C .machine); numbersAre = C .numbersAre; valuesAre = C .valuesAre }
 
 four : {A B C D E : Type 0} (f : A → B → C → D → E) {a a′ : A} {b b′ : B} {c c′ : C} {d d′ : D} → a ≡ a′ → b ≡ b′ → c ≡ c′ → d ≡ d′ →
     f a b c d ≡ f a′ b′ c′ d′

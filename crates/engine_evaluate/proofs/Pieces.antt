@@ -15,8 +15,8 @@ use Rattle.table.specs.Decode.{word, noPiece, pieceOf, pieceAt}
 use Rattle.walk.specs.State.{Variable}
 use Rattle.walk.specs.Memory.{operate, evaluatePiece}
 use Rattle.engine_evaluate.specs.Bound.{bindingsOf, FromNames}
-use Rattle.engine_evaluate.specs.Values.{heldBy, signOf, isSign, Pushed, Operated}
-use Rattle.engine_evaluate.specs.declared.stack.Held.{Held}
+use Rattle.engine_values.specs.Values.{heldBy, signOf, isSign, Pushed, Operated}
+use Rattle.engine_values.specs.declared.Held.{Held}
 use Rattle.engine_evaluate.specs.Evaluable.{PieceStands, MayCome, Adds, Past}
 
 -- both of two tests

@@ -15,7 +15,7 @@ use Rattle.table.specs.Decode.{word, noPiece, pieceOf, pieceAt, cellsAt, pieces
 use Rattle.walk.specs.State.{Variable}
 use Rattle.walk.specs.Memory.{top, operate, evaluatePiece, evaluatePieces, evaluateBy}
 use Rattle.engine_evaluate.specs.Bound.{bindingsOf, FromNames, variableNamed}
-use Rattle.engine_evaluate.specs.Values.{signOf, isSign}
+use Rattle.engine_values.specs.Values.{signOf, isSign}
 use Rattle.engine_evaluate.specs.Evaluable.{Evaluable, PieceStands, Adds, Evaluates}
 use Rattle.engine_evaluate.proofs.Pieces.{both, by-kind, other-than-sign, joins-by}
 

@@ -15,8 +15,8 @@ use Rattle.walk.specs.Memory.{top, evaluatePieces, evaluateBy}
 use Rattle.engine_blocks.specs.Store.{storeOf}
 use Rattle.engine_evaluate.proofs.Pieces.{both}
 use Rattle.engine_evaluate.specs.Bound.{Bound, bindingsOf, variableNamed}
-use Rattle.engine_evaluate.specs.Values.{held, heldBy}
-use Rattle.engine_evaluate.specs.declared.stack.Held.{Held}
+use Rattle.engine_values.specs.Values.{held, heldBy}
+use Rattle.engine_values.specs.declared.Held.{Held}
 use Rattle.engine_evaluate.specs.Evaluable.{Evaluable, PieceStands, MayCome, Past}
 use Rattle.engine_evaluate.specs.Evaluable.{Evaluates}
 

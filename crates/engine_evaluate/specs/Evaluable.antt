@@ -10,8 +10,8 @@ use Rattle.listing.specs.Expressions.{adds, effectOf, mayCome, heldWith, leaves
 use Rattle.listing.specs.Questions.{pieceIsThere}
 use Rattle.table.specs.Decode.{pieceAt, piecesAt}
 use Rattle.engine_evaluate.specs.Bound.{bindingsOf, FromNames}
-use Rattle.engine_evaluate.specs.Values.{heldBy}
-use Rattle.engine_evaluate.specs.declared.stack.Held.{Held}
+use Rattle.engine_values.specs.Values.{heldBy}
+use Rattle.engine_values.specs.declared.Held.{Held}
 use Rattle.walk.specs.Memory.{evaluatePiece, evaluateBy}
 use Rattle.listing.specs.Listing.{Piece}
 

@@ -1,6 +1,5 @@
 // The value of an expression of the running routine. Document 01: "An expression is postfix, of the pieces `#v` .., `n` ..,
 // `@n` .., `+ - * <`. It leaves one value and never holds more than 8". It is read from the table's cells.
 pub mod expression;
-pub mod stack;
 
 pub use expression::evaluate;

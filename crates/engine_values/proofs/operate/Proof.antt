@@ -5,10 +5,10 @@ use Prim.Native.Nat.{ℕ, suc, _-_, _≤_}
 use native.Mathlib.Omega.{arith}
 use borrow.Author.Needs.{needs}
 use Rattle.walk.specs.Memory.{operate}
-use Rattle.engine_evaluate.specs.Values.{signOf, held}
-use Rattle.engine_evaluate.proofs.Values.{two-joined}
-use Rattle.engine_evaluate.proofs.stack.operate.Statement.{statement}
-use Rattle.engine_evaluate.proofs.stack.operate.Tie as tie
+use Rattle.engine_values.specs.Values.{signOf, held}
+use Rattle.engine_values.proofs.Values.{two-joined}
+use Rattle.engine_values.proofs.operate.Statement.{statement}
+use Rattle.engine_values.proofs.operate.Tie as tie
 
 sub-below : tie.Need-sub-below
 sub-below c = search needs

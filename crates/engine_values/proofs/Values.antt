@@ -6,7 +6,7 @@ use native.Mathlib.Omega.{arith}
 use lib.ListN.{length, getD, set}
 use lib.Seq.{getD-set-same, getD-set-other}
 use Rattle.walk.specs.Memory.{operate}
-use Rattle.engine_evaluate.specs.Values.{below, held}
+use Rattle.engine_values.specs.Values.{below, held}
 
 -- A store past the values below the top changes none of them.
 below-past : (values : List ℕ) (count at v : ℕ) → count < at → below (set values at v) count ≡ below values count

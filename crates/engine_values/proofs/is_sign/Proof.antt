@@ -2,8 +2,8 @@
 use Prim.Native.Nat.{_≤_, _<_}
 use native.Mathlib.Omega.{arith}
 use borrow.Author.Tests.{le-leb, lt-leb}
-use Rattle.engine_evaluate.proofs.stack.is_sign.Statement.{statement}
-use Rattle.engine_evaluate.proofs.stack.is_sign.Tie as tie
+use Rattle.engine_values.proofs.is_sign.Statement.{statement}
+use Rattle.engine_values.proofs.is_sign.Tie as tie
 
 returns : tie.Need-returns
 returns c =

@@ -3,7 +3,7 @@
 ghost use mathlib.Core.Path.{_≡_};
 ghost use Prim.Native.Nat.{_≤_, _<_};
 ghost use lib.ListN.{length};
-ghost use Rattle.engine_evaluate.specs.Values.{Pushed, Operated, isSign, signOf};
+ghost use Rattle.engine_values.specs.Values.{Pushed, Operated, isSign, signOf};
 use table::LESS;
 use table::MINUS;
 use table::PLUS;

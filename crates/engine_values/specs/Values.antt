@@ -7,7 +7,7 @@ use lib.Dec.{eqb, leb}
 use lib.ListN.{length, getD}
 use Rattle.words.specs.Words.{bit, wrappingAdd, wrappingSubtract, wrappingMultiply, signedLess}
 use Rattle.walk.specs.Memory.{operate}
-use Rattle.engine_evaluate.specs.declared.stack.Held.{Held}
+use Rattle.engine_values.specs.declared.Held.{Held}
 
 -- So many values below the one on top, the last one first: they stand in an array of 8, from place 1 on.
 unfoldable pub below : List ℕ → ℕ → List ℕ

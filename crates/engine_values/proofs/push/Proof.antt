@@ -5,9 +5,9 @@ use mathlib.Core.Path.{_≡_}
 use native.Mathlib.Omega.{arith}
 use lib.ListN.{length, length-set}
 use borrow.Author.Needs.{needs}
-use Rattle.engine_evaluate.proofs.Values.{one-more}
-use Rattle.engine_evaluate.proofs.stack.push.Statement.{statement}
-use Rattle.engine_evaluate.proofs.stack.push.Tie as tie
+use Rattle.engine_values.proofs.Values.{one-more}
+use Rattle.engine_values.proofs.push.Statement.{statement}
+use Rattle.engine_values.proofs.push.Tie as tie
 
 mul-values : tie.Need-mul-values
 mul-values c = search needs

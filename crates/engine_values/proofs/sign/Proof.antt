@@ -1,9 +1,9 @@
 -- `sign` meets its contract: each arm has its sign.
 use borrow.Author.Tests.{ne-eqb}
 use borrow.Author.Needs.{needs}
-use Rattle.engine_evaluate.specs.Values.{signOf}
-use Rattle.engine_evaluate.proofs.stack.sign.Statement.{statement}
-use Rattle.engine_evaluate.proofs.stack.sign.Tie as tie
+use Rattle.engine_values.specs.Values.{signOf}
+use Rattle.engine_values.proofs.sign.Statement.{statement}
+use Rattle.engine_values.proofs.sign.Tie as tie
 
 wrapping-add-requires : tie.Need-wrapping-add-requires
 wrapping-add-requires c κs = search needs

@@ -19,7 +19,7 @@ use Rattle.text_place.specs.Texts.{lineEnd}
 use Rattle.text_place.specs.Places.{passed}
 use Rattle.text_place.specs.declared.place.Place.{Place}
 use Rattle.text_records.specs.Onward.{recordsFrom}
-use Rattle.text_records.specs.Records.{asLine}
+use Rattle.text_records.specs.Lines.{asLine}
 use Rattle.text_records.specs.declared.line.Line.the-variants as LV
 use Rattle.text_records.proofs.Lines.{NextLine, next-line}
 use Rattle.call_load.specs.Growing.{openedWith, withInstruction, lastCode, withLine, withLines}

@@ -17,8 +17,8 @@ use Rattle.text_place.specs.Texts.{firstPiece, firstField, endsPiece, fieldsLef
 use Rattle.text_place.specs.Places.{passed}
 use Rattle.text_place.specs.declared.place.Place.{Place}
 use Rattle.text_place.proofs.Places.{left-open, pieces-turn, pieces-last, field-last, before-slice, end-in}
-use Rattle.text_records.specs.Records.{endStop, endNext}
-use Rattle.text_records.proofs.Chain as chain
+use Rattle.text_jumps.specs.Records.{endStop, endNext}
+use Rattle.text_jumps.proofs.Chain as chain
 use Rattle.session_trace.specs.Figures.{asBounded}
 use Rattle.session_trace.specs.Fields.{pieceAnswer, asFigure, figureAnswer}
 use Rattle.session_trace.specs.declared.figure.Bounded.{Bounded}

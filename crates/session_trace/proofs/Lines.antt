@@ -17,7 +17,7 @@ use Rattle.walk.specs.Trace as W
 use Rattle.text_place.specs.Texts.{fieldsLeft}
 use Rattle.text_place.specs.declared.place.Place.{Place}
 use Rattle.text_place.proofs.Places.{left-open}
-use Rattle.text_records.specs.Records.{endStop, endNext}
+use Rattle.text_jumps.specs.Records.{endStop, endNext}
 use Rattle.session_trace.specs.Fields.{pieceAnswer}
 use Rattle.session_trace.specs.Lines.{asTraceLine, restAnswer, lineAnswer}
 use Rattle.session_trace.specs.declared.field.OnePiece.the-variants as OV

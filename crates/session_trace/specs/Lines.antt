@@ -9,7 +9,7 @@ use Rattle.walk.specs.Trace as W
 use Rattle.text_place.specs.Texts.{firstLine, fieldsLeft, lineEnd}
 use Rattle.text_place.specs.Places.{passed}
 use Rattle.text_place.specs.declared.place.Place.{Place}
-use Rattle.text_records.specs.Records.{endStop, endNext}
+use Rattle.text_jumps.specs.Records.{endStop, endNext}
 use Rattle.session_trace.specs.declared.line.TraceLine.{TraceLine}
 use Rattle.session_trace.specs.declared.line.TraceLine.the-variants as LV
 

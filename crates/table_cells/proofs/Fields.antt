@@ -23,7 +23,7 @@ use Rattle.text_place.specs.declared.place.Place.{Place}
 use Rattle.text_fields.specs.declared.field.Number.{Number}
 use Rattle.text_fields.specs.declared.field.Number.the-variants as NV
 use Rattle.text_fields.proofs.Rows.{Said, said, said-of}
-use Rattle.text_records.proofs.Chain.{Got, first, got-of, none-of, number-got, end-shut, end-open}
+use Rattle.text_jumps.proofs.Chain.{Got, first, got-of, none-of, number-got, end-shut, end-open}
 use Rattle.table_cells.specs.Cells.{lowWord, cellKind, cellValue, cellsOf}
 use Rattle.table_cells.specs.Words.{asWord, wordAnswer}
 use Rattle.table_cells.specs.declared.word.Word.{Word}

@@ -19,8 +19,8 @@ use Rattle.text_place.specs.Places.{passed, takenAt}
 use Rattle.text_place.specs.declared.place.Place.{Place}
 use Rattle.text_place.specs.declared.place.Taken.{Taken}
 use Rattle.text_place.proofs.Places.{pieces-turn, pieces-last, field-last, before-slice, end-in, passed-in}
-use Rattle.text_records.specs.Records.{endNext}
-use Rattle.text_records.proofs.Chain.{first, next-shut}
+use Rattle.text_jumps.specs.Records.{endNext}
+use Rattle.text_jumps.proofs.Chain.{first, next-shut}
 use Rattle.table_lines.specs.Kinds.{kindBit, bitsOf, FewKinds, kindsOf, kindsAnswer}
 use Rattle.table_lines.specs.Lines.{holdsOf, wordsAfter, Fits, Good, lineOf, heldFor}
 use Rattle.table_lines.specs.Lines as S

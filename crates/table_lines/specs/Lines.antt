@@ -15,7 +15,7 @@ use Rattle.table.specs.Areas.{cellWords, entryWords, kindBits}
 use Rattle.text_place.specs.Texts.{firstLine, fieldsLeft, lineEnd}
 use Rattle.text_place.specs.Places.{passed}
 use Rattle.text_place.specs.declared.place.Place.{Place}
-use Rattle.text_records.specs.Records.{endNext}
+use Rattle.text_jumps.specs.Records.{endNext}
 use Rattle.table_lines.specs.declared.line.Holds.{Holds}
 use Rattle.table_lines.specs.declared.line.Holds.the-variants as HV
 use Rattle.table_lines.specs.declared.line.WrittenLine.{WrittenLine}

@@ -5,7 +5,7 @@ ghost use lib.ListN.{length};
 ghost use lib.Seq.{slice};
 ghost use Rattle.listing.specs.Form.{readPorts, readOpens};
 ghost use Rattle.text_place.specs.Texts.{Within};
-ghost use Rattle.text_records.specs.Records.{endNext};
+ghost use Rattle.text_jumps.specs.Records.{endNext};
 ghost use Rattle.table_lines.specs.Kinds.{kindBit, bitsOf, FewKinds, kindsAnswer};
 ghost use Rattle.table_lines.specs.Lines.{Good, heldFor, restAt};
 use crate::line::Holds;

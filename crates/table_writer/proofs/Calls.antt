@@ -19,8 +19,8 @@ use Rattle.table.specs.Areas.{wordsOfEach, nameWords, callWords, cellWords, ent
 use Rattle.text_place.specs.Texts.{fieldsLeft, fieldEnd, fieldPieces, Within}
 use Rattle.text_place.specs.declared.place.Place.{Place}
 use Rattle.text_place.proofs.Places.{left-open}
-use Rattle.text_records.specs.Records.{endNext}
-use Rattle.text_records.proofs.Chain.{Got, first, got-of, next-shut, left-none}
+use Rattle.text_jumps.specs.Records.{endNext}
+use Rattle.text_jumps.proofs.Chain.{Got, first, got-of, next-shut, left-none}
 use Rattle.table_writer.specs.Calls.{WritesCall}
 use Rattle.table_cells.specs.Cells.{cellsOf}
 use Rattle.table_lines.specs.Lines.{Good, restAt, WritesRest}

@@ -18,8 +18,8 @@ use Rattle.listing.specs.Listing as L
 use Rattle.table.specs.Areas.{wordsOfEach, pieceWords, nameWords, cellWords, entryWords}
 use Rattle.text_place.specs.Texts.{fieldsLeft, fieldPieces, Within}
 use Rattle.text_place.specs.declared.place.Place.{Place}
-use Rattle.text_records.specs.Records.{endNext}
-use Rattle.text_records.proofs.Chain.{Got, first, next-shut, expression-length}
+use Rattle.text_jumps.specs.Records.{endNext}
+use Rattle.text_jumps.proofs.Chain.{Got, first, next-shut, expression-length}
 use Rattle.table_cells.specs.Cells.{cellsOf, cellsAnswer, WritesCells}
 use Rattle.table_cells.specs.Words.{wordAnswer}
 use Rattle.table_lines.specs.Lines.{wordsAfter, Fits, Good, lineOf, Writes, restAt, WritesRest}

@@ -17,7 +17,7 @@ use Rattle.text_place.specs.Places.{passed, takenAt}
 use Rattle.text_place.specs.declared.place.Place.{Place}
 use Rattle.text_place.specs.declared.place.Taken.{Taken}
 use Rattle.text_place.proofs.Places.{before-slice}
-use Rattle.text_records.specs.Records.{endNext}
+use Rattle.text_jumps.specs.Records.{endNext}
 use Rattle.table_lines.specs.Lines.{wordsAfter, Good, lineOf, heldFor, Writes, restAt, WritesRest, lineAt, WritesLine}
 use Rattle.table_lines.specs.declared.line.WrittenLine.{WrittenLine}
 use Rattle.table_cells.proofs.Fields.{stopOf, nextOf, FieldWas, field-was}

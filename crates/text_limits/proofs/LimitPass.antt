@@ -15,9 +15,9 @@ use Rattle.listing.specs.Questions.{place2, place3, closedLines}
 use Rattle.listing.specs.Listing as L
 use Rattle.text_place.specs.Texts.{firstLine, lineEnd}
 use Rattle.text_piece.specs.Pieces.{cap}
-use Rattle.text_records.specs.Records.{asRecord}
-use Rattle.text_records.specs.declared.scope.Scope.{Scope}
-use Rattle.text_records.specs.declared.record.Record.{Record}
+use Rattle.text_jumps.specs.Records.{asRecord}
+use Rattle.text_jumps.specs.declared.scope.Scope.{Scope}
+use Rattle.text_jumps.specs.declared.record.Record.{Record}
 use Rattle.text_records.proofs.Lines.{formed-whole, NextLine, records-whole, texts-end}
 use Rattle.text_records.specs.Onward.{Formed, recordsFrom}
 use Rattle.text_limits.specs.Counting.{WithinLimits, countLine}

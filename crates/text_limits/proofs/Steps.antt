@@ -6,9 +6,10 @@ use native.Mathlib.Omega.{arith}
 use Rattle.listing.specs.Listing as L
 use Rattle.text_place.specs.Texts.{lineEnd}
 use Rattle.text_place.specs.declared.place.Place.{Place}
-use Rattle.text_records.specs.Records.{asRecord, lineAnswer}
-use Rattle.text_records.specs.declared.scope.Scope.{Scope}
-use Rattle.text_records.specs.declared.record.Record.{Record}
+use Rattle.text_jumps.specs.Records.{asRecord}
+use Rattle.text_records.specs.Lines.{lineAnswer}
+use Rattle.text_jumps.specs.declared.scope.Scope.{Scope}
+use Rattle.text_jumps.specs.declared.record.Record.{Record}
 use Rattle.text_records.specs.declared.line.Line.the-variants as LV
 use Rattle.text_records.proofs.Lines.{NextLine}
 

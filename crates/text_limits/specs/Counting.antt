@@ -3,8 +3,8 @@ use mathlib.Core.Bool.{cond, _&&_}
 use Prim.Native.Nat.{ℕ, _+_, _≤_}
 use lib.Dec.{leb}
 use Rattle.listing.specs.Limits.{byteLimit, routineLimit, instructionLimit, nameLimit, pieceLimit}
-use Rattle.text_records.specs.declared.record.Record.{Record}
-use Rattle.text_records.specs.declared.record.Record.the-variants as CV
+use Rattle.text_jumps.specs.declared.record.Record.{Record}
+use Rattle.text_jumps.specs.declared.record.Record.the-variants as CV
 use Rattle.text_limits.specs.declared.counts.Counts.{Counts}
 use Rattle.text_limits.specs.declared.counts.Counting.{Counting}
 use Rattle.text_limits.specs.declared.counts.Counting.the-variants as NV

@@ -7,7 +7,7 @@ use listing::MOST_INSTRUCTIONS;
 use listing::MOST_NAMES;
 use listing::MOST_PIECES;
 use listing::MOST_ROUTINES;
-use text_records::Record;
+use text_jumps::Record;
 
 pub struct Counts {
     pub routines: u64,

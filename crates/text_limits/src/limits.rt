@@ -4,9 +4,9 @@ ghost use Rattle.listing.specs.Questions.{place2, place3};
 use crate::counts::Counting;
 use crate::counts::Counts;
 use crate::counts::count_line;
+use text_jumps::Scope;
 use text_place::Place;
 use text_records::Line;
-use text_records::Scope;
 use text_records::read_line;
 
 // The first line that passes a limit, or 0.

@@ -15,12 +15,13 @@ use Rattle.text_place.specs.Texts.{firstPiece, firstField, endsPiece, fieldsLef
 use Rattle.text_place.specs.Places.{passed}
 use Rattle.text_place.specs.declared.place.Place.{Place}
 use Rattle.text_place.proofs.Places.{left-open, pieces-turn, pieces-last, field-last, before-slice, end-in}
-use Rattle.text_records.specs.Records.{endStop, endNext, asRest, restAnswer, asLine, lineAnswer}
-use Rattle.text_records.specs.declared.scope.Scope.{Scope}
-use Rattle.text_records.specs.declared.record.Record.{Record}
-use Rattle.text_records.specs.declared.record.Rest.the-variants as RV
+use Rattle.text_jumps.specs.Records.{endStop, endNext, asRest, restAnswer}
+use Rattle.text_records.specs.Lines.{asLine, lineAnswer}
+use Rattle.text_jumps.specs.declared.scope.Scope.{Scope}
+use Rattle.text_jumps.specs.declared.record.Record.{Record}
+use Rattle.text_jumps.specs.declared.record.Rest.the-variants as RV
 use Rattle.text_records.specs.declared.line.Line.the-variants as LV
-use Rattle.text_records.proofs.Chain.{Got, got-of}
+use Rattle.text_jumps.proofs.Chain.{Got, got-of}
 
 letter-none : (w : Bytes) → (length w ≡ 1 → ⊥) → readLetter w ≡ none
 unfolding readLetter alone

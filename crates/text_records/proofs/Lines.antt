@@ -22,10 +22,11 @@ use Rattle.text_place.specs.Places.{passed}
 use Rattle.text_place.specs.declared.place.Place.{Place}
 use Rattle.text_place.proofs.Texts.{cut-at, no-cut, before-free}
 use Rattle.text_place.proofs.Places.{drop-past, past-in}
-use Rattle.text_records.specs.Records.{asRecord, asLine, lineAnswer, standsOn}
+use Rattle.text_jumps.specs.Records.{asRecord}
+use Rattle.text_records.specs.Lines.{asLine, lineAnswer, standsOn}
 use Rattle.text_records.specs.Onward.{closedFrom, placeFrom, recordsFrom, Formed}
-use Rattle.text_records.specs.declared.scope.Scope.{Scope}
-use Rattle.text_records.specs.declared.record.Record.{Record}
+use Rattle.text_jumps.specs.declared.scope.Scope.{Scope}
+use Rattle.text_jumps.specs.declared.record.Record.{Record}
 use Rattle.text_records.specs.declared.line.Line.the-variants as LV
 
 -- ── the first line of a text, and those after it ─────────────────────────────────

@@ -18,7 +18,7 @@ use Rattle.text_fields.specs.Gather.{figuresAnswer}
 use Rattle.text_place.specs.declared.place.Place.{Place}
 use Rattle.text_fields.specs.declared.field.Figures.the-variants as GV
 use Rattle.text_place.proofs.Places.{left-open}
-use Rattle.text_records.proofs.Chain.{Got, figures-unread, left-none}
+use Rattle.text_jumps.proofs.Chain.{Got, figures-unread, left-none}
 
 names-next : (fs : List Field) (k : List ℕ → List Field → Option L.Line) → nextField readNames fs k ≡ nextField (each readFigure) fs (λ ns gs. bind (when (oneTo 4 ns) ns) (λ ms. k ms gs))
 unfolding nextField readNames

@@ -4,7 +4,7 @@ ghost use Rattle.listing.specs.Questions.{place2};
 use crate::line::Line;
 use crate::line::may_stand_on;
 use crate::line::read_line;
-use crate::scope::Scope;
+use text_jumps::Scope;
 use text_place::Place;
 
 // The first line out of form, or 0.

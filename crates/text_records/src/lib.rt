@@ -3,10 +3,7 @@
 pub mod form;
 pub mod line;
 pub mod record;
-pub mod scope;
 
 pub use form::form_place;
 pub use line::Line;
 pub use line::read_line;
-pub use record::Record;
-pub use scope::Scope;

@@ -3,11 +3,12 @@ ghost use mathlib.Core.Path.{_≡_};
 ghost use Prim.Native.Nat.{_≤_};
 ghost use lib.ListN.{length, take};
 ghost use Rattle.text_place.specs.Texts.{Within};
-ghost use Rattle.text_records.specs.Records.{lineAnswer, standIns, standsOn};
-use crate::record::Record;
-use crate::record::Rest;
+ghost use Rattle.text_jumps.specs.Records.{standIns};
+ghost use Rattle.text_records.specs.Lines.{lineAnswer, standsOn};
 use crate::record::read_rest;
-use crate::scope::Scope;
+use text_jumps::Record;
+use text_jumps::Rest;
+use text_jumps::Scope;
 use text_place::Place;
 use text_place::take_piece;
 

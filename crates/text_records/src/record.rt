@@ -5,10 +5,8 @@ ghost use Prim.Native.Nat.{ℕ, _≤_};
 ghost use lib.ListN.{length, take};
 ghost use Rattle.text_place.specs.Texts.{Within};
 ghost use Rattle.listing.specs.Listing.{Routine};
-ghost use Rattle.listing.specs.Form.{readPorts, readOpens, readAssign, readSchedule, readBranch, readJump, readWait, readFork, readEnd, readByLetter};
-ghost use Rattle.text_records.specs.Records.{restAnswer, standIns};
-use crate::scope::Scope;
-use crate::scope::call_is_there;
+ghost use Rattle.listing.specs.Form.{readPorts, readOpens, readAssign, readSchedule, readWait, readEnd, readByLetter};
+ghost use Rattle.text_jumps.specs.Records.{restAnswer, standIns};
 use text_fields::Expression;
 use text_fields::Figures;
 use text_fields::KindsField;
@@ -18,23 +16,13 @@ use text_fields::expression_field;
 use text_fields::figures_field;
 use text_fields::kinds_field;
 use text_fields::number_field;
+use text_jumps::Record;
+use text_jumps::Rest;
+use text_jumps::Scope;
+use text_jumps::read_branch;
+use text_jumps::read_fork;
+use text_jumps::read_jump;
 use text_place::Place;
-
-// What questions 3 to 5 ask of a record.
-pub enum Record {
-    // inputs and outputs
-    Ports(u64, u64),
-    // arguments, locals, and whether all arguments are by reference
-    Opens(u64, u64, bool),
-    // the pieces after the letter, whether all that it points to is there, and whether it may be a routine's last
-    Instruction(u64, bool, bool),
-}
-
-// A record, the byte that closes its line, and the place past it.
-pub enum Rest {
-    Is(Record, u8, Place),
-    Bad,
-}
 
 fn read_ports(s: &[u8], place: Place, stop: u8, scope: Scope) -> Rest
     requires { ⌜ Within (now s) (place .offset) (place .line) ⌝ }
@@ -105,36 +93,6 @@ fn read_schedule(s: &[u8], place: Place, stop: u8, scope: Scope) -> Rest
     Rest::Is(Record::Instruction(1 + k + m, known, false), b3, p3)
 }
 
-fn read_branch(s: &[u8], place: Place, stop: u8, scope: Scope) -> Rest
-    requires { ⌜ Within (now s) (place .offset) (place .line) ⌝ }
-    ensures { λ r. ⌜ ((routines : List Routine) → r ≡ restAnswer routines scope (now (s .entry)) place stop readBranch) ⌝ }
-{
-    let Expression::Read(k, there, b1, p1) = expression_field(s, place, stop, scope.names) else {
-        return Rest::Bad;
-    };
-    let Number::Read(j, b2, p2) = number_field(s, p1, b1) else {
-        return Rest::Bad;
-    };
-    if b2 == b'\t' {
-        return Rest::Bad;
-    }
-    let known = both(there, j < scope.size as u64);
-    Rest::Is(Record::Instruction(k + 1, known, false), b2, p2)
-}
-
-fn read_jump(s: &[u8], place: Place, stop: u8, scope: Scope) -> Rest
-    requires { ⌜ Within (now s) (place .offset) (place .line) ⌝ }
-    ensures { λ r. ⌜ ((routines : List Routine) → r ≡ restAnswer routines scope (now (s .entry)) place stop readJump) ⌝ }
-{
-    let Number::Read(j, b1, p1) = number_field(s, place, stop) else {
-        return Rest::Bad;
-    };
-    if b1 == b'\t' {
-        return Rest::Bad;
-    }
-    Rest::Is(Record::Instruction(1, j < scope.size as u64, true), b1, p1)
-}
-
 fn read_wait(s: &[u8], place: Place, stop: u8, scope: Scope) -> Rest
     requires { ⌜ Within (now s) (place .offset) (place .line) ⌝ }
     ensures { λ r. ⌜ ((routines : List Routine) → r ≡ restAnswer routines scope (now (s .entry)) place stop readWait) ⌝ }
@@ -158,51 +116,6 @@ fn read_end(stop: u8, place: Place, scope: Scope) -> Rest
         return Rest::Bad;
     }
     Rest::Is(Record::Instruction(0, true, true), stop, place)
-}
-
-fn read_fork(s: &[u8], place: Place, stop: u8, scope: Scope, arguments: &[u8; 64]) -> Rest
-    requires { ⌜ Within (now s) (place .offset) (place .line) × (scope .routines ≤ 64) × (length (now arguments) ≡ 64) ⌝ }
-    ensures { λ r. ⌜ r ≡ restAnswer (standIns (take (scope .routines) (now (arguments .entry)))) scope (now (s .entry)) place stop readFork ⌝ }
-{
-    let mut at = place.offset;
-    let mut line = place.line;
-    let mut b = stop;
-    let mut count: u64 = 0;
-    let mut sum: u64 = 0;
-    let mut there = true;
-    while b == b'\t' {
-        if 8 <= count {
-            return Rest::Bad;
-        }
-        let Figures::Read(g, b1, p1) = figures_field(
-            s,
-            Place {
-                offset: at,
-                line: line,
-            },
-            b,
-            scope.names,
-        ) else {
-            return Rest::Bad;
-        };
-        there = both(there, call_is_there(g, scope, arguments));
-        count += 1;
-        sum += g.count;
-        b = b1;
-        at = p1.offset;
-        line = p1.line;
-    }
-    if count == 0 {
-        return Rest::Bad;
-    }
-    Rest::Is(
-        Record::Instruction(sum, there, false),
-        b,
-        Place {
-            offset: at,
-            line: line,
-        },
-    )
 }
 
 pub fn read_rest(

@@ -18,8 +18,8 @@ use Rattle.listing.specs.Listing as L
 use Rattle.listing.specs.Listing.{codeOf, routinesOf, listingOf}
 use Rattle.text_place.specs.Texts.{lineEnd}
 use Rattle.text_piece.specs.Pieces.{cap}
-use Rattle.text_records.specs.Records.{asRecord, standIns}
-use Rattle.text_records.specs.declared.scope.Scope.{Scope}
+use Rattle.text_jumps.specs.Records.{asRecord, standIns}
+use Rattle.text_jumps.specs.declared.scope.Scope.{Scope}
 use Rattle.text_records.proofs.Lines.{NextLine, next-line, records-whole, records-end}
 use Rattle.text_records.specs.Onward.{recordsFrom}
 use Rattle.text_survey.specs.Surveys.{arity, surveyOf, statedIf, answersHere, movedHere}

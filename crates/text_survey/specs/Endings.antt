@@ -1,7 +1,7 @@
 -- What a record tells of a routine's end, for question 5.
 use mathlib.Core.Bool.{Bool, true, false, not}
-use Rattle.text_records.specs.declared.record.Record.{Record}
-use Rattle.text_records.specs.declared.record.Record.the-variants as CV
+use Rattle.text_jumps.specs.declared.record.Record.{Record}
+use Rattle.text_jumps.specs.declared.record.Record.the-variants as CV
 
 -- a routine ends before this record, and may not
 abbrev pub endsBadly : Bool → Record → Bool

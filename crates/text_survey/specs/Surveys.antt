@@ -6,8 +6,8 @@ use Prim.Native.Nat.{ℕ, _+_, _-_, _≤_, min}
 use lib.Dec.{eqb, ltb}
 use lib.ListN.{length, replicate, set}
 use Rattle.listing.specs.Listing as L
-use Rattle.text_records.specs.declared.record.Record.{Record}
-use Rattle.text_records.specs.declared.record.Record.the-variants as CV
+use Rattle.text_jumps.specs.declared.record.Record.{Record}
+use Rattle.text_jumps.specs.declared.record.Record.the-variants as CV
 use Rattle.text_survey.specs.declared.routines.Survey.{Survey}
 use Rattle.text_survey.specs.declared.there.Here.{Here}
 

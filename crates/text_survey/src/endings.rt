@@ -2,10 +2,10 @@
 ghost use mathlib.Core.Path.{_≡_};
 ghost use Rattle.listing.specs.Questions.{place2, place5};
 ghost use Rattle.text_survey.specs.Endings.{endsBadly, mayEndWith};
+use text_jumps::Record;
+use text_jumps::Scope;
 use text_place::Place;
 use text_records::Line;
-use text_records::Record;
-use text_records::Scope;
 use text_records::read_line;
 
 // Whether a routine ends before this record, and may not.

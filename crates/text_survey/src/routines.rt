@@ -7,10 +7,10 @@ ghost use Rattle.listing.specs.Listing.{codeOf};
 ghost use Rattle.listing.specs.Questions.{place2, place3, listingIn};
 ghost use Rattle.text_records.specs.Onward.{Formed, recordsFrom};
 ghost use Rattle.text_survey.specs.Surveys.{SurveyFits, surveyOf, surveyOpens, surveyOne, isInstruction};
+use text_jumps::Record;
+use text_jumps::Scope;
 use text_place::Place;
 use text_records::Line;
-use text_records::Record;
-use text_records::Scope;
 use text_records::read_line;
 
 // How many arguments each routine takes, 0 behind the last, and the number of routines.

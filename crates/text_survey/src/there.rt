@@ -10,10 +10,10 @@ ghost use Rattle.text_survey.specs.Surveys.{isStated, answersHere, moved
 use crate::routines::code_length;
 use crate::routines::few;
 use crate::routines::survey_routines;
+use text_jumps::Record;
+use text_jumps::Scope;
 use text_place::Place;
 use text_records::Line;
-use text_records::Record;
-use text_records::Scope;
 use text_records::read_line;
 
 // Where the pass is: the inputs and outputs, whether main is still to come, and the names and instructions of the routine.

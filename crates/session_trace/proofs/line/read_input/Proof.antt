@@ -6,7 +6,7 @@ use borrow.Author.Needs.{needs}
 use Rattle.listing.specs.Expressions.{wordRange}
 use Rattle.words.specs.Moments.{momentRange}
 use Rattle.walk.specs.Trace.{readBelow, readSigned, readInputLine}
-use Rattle.text_records.proofs.Chain as chain
+use Rattle.text_jumps.proofs.Chain as chain
 use Rattle.session_trace.proofs.Fields as fields
 use Rattle.session_trace.proofs.Lines as lines
 use Rattle.session_trace.proofs.line.read_input.Statement.{statement}

@@ -4,7 +4,7 @@ use mathlib.Core.Path.{sym, _∙_}
 use borrow.Author.Needs.{needs}
 use Rattle.words.specs.Moments.{momentRange}
 use Rattle.walk.specs.Trace.{readBelow, readLastLine}
-use Rattle.text_records.proofs.Chain as chain
+use Rattle.text_jumps.proofs.Chain as chain
 use Rattle.session_trace.proofs.Fields as fields
 use Rattle.session_trace.proofs.Lines as lines
 use Rattle.session_trace.proofs.line.read_last.Statement.{statement}

@@ -8,7 +8,7 @@ use Rattle.text_place.specs.Texts.{endsPiece, pieceEnd}
 use Rattle.text_place.specs.Places.{passed, takenAt}
 use Rattle.text_place.specs.declared.place.Taken.{Taken}
 use Rattle.text_place.proofs.Places as places
-use Rattle.text_records.specs.Records.{standIns, restAnswer}
+use Rattle.text_jumps.specs.Records.{standIns, restAnswer}
 use Rattle.text_records.proofs.Letters as letters
 use borrow.Author.Needs.{needs}
 use Rattle.text_records.proofs.line.read_line.Statement.{statement}

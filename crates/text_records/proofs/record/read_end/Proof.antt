@@ -1,7 +1,7 @@
 -- `text_records::read_end` meets its contract.
 use Rattle.listing.specs.Listing as L
-use Rattle.text_records.proofs.Chain as chain
-use Rattle.text_records.proofs.Summaries as summaries
+use Rattle.text_jumps.proofs.Chain as chain
+use Rattle.text_jumps.proofs.Summaries as summaries
 use Rattle.text_records.proofs.record.read_end.Statement.{statement}
 use Rattle.text_records.proofs.record.read_end.Tie as tie
 

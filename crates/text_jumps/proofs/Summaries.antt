@@ -12,10 +12,10 @@ use Rattle.listing.specs.Listing as L
 use Rattle.text_piece.specs.Pieces.{cap}
 use Rattle.text_fields.specs.declared.gathering.Gathering.{Gathering}
 use Rattle.text_fields.proofs.Gather.{capped-below}
-use Rattle.text_records.specs.Records.{asRecord}
-use Rattle.text_records.specs.declared.scope.Scope.{Scope}
-use Rattle.text_records.specs.declared.record.Record.the-variants as CV
-use Rattle.text_records.proofs.Chain.{Row}
+use Rattle.text_jumps.specs.Records.{asRecord}
+use Rattle.text_jumps.specs.declared.scope.Scope.{Scope}
+use Rattle.text_jumps.specs.declared.record.Record.the-variants as CV
+use Rattle.text_jumps.proofs.Chain.{Row}
 
 module _ (rs : List L.Routine) (scope : Scope) where
   pub ports-is : (a b i o : ℕ) → a ≡ min i cap → b ≡ min o cap → CV.Ports a b ≡ asRecord rs scope (L.Line.ports i o)

@@ -1,28 +1,26 @@
--- What the reader gives for a record and for a line.
+-- What the reader gives for a record.
 use mathlib.Core.Bool.{Bool, cond, _&&_}
 use mathlib.Core.List.{List, [], map}
 use mathlib.Core.Option.{Option, none, some}
 use Prim.Native.Nat.{ℕ, _+_, min}
-use lib.Dec.{eqb, ltb, leb}
+use lib.Dec.{eqb, ltb}
 use lib.ListN.{length, getD, drop, replicate}
 use Rattle.listing.specs.Lists.{all}
 use Rattle.listing.specs.Bytes.{Bytes, tab}
-use Rattle.listing.specs.Form.{Field, fieldsOf, readRecord}
+use Rattle.listing.specs.Form.{Field}
 use Rattle.listing.specs.Limits.{instructionPieces}
 use Rattle.listing.specs.Questions.{isThere, mayBeLast, isByReference}
 use Rattle.listing.specs.Listing as L
-use Rattle.text_place.specs.Texts.{firstLine, fieldsLeft, lineEnd}
+use Rattle.text_place.specs.Texts.{fieldsLeft, lineEnd}
 use Rattle.text_place.specs.Places.{passed}
 use Rattle.text_piece.specs.Pieces.{cap}
 use Rattle.text_place.specs.declared.place.Place.{Place}
 use Rattle.text_fields.specs.declared.gathering.Gathering.{Gathering}
-use Rattle.text_records.specs.declared.scope.Scope.{Scope}
-use Rattle.text_records.specs.declared.record.Record.{Record}
-use Rattle.text_records.specs.declared.record.Record.the-variants as CV
-use Rattle.text_records.specs.declared.record.Rest.{Rest}
-use Rattle.text_records.specs.declared.record.Rest.the-variants as RV
-use Rattle.text_records.specs.declared.line.Line.{Line}
-use Rattle.text_records.specs.declared.line.Line.the-variants as LV
+use Rattle.text_jumps.specs.declared.scope.Scope.{Scope}
+use Rattle.text_jumps.specs.declared.record.Record.{Record}
+use Rattle.text_jumps.specs.declared.record.Record.the-variants as CV
+use Rattle.text_jumps.specs.declared.record.Rest.{Rest}
+use Rattle.text_jumps.specs.declared.record.Rest.the-variants as RV
 
 -- ── routines by their argument counts ────────────────────────────────────────────
 abbrev pub standIn : ℕ → L.Routine
@@ -56,19 +54,3 @@ asRest routines scope (some line) stop next = RV.Is (asRecord routines scope lin
 
 abbrev pub restAnswer : List L.Routine → Scope → Bytes → Place → ℕ → (List Field → Option L.Line) → Rest
 restAnswer routines scope s p stop read = asRest routines scope (read (fieldsLeft stop (drop (p .offset) s))) (endStop s p stop) (endNext s p stop)
-
--- ── lines ────────────────────────────────────────────────────────────────────────
-abbrev pub asLine : List L.Routine → Scope → Option L.Line → ℕ → Place → Line
-asLine routines scope none stop next = LV.Bad
-asLine routines scope (some line) stop next = LV.Is (asRecord routines scope line) stop next
-
--- the line at a place
-abbrev pub lineAnswer : List L.Routine → Scope → Bytes → Place → Line
-lineAnswer routines scope s p =
-    let end = lineEnd s (p .offset) in
-    asLine routines scope (readRecord (fieldsOf (firstLine (drop (p .offset) s)))) (getD s end 0) (passed s (p .line) end)
-
-abbrev pub standsOn : ℕ → Record → Bool
-standsOn line (CV.Ports i o) = eqb line 1
-standsOn line (CV.Opens arguments locals byReference) = leb 2 line
-standsOn line (CV.Instruction pieces there last) = leb 3 line

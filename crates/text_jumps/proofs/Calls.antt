@@ -8,7 +8,7 @@ use lib.ListN.{length, take, getD, length-take}
 use lib.Seq.{getD-take, length-take-le}
 use borrow.Author.Tests.{lt-ltb, le-ltb, eq-eqb, ne-eqb}
 use Rattle.text_fields.specs.declared.gathering.Gathering.{Gathering}
-use Rattle.text_records.specs.Records.{callBy}
+use Rattle.text_jumps.specs.Records.{callBy}
 
 module _ (n : ℕ) (counts : List ℕ) (g : Gathering) where
   pub call-past : n ≤ g .first → callBy (take n counts) g ≡ false

@@ -2,7 +2,7 @@
 ghost use mathlib.Core.Path.{_≡_};
 ghost use Prim.Native.Nat.{_<_, _≤_};
 ghost use lib.ListN.{length, take};
-ghost use Rattle.text_records.specs.Records.{callBy};
+ghost use Rattle.text_jumps.specs.Records.{callBy};
 use text_fields::Gathering;
 
 // The names and the instructions of the line's routine, and the number of routines.

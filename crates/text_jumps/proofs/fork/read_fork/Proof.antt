@@ -1,18 +1,18 @@
--- `text_records::read_fork` meets its contract.
+-- `text_jumps::read_fork` meets its contract.
 use denote.Ref.{now}
 use mathlib.Core.Path.{refl, sym, _∙_}
 use Prim.Native.Nat.{_≤_}
 use native.Mathlib.Omega.{arith}
 use lib.ListN.{length}
 use Rattle.text_piece.specs.Pieces.{cap}
-use Rattle.text_records.proofs.Chain as chain
+use Rattle.text_jumps.proofs.Chain as chain
 use Prim.Native.Nat.{_-_}
 use lib.ListN.{take, length-take}
-use Rattle.text_records.specs.Records.{standIns}
-use Rattle.text_records.proofs.Forks as forks
+use Rattle.text_jumps.specs.Records.{standIns}
+use Rattle.text_jumps.proofs.Forks as forks
 use borrow.Author.Needs.{needs}
-use Rattle.text_records.proofs.record.read_fork.Statement.{statement}
-use Rattle.text_records.proofs.record.read_fork.Tie as tie
+use Rattle.text_jumps.proofs.fork.read_fork.Statement.{statement}
+use Rattle.text_jumps.proofs.fork.read_fork.Tie as tie
 
 abbrev Inv-loop : tie.InvT-loop
 Inv-loop s stop scope arguments at₀ line₀ b₀ count₀ sum₀ there₀ at line b count sum there =

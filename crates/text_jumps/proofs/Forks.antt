@@ -25,10 +25,10 @@ use Rattle.text_fields.specs.declared.gathering.Gathering.{Gathering}
 use Rattle.text_fields.specs.declared.field.Figures.the-variants as GV
 use Rattle.text_fields.proofs.Gather.{capped-below}
 use Rattle.text_place.proofs.Places.{left-open}
-use Rattle.text_records.specs.Records.{standIn, standIns, callBy, endStop, endNext, asRecord}
-use Rattle.text_records.specs.declared.scope.Scope.{Scope}
-use Rattle.text_records.specs.declared.record.Record.the-variants as CV
-use Rattle.text_records.proofs.Chain.{Got, Row, figures-unread, figures-length, left-none}
+use Rattle.text_jumps.specs.Records.{standIn, standIns, callBy, endStop, endNext, asRecord}
+use Rattle.text_jumps.specs.declared.scope.Scope.{Scope}
+use Rattle.text_jumps.specs.declared.record.Record.the-variants as CV
+use Rattle.text_jumps.proofs.Chain.{Got, Row, figures-unread, figures-length, left-none}
 
 -- ── a child field ────────────────────────────────────────────────────────────────
 asCall : Option (List ℕ) → Option L.Call

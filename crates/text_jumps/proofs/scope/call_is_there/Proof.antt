@@ -1,12 +1,12 @@
--- `text_records::call_is_there` meets its contract.
+-- `text_jumps::call_is_there` meets its contract.
 use denote.Ref.{now}
 use mathlib.Core.Path.{sym, ap, _∙_}
 use Prim.Native.Nat.{_+_}
 use native.Mathlib.Omega.{arith}
-use Rattle.text_records.proofs.Calls as calls
+use Rattle.text_jumps.proofs.Calls as calls
 use borrow.Author.Needs.{needs}
-use Rattle.text_records.proofs.scope.call_is_there.Statement.{statement}
-use Rattle.text_records.proofs.scope.call_is_there.Tie as tie
+use Rattle.text_jumps.proofs.scope.call_is_there.Statement.{statement}
+use Rattle.text_jumps.proofs.scope.call_is_there.Tie as tie
 
 cast-if1 : tie.Need-cast-if1
 cast-if1 c = search needs

@@ -31,10 +31,10 @@ use Rattle.text_fields.specs.declared.kinds.KindsField.the-variants as KFV
 use Rattle.text_place.proofs.Texts.{line-tab, line-field}
 use Rattle.text_place.proofs.Places.{left-open, past-in, passed-in, end-in, drop-past}
 use Rattle.text_fields.proofs.Rows.{Figures, unread, read, figures-of}
-use Rattle.text_records.specs.Records.{endStop, endNext, asRecord, asRest}
-use Rattle.text_records.specs.declared.scope.Scope.{Scope}
-use Rattle.text_records.specs.declared.record.Record.{Record}
-use Rattle.text_records.specs.declared.record.Rest.the-variants as RV
+use Rattle.text_jumps.specs.Records.{endStop, endNext, asRecord, asRest}
+use Rattle.text_jumps.specs.declared.scope.Scope.{Scope}
+use Rattle.text_jumps.specs.declared.record.Record.{Record}
+use Rattle.text_jumps.specs.declared.record.Rest.the-variants as RV
 
 -- what is gathered from a row of figures, the first n
 pub record Row (names : ℕ) (g : Gathering) (n : ℕ) (ns : List ℕ) : Type 0 where

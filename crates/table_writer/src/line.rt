@@ -1,14 +1,14 @@
 // A line of a listing that is in form: what it gives the table is written, and what it holds handed back.
 ghost use Rattle.listing.specs.Form.{readByLetter};
-ghost use Rattle.table_writer.specs.Writable.{Writable};
+ghost use Rattle.table_instructions.specs.Writable.{Writable};
 ghost use Rattle.table_lines.specs.Lines.{Good, restAt, lineAt, WritesRest, WritesLine};
-use crate::fork::write_fork;
-use crate::instruction::write_assign;
-use crate::instruction::write_branch;
-use crate::instruction::write_end;
-use crate::instruction::write_jump;
-use crate::instruction::write_schedule;
-use crate::instruction::write_wait;
+use table_forks::write_fork;
+use table_instructions::write_assign;
+use table_instructions::write_branch;
+use table_instructions::write_end;
+use table_instructions::write_jump;
+use table_instructions::write_schedule;
+use table_instructions::write_wait;
 use table_lines::WrittenLine;
 use table_lines::opens::hold_opens;
 use table_lines::opens::hold_ports;

@@ -1,6 +1,6 @@
 // The instructions but for the fork, each from the fields after its letter: its cells at a, its entry at e.
 ghost use Rattle.listing.specs.Form.{readAssign, readSchedule, readBranch, readJump, readWait, readEnd};
-ghost use Rattle.table_writer.specs.Writable.{Writable};
+ghost use Rattle.table_instructions.specs.Writable.{Writable};
 ghost use Rattle.table_lines.specs.Lines.{Good, restAt, WritesRest};
 use table::ASSIGN;
 use table::BRANCH;

@@ -1,9 +1,9 @@
--- `table_writer::write_assign` meets its contract.
+-- `table_instructions::write_assign` meets its contract.
 use denote.Ref.{now}
-use Rattle.table_writer.proofs.Instructions as written
+use Rattle.table_instructions.proofs.Instructions as written
 use borrow.Author.Needs.{needs}
-use Rattle.table_writer.proofs.instruction.write_assign.Statement.{statement}
-use Rattle.table_writer.proofs.instruction.write_assign.Tie as tie
+use Rattle.table_instructions.proofs.instruction.write_assign.Statement.{statement}
+use Rattle.table_instructions.proofs.instruction.write_assign.Tie as tie
 
 word-field-requires : tie.Need-word-field-requires
 word-field-requires c κs = search needs

@@ -1,9 +1,9 @@
--- `table_writer::write_jump` meets its contract.
+-- `table_instructions::write_jump` meets its contract.
 use denote.Ref.{now}
-use Rattle.table_writer.proofs.Instructions as written
+use Rattle.table_instructions.proofs.Instructions as written
 use borrow.Author.Needs.{needs}
-use Rattle.table_writer.proofs.instruction.write_jump.Statement.{statement}
-use Rattle.table_writer.proofs.instruction.write_jump.Tie as tie
+use Rattle.table_instructions.proofs.instruction.write_jump.Statement.{statement}
+use Rattle.table_instructions.proofs.instruction.write_jump.Tie as tie
 
 word-field-requires : tie.Need-word-field-requires
 word-field-requires c κs = search needs

@@ -1,9 +1,9 @@
--- `table_writer::write_call` meets its contract.
+-- `table_forks::write_call` meets its contract.
 use mathlib.Core.Path.{_∙_}
 use native.Mathlib.Omega.{arith}
 use borrow.Author.Needs.{needs}
-use Rattle.table_writer.proofs.fork.write_call.Statement.{statement}
-use Rattle.table_writer.proofs.fork.write_call.Tie as tie
+use Rattle.table_forks.proofs.fork.write_call.Statement.{statement}
+use Rattle.table_forks.proofs.fork.write_call.Tie as tie
 
 write-cells-requires : tie.Need-write-cells-requires
 write-cells-requires c κs =

@@ -1,10 +1,10 @@
--- `table_writer::write_schedule` meets its contract.
+-- `table_instructions::write_schedule` meets its contract.
 use denote.Ref.{now}
 use native.Mathlib.Omega.{arith}
-use Rattle.table_writer.proofs.Instructions as written
+use Rattle.table_instructions.proofs.Instructions as written
 use borrow.Author.Needs.{needs}
-use Rattle.table_writer.proofs.instruction.write_schedule.Statement.{statement}
-use Rattle.table_writer.proofs.instruction.write_schedule.Tie as tie
+use Rattle.table_instructions.proofs.instruction.write_schedule.Statement.{statement}
+use Rattle.table_instructions.proofs.instruction.write_schedule.Tie as tie
 
 word-field-requires : tie.Need-word-field-requires
 word-field-requires c κs = search needs

@@ -21,14 +21,14 @@ use Rattle.text_place.specs.declared.place.Place.{Place}
 use Rattle.text_place.proofs.Places.{left-open}
 use Rattle.text_jumps.specs.Records.{endNext}
 use Rattle.text_jumps.proofs.Chain.{Got, first, got-of, next-shut, left-none}
-use Rattle.table_writer.specs.Calls.{WritesCall}
+use Rattle.table_forks.specs.Calls.{WritesCall}
 use Rattle.table_cells.specs.Cells.{cellsOf}
 use Rattle.table_lines.specs.Lines.{Good, restAt, WritesRest}
 use Rattle.table_cells.specs.declared.cell.Cells.{Cells}
 use Rattle.table_lines.specs.declared.line.Holds.the-variants as HV
 use Rattle.table_lines.specs.declared.line.WrittenLine.{WrittenLine}
 use Rattle.table_cells.proofs.Fields.{both-true, stopOf, nextOf, each-more, each-none, each-length, name-cell, names-cells}
-use Rattle.table_writer.proofs.Instructions.{IsWritten, writes-of, name-two, entry-is}
+use Rattle.table_instructions.proofs.Instructions.{IsWritten, writes-of, name-two, entry-is}
 use Rattle.table_cells.proofs.Stores.{sets-behind, first-anew, two-each}
 
 -- ── a child field ────────────────────────────────────────────────────────────────

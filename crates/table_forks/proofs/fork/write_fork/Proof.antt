@@ -1,9 +1,9 @@
--- `table_writer::write_fork` meets its contract.
+-- `table_forks::write_fork` meets its contract.
 use Prim.Native.Nat.{_-_}
 use native.Mathlib.Omega.{arith}
-use Rattle.table_writer.proofs.Calls as calls
-use Rattle.table_writer.proofs.fork.write_fork.Statement.{statement}
-use Rattle.table_writer.proofs.fork.write_fork.Tie as tie
+use Rattle.table_forks.proofs.Calls as calls
+use Rattle.table_forks.proofs.fork.write_fork.Statement.{statement}
+use Rattle.table_forks.proofs.fork.write_fork.Tie as tie
 
 abbrev Inv-loop : tie.InvT-loop
 Inv-loop s t₀ stop e a at₀ line₀ b₀ count₀ cells₀ t at line b count cells =

@@ -1,9 +1,9 @@
--- `table_writer::write_end` meets its contract.
+-- `table_instructions::write_end` meets its contract.
 use denote.Ref.{now}
-use Rattle.table_writer.proofs.Instructions as written
+use Rattle.table_instructions.proofs.Instructions as written
 use borrow.Author.Needs.{needs}
-use Rattle.table_writer.proofs.instruction.write_end.Statement.{statement}
-use Rattle.table_writer.proofs.instruction.write_end.Tie as tie
+use Rattle.table_instructions.proofs.instruction.write_end.Statement.{statement}
+use Rattle.table_instructions.proofs.instruction.write_end.Tie as tie
 
 cast-put-entry : tie.Need-cast-put-entry
 cast-put-entry c = search needs

@@ -1,9 +1,9 @@
--- `table_writer::write_wait` meets its contract.
+-- `table_instructions::write_wait` meets its contract.
 use denote.Ref.{now}
-use Rattle.table_writer.proofs.Instructions as written
+use Rattle.table_instructions.proofs.Instructions as written
 use borrow.Author.Needs.{needs}
-use Rattle.table_writer.proofs.instruction.write_wait.Statement.{statement}
-use Rattle.table_writer.proofs.instruction.write_wait.Tie as tie
+use Rattle.table_instructions.proofs.instruction.write_wait.Statement.{statement}
+use Rattle.table_instructions.proofs.instruction.write_wait.Tie as tie
 
 write-cells-requires : tie.Need-write-cells-requires
 write-cells-requires c κs = search needs

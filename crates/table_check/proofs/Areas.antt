@@ -1,6 +1,6 @@
 -- Comparing a table's words with the areas of a listing, area by area.
 use mathlib.Core.Path.{_≡_, refl, sym, ap, _∙_}
-use mathlib.Core.Bool.{Bool, true, false, _&&_}
+use mathlib.Core.Bool.{true, _&&_}
 use mathlib.Core.List.{List, [], _∷_, _++_, map}
 use Prim.Native.Nat.{ℕ, zero, suc, _+_, _*_, _-_, _≤_, _<_}
 use native.Mathlib.Omega.{arith}
@@ -8,18 +8,18 @@ use native.Mathlib.Numerals.{add-one}
 use lib.Dec.{eqb}
 use lib.ListN.{length, drop, replicate, length-append, drop-of-length-le}
 use lib.Seq.{drop-cons}
-use borrow.Author.Tests.{eq-eqb, ne-eqb, eqb-true}
+use borrow.Author.Tests.{eqb-true}
 use Rattle.listing.specs.Lists.{total}
-use Rattle.listing.specs.Listing.{Instruction, assign, schedule, branch, jump, wait, fork, end, Routine, Listing}
+use Rattle.listing.specs.Listing.{Routine, Listing}
 use Rattle.table.specs.Areas.{operands, kindBits, routineWords, allRoutines, allCode, padded, headerWords, laidOut}
-use Rattle.table.specs.Decode.{word, instructionAtEntry, codeAtEntry, routineAtEntry, routinesAtEntry, tableListing}
+use Rattle.table.specs.Decode.{word, codeAtEntry, routineAtEntry, routinesAtEntry, tableListing}
 use Rattle.table.specs.Question6.{sameWords}
 use Rattle.table.proofs.Lengths.{pad-length, routine-five}
 use Rattle.table.proofs.Reach.{code-count, routine-total}
 use Rattle.table.proofs.Tests.{and-left, and-right}
 use Rattle.table_check_cells.specs.Pass.{sameAt}
 use Rattle.table_check_cells.proofs.Words.{same-split, same-number}
-use Rattle.table_check.specs.Check.{zerosAt, operandCount}
+use Rattle.table_check_ends.specs.Ends.{zerosAt, operandCount}
 use Rattle.table_check.proofs.Opening.{five}
 
 -- ── words by address ─────────────────────────────────────────────────────────────
@@ -119,60 +119,3 @@ code-in-row w (suc n) a first h =
     let row : codeAtEntry w e (k + length (allCode rs)) ≡ codeAtEntry w e k ++ codeAtEntry w (328 + 5 * (first + k)) (length (allCode rs)) =
     code-append w k (length (allCode rs)) e ∙ ap (λ (x : ℕ). codeAtEntry w e k ++ codeAtEntry w x (length (allCode rs))) z in
     rw (length-append (r .code) (allCode rs)) (cc)
-
--- ── the turns of the checks, with so many words or instructions left ─────────────
-and-true : (x : Bool) → x && true ≡ x
-and-true true = refl
-and-true false = refl
-
-and-false : (x : Bool) → x && false ≡ false
-and-false true = refl
-and-false false = refl
-
-module _ (w : List ℕ) (a : ℕ) where
-  pub zeros-stop : (left : ℕ) → 0 < left → (word w a ≡ 0 → ⊥) → zerosAt w a left ≡ false
-  unfolding zerosAt
-  zeros-stop zero l h = absurd (omega arith)
-  zeros-stop (suc n) l h = rw (ne-eqb (word w a) 0 h)
-
-  pub zeros-turn : (left next : ℕ) → left ≡ suc next → word w a ≡ 0 → zerosAt w (a + 1) next ≡ zerosAt w a left
-  unfolding zerosAt
-  zeros-turn left next z h = rw (z, eq-eqb (word w a) 0 h)
-
-  -- A word that is 0 leaves the answer as it is; another one makes it no; at the end it is the answer.
-  pub clear-stays : (left next : ℕ) (clear clear′ b : Bool) → left ≡ suc next → word w a ≡ 0 → clear′ ≡ clear
-      → clear && zerosAt w a left ≡ b → clear′ && zerosAt w (a + 1) next ≡ b
-  clear-stays left next clear clear′ b z h s e = rw (s, zeros-turn left next z h) e
-
-  pub clear-no-more : (left next : ℕ) (clear clear′ b : Bool) → 0 < left → (word w a ≡ 0 → ⊥) → clear′ ≡ false
-      → clear && zerosAt w a left ≡ b → clear′ && zerosAt w (a + 1) next ≡ b
-  clear-no-more left next clear clear′ b l h s e = rw s (sym (and-false clear) ∙ (rw (zeros-stop left l h) at e))
-
-  pub clear-ends : (left : ℕ) (clear b : Bool) → left ≡ 0 → clear && zerosAt w a left ≡ b → clear ≡ b
-  unfolding zerosAt
-  clear-ends left clear b z e = sym (and-true clear) ∙ (rw z at e)
-
-  pub operands-end : (left : ℕ) → left ≡ 0 → operandCount w a left ≡ 0
-  unfolding operandCount
-  operands-end left z = rw z
-
-  pub operands-turn : (left : ℕ) → 0 < left → operandCount w a left ≡ operands (instructionAtEntry w a) + operandCount w (a + 5) (left - 1)
-  unfolding operandCount
-  operands-turn zero l = absurd (omega arith)
-  operands-turn (suc n) l = let z : suc n - 1 ≡ n = omega arith in rw z
-
-pub operands-most : (i : Instruction) → operands i ≤ 1
-unfolding operands
-operands-most (assign n e) = omega arith
-operands-most (schedule n d e) = omega arith
-operands-most (branch e k) = omega arith
-operands-most (jump k) = omega arith
-operands-most (wait ns) = omega arith
-operands-most (fork cs) = omega arith
-operands-most end = omega arith
-
-pub operand-count-most : (w : List ℕ) (n e : ℕ) → operandCount w e n ≤ n
-unfolding operandCount
-operand-count-most w zero e = omega arith
-operand-count-most w (suc n) e =
-    let h = operand-count-most w n (e + 5) in let k = operands-most (instructionAtEntry w e) in omega arith

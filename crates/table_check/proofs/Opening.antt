@@ -11,7 +11,7 @@ use Rattle.listing.specs.Lists.{all, isEmpty, allYes}
 use Rattle.listing.specs.Listing.{Kind, byReference, byValue, Routine}
 use Rattle.listing.specs.Questions.{isByReference, opensAsStated, mayBeLast, lastAnswers}
 use Rattle.table.specs.Areas.{kindBits, routineWords}
-use Rattle.table.specs.Decode.{word, noInstruction, instructionOf, instructionAtEntry, codeAtEntry, kindsOfBits, routineEntry, routineAtEntry, tableListing}
+use Rattle.table.specs.Decode.{word, instructionAtEntry, codeAtEntry, kindsOfBits, routineEntry, routineAtEntry, tableListing}
 use Rattle.table.proofs.Reach.{code-count, kinds-count}
 use Rattle.table.proofs.Tests.{and-left, and-right, and-no, and-yes, same-answer}
 use Rattle.table_check_cells.specs.Pass.{sameAt}
@@ -166,20 +166,3 @@ pub last-answers : (w : List ℕ) (n e : ℕ) → allYes (lastAnswers (codeAtEnt
 unfolding codeAtEntry lastAnswers all
 last-answers w zero e = let z : e + 5 * 0 ≡ e = omega arith in rw z (and-yes (mayBeLast (instructionAtEntry w e)))
 last-answers w (suc n) e = let z : e + 5 + 5 * n ≡ e + 5 * suc n = omega arith in last-answers w n (e + 5) ∙ rw z
-
--- ── an instruction by the number of its kind ─────────────────────────────────────
--- a number that is no kind's
-pub record NoKind (kind : ℕ) : Type 0 where
-  pub not1 : kind ≡ 1 → ⊥
-  pub not2 : kind ≡ 2 → ⊥
-  pub not3 : kind ≡ 3 → ⊥
-  pub not4 : kind ≡ 4 → ⊥
-  pub not5 : kind ≡ 5 → ⊥
-  pub not6 : kind ≡ 6 → ⊥
-  pub not7 : kind ≡ 7 → ⊥
-
-pub no-instruction : (w : List ℕ) (e : ℕ) → NoKind (word w (e + 0)) → instructionAtEntry w e ≡ noInstruction
-unfolding instructionAtEntry instructionOf
-no-instruction w e n =
-    let k = word w (e + 0) in
-    rw (ne-eqb k 1 (n .not1), ne-eqb k 2 (n .not2), ne-eqb k 3 (n .not3), ne-eqb k 4 (n .not4), ne-eqb k 5 (n .not5), ne-eqb k 6 (n .not6), ne-eqb k 7 (n .not7))

@@ -18,7 +18,8 @@ use Rattle.table.proofs.Tests.{and-left, and-right, and-no}
 use Rattle.table_check_cells.specs.Pass.{sameAt, instructionPasses, onward, codePast, codeTest}
 use Rattle.table_check_cells.proofs.Words.{same-split, leb-before}
 use Rattle.table_check_code.proofs.Instructions.{code-past}
-use Rattle.table_check.specs.Check.{routinePasses, routineTest, openingTest, routinePast, tailTest, goesOn, passFrom, routinesPass, routinesTest}
+use Rattle.table_check_ends.specs.Ends.{tailTest}
+use Rattle.table_check.specs.Check.{routinePasses, routineTest, openingTest, routinePast, goesOn, passFrom, routinesPass, routinesTest}
 use Rattle.table_check.proofs.Opening.{opened, last-answers}
 
 -- ── one routine ──────────────────────────────────────────────────────────────────

@@ -9,14 +9,10 @@ use Rattle.listing.specs.Lists.{all, isEmpty, allYes}
 use Rattle.listing.specs.Listing.{Routine, Listing, nameCount}
 use Rattle.listing.specs.Limits.{instructionLimit, nameLimit}
 use Rattle.listing.specs.Questions.{opensAsStated, lastAnswers}
-use Rattle.table.specs.Areas.{cellEnd, entryArea, operands, kindBits, routineWords, allRoutines, allCode, allCells, allEntries}
-use Rattle.table.specs.Decode.{word, instructionAtEntry, kindsOfBits, routineEntry, routineAtEntry, tableListing}
+use Rattle.table.specs.Areas.{cellEnd, entryArea, kindBits, routineWords, allRoutines, allCode, allCells, allEntries}
+use Rattle.table.specs.Decode.{word, kindsOfBits, routineEntry, routineAtEntry, tableListing}
 use Rattle.table_check_cells.specs.Pass.{sameAt, instructionPasses}
-
--- n words from a on are 0
-unfoldable pub zerosAt : List ℕ → ℕ → ℕ → Bool
-zerosAt w a zero = true
-zerosAt w a (suc n) = eqb (word w a) 0 && zerosAt w (a + 1) n
+use Rattle.table_check_ends.specs.Ends.{tailTest}
 
 -- ── a routine ────────────────────────────────────────────────────────────────────
 -- what questions 2 to 5 ask of the routine of this number
@@ -55,21 +51,6 @@ entryTest w a first =
 unfoldable pub routinePast : List ℕ → ℕ → ℕ → ℕ → ℕ
 routinePast w number first cells =
     let r = routineAtEntry w (routineEntry number) in cond (routineTest w number first cells r) (cells + length (allCells (r .code))) 0
-
--- ── what is behind the routines ──────────────────────────────────────────────────
--- the operands of n instructions whose entries stand from e on
-unfoldable pub operandCount : List ℕ → ℕ → ℕ → ℕ
-operandCount w e zero = 0
-operandCount w e (suc n) = operands (instructionAtEntry w e) + operandCount w (e + 5) n
-
--- behind n routines, `first` instructions and the cells: all words 0, and at most 4,096 pieces
-unfoldable pub tailTest : List ℕ → ℕ → ℕ → ℕ → Bool
-tailTest w n first cells =
-    zerosAt w 3 5
-    && (zerosAt w (8 + 5 * n) (320 - 5 * n)
-    && (zerosAt w (328 + 5 * first) (2560 - 5 * first)
-    && (zerosAt w cells (12288 - cells)
-    && leb (cells + 2 * operandCount w 328 first) cellEnd)))
 
 -- ── n routines from a number on, then the rest ───────────────────────────────────
 unfoldable pub goesOn : ℕ → (ℕ → Bool) → Bool

@@ -4,7 +4,8 @@ use Prim.Native.Nat.{ℕ, _≤_, _+_, _-_, _*_}
 use mathlib.Core.Path.{_≡_, sym, ap, _∙_}
 use native.Mathlib.Omega.{arith}
 use Rattle.table.specs.Decode.{word}
-use Rattle.table_check.specs.Check.{routinePast, tailTest, passFrom}
+use Rattle.table_check_ends.specs.Ends.{tailTest}
+use Rattle.table_check.specs.Check.{routinePast, passFrom}
 use Rattle.table_check.proofs.RoutinePass as routines
 use borrow.Author.Needs.{needs}
 use Rattle.table_check.proofs.routines_pass.Statement.{statement}

@@ -1,14 +1,14 @@
--- `table_check::tail_passes` meets its contract.
+-- `table_check_ends::tail_passes` meets its contract.
 use denote.Ref.{now}
 use Prim.Native.Nat.{_+_, _-_, _*_}
 use mathlib.Core.Path.{_≡_, sym, _∙_}
 use native.Mathlib.Omega.{arith}
 use borrow.Author.Tests.{not-true, not-false}
-use Rattle.table_check.specs.Check.{tailTest}
-use Rattle.table_check.proofs.Areas as areas
+use Rattle.table_check_ends.specs.Ends.{tailTest}
+use Rattle.table_check_ends.proofs.Ends as ends
 use borrow.Author.Needs.{needs}
-use Rattle.table_check.proofs.tail_passes.Statement.{statement}
-use Rattle.table_check.proofs.tail_passes.Tie as tie
+use Rattle.table_check_ends.proofs.tail_passes.Statement.{statement}
+use Rattle.table_check_ends.proofs.tail_passes.Tie as tie
 
 zeros-pass-requires : tie.Need-zeros-pass-requires
 zeros-pass-requires c κs = search needs
@@ -80,12 +80,12 @@ operand-count-requires c κs = search needs
 mul-result : tie.Need-mul-result
 mul-result c =
     let past = c .before .before .before .before .before .before .before .before .before .before in
-    omega (arith, (c .operand-count .ensures), areas.operand-count-most (now (past .args .t)) (past .args .first) 328)
+    omega (arith, (c .operand-count .ensures), ends.operand-count-most (now (past .args .t)) (past .args .first) 328)
 
 add-result : tie.Need-add-result
 add-result c =
     let past = c .before .before .before .before .before .before .before .before .before .before in
-    omega (arith, (c .operand-count .ensures), areas.operand-count-most (now (past .args .t)) (past .args .first) 328)
+    omega (arith, (c .operand-count .ensures), ends.operand-count-most (now (past .args .t)) (past .args .first) 328)
 
 returns-5 : tie.Need-returns-5
 unfolding tailTest

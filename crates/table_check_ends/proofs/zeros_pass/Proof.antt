@@ -1,14 +1,14 @@
--- `table_check::zeros_pass` meets its contract.
+-- `table_check_ends::zeros_pass` meets its contract.
 use denote.Ref.{now}
 use Prim.Native.Nat.{_≤_, _+_, _-_}
 use mathlib.Core.Path.{_≡_, refl}
 use mathlib.Core.Bool.{_&&_}
 use mathlib.Core.Logic.{⊎-elim}
 use native.Mathlib.Omega.{arith}
-use Rattle.table_check.specs.Check.{zerosAt}
-use Rattle.table_check.proofs.Areas as areas
-use Rattle.table_check.proofs.zeros_pass.Statement.{statement}
-use Rattle.table_check.proofs.zeros_pass.Tie as tie
+use Rattle.table_check_ends.specs.Ends.{zerosAt}
+use Rattle.table_check_ends.proofs.Ends as ends
+use Rattle.table_check_ends.proofs.zeros_pass.Statement.{statement}
+use Rattle.table_check_ends.proofs.zeros_pass.Tie as tie
 
 abbrev Inv-loop : tie.InvT-loop
 Inv-loop t from to clear₀ i₀ clear i =
@@ -41,15 +41,15 @@ loop-again c =
     let left = a .to - v .i in
     let next = a .to - (v .i + 1) in (
       omega arith,
-      ⊎-elim (λ w. areas.clear-no-more (now (a .t)) (v .i) left next (v .clear) (c .if1 .clear) _ (omega arith) (w .0 .taken) (w .1) (v .inv .1))
-          (λ w. areas.clear-stays (now (a .t)) (v .i) left next (v .clear) (c .if1 .clear) _ (omega arith) (w .0 .left) (w .1) (v .inv .1)) (c .if1 .came),
+      ⊎-elim (λ w. ends.clear-no-more (now (a .t)) (v .i) left next (v .clear) (c .if1 .clear) _ (omega arith) (w .0 .taken) (w .1) (v .inv .1))
+          (λ w. ends.clear-stays (now (a .t)) (v .i) left next (v .clear) (c .if1 .clear) _ (omega arith) (w .0 .left) (w .1) (v .inv .1)) (c .if1 .came),
     )
 
 returns : tie.Need-returns Inv-loop μ-loop
 returns c =
     let v = c .before .loop in
     let a = c .before .before .args in
-    areas.clear-ends (now (a .t)) (v .i) (a .to - v .i) (v .clear) _ (omega arith) (v .inv .1)
+    ends.clear-ends (now (a .t)) (v .i) (a .to - v .i) (v .clear) _ (omega arith) (v .inv .1)
 
 pub zeros-pass-spec : {M : Type 1} → statement M
 zeros-pass-spec =

@@ -1,14 +1,14 @@
--- `table_check::operand_count` meets its contract.
+-- `table_check_ends::operand_count` meets its contract.
 use denote.Ref.{now}
 use Prim.Native.Nat.{_≤_, _+_, _*_}
 use mathlib.Core.Path.{_≡_}
 use native.Mathlib.Omega.{arith}
 use Rattle.table.specs.Decode.{instructionAtEntry}
-use Rattle.table_check.specs.Check.{operandCount}
-use Rattle.table_check.proofs.Areas as areas
+use Rattle.table_check_ends.specs.Ends.{operandCount}
+use Rattle.table_check_ends.proofs.Ends as ends
 use borrow.Author.Needs.{needs}
-use Rattle.table_check.proofs.operand_count.Statement.{statement}
-use Rattle.table_check.proofs.operand_count.Tie as tie
+use Rattle.table_check_ends.proofs.operand_count.Statement.{statement}
+use Rattle.table_check_ends.proofs.operand_count.Tie as tie
 
 abbrev Inv-loop : tie.InvT-loop
 Inv-loop t n e₀ sum₀ left₀ e sum left =
@@ -27,7 +27,7 @@ operands-at-requires c κs = search needs
 
 add-sum : tie.Need-add-sum Inv-loop μ-loop
 add-sum c =
-    omega (arith, (c .operands-at .ensures), areas.operands-most (instructionAtEntry (now (c .before .before .before .before .args .t)) (c .before .before .loop .e)))
+    omega (arith, (c .operands-at .ensures), ends.operands-most (instructionAtEntry (now (c .before .before .before .before .args .t)) (c .before .before .loop .e)))
 
 add-e : tie.Need-add-e Inv-loop μ-loop
 add-e c = omega arith
@@ -42,16 +42,16 @@ loop-again : tie.Need-loop-again Inv-loop μ-loop
 loop-again c =
     let v = c .before .before .loop in
     let w = now (c .before .before .before .before .args .t) in
-    let most = areas.operands-most (instructionAtEntry w (v .e)) in
+    let most = ends.operands-most (instructionAtEntry w (v .e)) in
     let result = c .operands-at .ensures in
-    let turn = areas.operands-turn w (v .e) (v .left) (omega arith) in
+    let turn = ends.operands-turn w (v .e) (v .left) (omega arith) in
     let so-far = v .inv .2 in
     (omega arith, omega arith, omega arith)
 
 returns : tie.Need-returns Inv-loop μ-loop
 returns c =
     let v = c .before .loop in
-    let none = areas.operands-end (now (c .before .before .before .args .t)) (v .e) (v .left) (omega arith) in
+    let none = ends.operands-end (now (c .before .before .before .args .t)) (v .e) (v .left) (omega arith) in
     let so-far = v .inv .2 in
     omega arith
 

@@ -6,32 +6,15 @@ use Prim.Native.Nat.{ℕ, zero, suc, _+_, _-_, _≤_, _<_}
 use native.Mathlib.Omega.{arith}
 use lib.Dec.{leb}
 use lib.ListN.{length, length-append}
-use borrow.Author.Tests.{ne-eqb, le-leb, lt-leb, leb-true}
+use borrow.Author.Tests.{ne-eqb, le-leb, leb-true}
 use Rattle.listing.specs.Lists.{all}
 use Rattle.listing.specs.Listing.{Instruction}
 use Rattle.table.specs.Areas.{wordsOfEach, cellWords, entryWords, allCells, allEntries}
 use Rattle.table.specs.Decode.{instructionAtEntry, codeAtEntry}
 use Rattle.table.proofs.Lengths.{entry-five}
 use Rattle.table.proofs.Tests.{and-left, and-right, and-no}
-use Rattle.table_check_cells.specs.Pass.{sameAt, routinesIn, cellsPast, instructionPasses, instructionTest, entryPast, onward, codePast, codeTest}
+use Rattle.table_check_cells.specs.Pass.{sameAt, routinesIn, instructionPasses, instructionTest, entryPast, onward, codePast, codeTest}
 use Rattle.table_check_cells.proofs.Words.{same-split, leb-before}
-
--- ── the four ends of a check of cells ────────────────────────────────────────────
-pub cells-yes : (at n : ℕ) → at + n ≤ 11080 → cellsPast at true n true ≡ at + n
-unfolding cellsPast
-cells-yes at n h = rw (le-leb (at + n) 11080 h)
-
-pub cells-no : (at n : ℕ) (s : Bool) → cellsPast at false n s ≡ 0
-unfolding cellsPast
-cells-no at n s = refl
-
-pub cells-long : (at n : ℕ) (b s : Bool) → 11080 < at + n → cellsPast at b n s ≡ 0
-unfolding cellsPast
-cells-long at n b s h = rw (lt-leb (at + n) 11080 h) (simp and-no)
-
-pub cells-bad : (at n : ℕ) (b : Bool) → cellsPast at b n false ≡ 0
-unfolding cellsPast
-cells-bad at n b = simp and-no
 
 -- ── one instruction more ─────────────────────────────────────────────────────────
 regroup : (pass passes here end entry entries same sames : Bool) → (end ≡ true → here ≡ true)

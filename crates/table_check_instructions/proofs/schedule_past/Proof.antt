@@ -1,4 +1,4 @@
--- `table_check_code::schedule_past` meets its contract.
+-- `table_check_instructions::schedule_past` meets its contract.
 use denote.Ref.{now}
 use Prim.Native.Nat.{_+_, _*_}
 use mathlib.Core.Path.{_≡_, sym, _∙_}
@@ -7,10 +7,10 @@ use native.Mathlib.Omega.{arith}
 use lib.Dec.{ltb}
 use borrow.Author.Tests.{lt-ltb, le-ltb, not-true, not-false}
 use Rattle.table_check_cells.specs.Pass.{expressionTest}
-use Rattle.table_check_code.proofs.Instructions as instructions
+use Rattle.table_check_instructions.proofs.Ends as ends
 use borrow.Author.Needs.{needs}
-use Rattle.table_check_code.proofs.schedule_past.Statement.{statement}
-use Rattle.table_check_code.proofs.schedule_past.Tie as tie
+use Rattle.table_check_instructions.proofs.schedule_past.Statement.{statement}
+use Rattle.table_check_instructions.proofs.schedule_past.Tie as tie
 
 mul-middle : tie.Need-mul-middle
 mul-middle c = omega arith
@@ -27,12 +27,12 @@ add-stop c = omega arith
 returns : tie.Need-returns
 returns c =
     let a = c .before .before .args in
-    sym (rw (le-ltb (a .operand) (a .names) (c .if1 .taken)) (instructions.cells-no (a .cells) (2 * a .first + 2 * a .second) _))
+    sym (rw (le-ltb (a .operand) (a .names) (c .if1 .taken)) (ends.cells-no (a .cells) (2 * a .first + 2 * a .second) _))
 
 returns-2 : tie.Need-returns-2
 returns-2 c =
     let a = c .before .before .before .args in
-    sym (instructions.cells-long (a .cells) (2 * a .first + 2 * a .second) (ltb (a .operand) (a .names)) _ (omega arith))
+    sym (ends.cells-long (a .cells) (2 * a .first + 2 * a .second) (ltb (a .operand) (a .names)) _ (omega arith))
 
 expression-passes-requires : tie.Need-expression-passes-requires
 expression-passes-requires c κs = search needs
@@ -41,7 +41,7 @@ returns-3 : tie.Need-returns-3
 returns-3 c =
     let a = c .before .before .before .before .before .args in
     let y : expressionTest (now (a .t)) (a .names) 0 (a .cells) (a .first) ≡ false = sym (c .before .expression-passes .ensures) ∙ not-true _ (c .if3 .taken) in
-    sym (rw y (instructions.cells-bad (a .cells) (2 * a .first + 2 * a .second) (ltb (a .operand) (a .names))))
+    sym (rw y (ends.cells-bad (a .cells) (2 * a .first + 2 * a .second) (ltb (a .operand) (a .names))))
 
 expression-passes-requires-2 : tie.Need-expression-passes-requires-2
 expression-passes-requires-2 c κs = search needs
@@ -52,14 +52,14 @@ returns-4 c =
     let y : expressionTest (now (a .t)) (a .names) 0 (a .cells) (a .first) ≡ true = sym (c .before .before .before .expression-passes .ensures) ∙ not-false _ (c .before .before .if3 .left) in
     let z : expressionTest (now (a .t)) (a .names) 0 (a .cells + 2 * a .first) (a .second) ≡ true = sym (c .before .expression-passes2 .ensures) ∙ (c .if4 .taken) in
     let j : a .cells + (2 * a .first + 2 * a .second) ≡ a .cells + 2 * a .first + 2 * a .second = omega arith in
-    sym (rw (y, z, lt-ltb (a .operand) (a .names) (omega arith)) (instructions.cells-yes (a .cells) (2 * a .first + 2 * a .second) (omega arith) ∙ j))
+    sym (rw (y, z, lt-ltb (a .operand) (a .names) (omega arith)) (ends.cells-yes (a .cells) (2 * a .first + 2 * a .second) (omega arith) ∙ j))
 
 returns-5 : tie.Need-returns-5
 returns-5 c =
     let a = c .before .before .before .before .before .before .before .args in
     let y : expressionTest (now (a .t)) (a .names) 0 (a .cells) (a .first) ≡ true = sym (c .before .before .before .expression-passes .ensures) ∙ not-false _ (c .before .before .if3 .left) in
     let z : expressionTest (now (a .t)) (a .names) 0 (a .cells + 2 * a .first) (a .second) ≡ false = sym (c .before .expression-passes2 .ensures) ∙ (c .if4 .left) in
-    sym (rw (y, z) (instructions.cells-bad (a .cells) (2 * a .first + 2 * a .second) (ltb (a .operand) (a .names))))
+    sym (rw (y, z) (ends.cells-bad (a .cells) (2 * a .first + 2 * a .second) (ltb (a .operand) (a .names))))
 
 pub schedule-past-spec : {M : Type 1} → statement M
 schedule-past-spec =

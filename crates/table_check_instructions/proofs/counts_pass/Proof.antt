@@ -1,8 +1,8 @@
--- `table_check_code::counts_pass` meets its contract.
+-- `table_check_instructions::counts_pass` meets its contract.
 use native.Mathlib.Omega.{arith}
 use borrow.Author.Tests.{eq-eqb, ne-eqb, le-leb, lt-leb}
-use Rattle.table_check_code.proofs.counts_pass.Statement.{statement}
-use Rattle.table_check_code.proofs.counts_pass.Tie as tie
+use Rattle.table_check_instructions.proofs.counts_pass.Statement.{statement}
+use Rattle.table_check_instructions.proofs.counts_pass.Tie as tie
 
 returns : tie.Need-returns
 returns c =

@@ -1,8 +1,8 @@
--- `table_check_code::fork_past` meets its contract.
+-- `table_check_instructions::fork_past` meets its contract.
 use mathlib.Core.Path.{refl, sym, _∙_}
 use borrow.Author.Needs.{needs}
-use Rattle.table_check_code.proofs.fork_past.Statement.{statement}
-use Rattle.table_check_code.proofs.fork_past.Tie as tie
+use Rattle.table_check_instructions.proofs.fork_past.Statement.{statement}
+use Rattle.table_check_instructions.proofs.fork_past.Tie as tie
 
 counts-pass-requires : tie.Need-counts-pass-requires
 counts-pass-requires c κs = search needs

@@ -16,13 +16,13 @@ use Rattle.walk.specs.Calls.{inputsOf}
 use Rattle.walk.specs.Trace as W
 use Rattle.walk.specs.Trace.{script, withInput, joinInput}
 use Rattle.text_place.specs.declared.place.Place.{Place}
-use Rattle.session_trace.specs.Lines.{lineAnswer}
+use Rattle.session_trace_lines.specs.Lines.{lineAnswer}
 use Rattle.session_trace.specs.Groups.{CallIs, NextIs, NextRead, Behind, keptOf, endedBy, putAt, Put, JoinsOn, Apart}
-use Rattle.session_trace.specs.declared.line.TraceLine.{TraceLine}
-use Rattle.session_trace.specs.declared.line.TraceLine.the-variants as LV
+use Rattle.session_trace_lines.specs.declared.line.TraceLine.{TraceLine}
+use Rattle.session_trace_lines.specs.declared.line.TraceLine.the-variants as LV
 use Rattle.session_trace.specs.declared.group.Next.{Next}
 use Rattle.session_trace.specs.declared.group.Next.the-variants as NV
-use Rattle.session_trace.proofs.line.TraceLine.{the-type}
+use Rattle.session_trace_lines.proofs.line.TraceLine.{the-type}
 use Rattle.session_trace.proofs.Scripts.{here, from-bad, from-input, from-last, last-open}
 
 -- ── scripts that no input of a time begins ───────────────────────────────────────

@@ -20,9 +20,9 @@ use Rattle.text_place.specs.declared.place.Place.{Place}
 use Rattle.text_place.proofs.Texts.{cut-at, no-cut, before-free}
 use Rattle.text_place.proofs.Places.{drop-past, past-in}
 use Rattle.text_records.proofs.Lines.{closed-more}
-use Rattle.session_trace.specs.Lines.{asTraceLine, lineAnswer}
+use Rattle.session_trace_lines.specs.Lines.{asTraceLine, lineAnswer}
 use Rattle.session_trace.specs.Groups.{JoinsOn}
-use Rattle.session_trace.specs.declared.line.TraceLine.the-variants as LV
+use Rattle.session_trace_lines.specs.declared.line.TraceLine.the-variants as LV
 
 -- ── the lines of a text from an offset on ────────────────────────────────────────
 nowhere : ℕ → Bool

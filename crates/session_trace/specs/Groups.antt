@@ -9,8 +9,8 @@ use Rattle.listing.specs.Bytes.{Bytes, lineFeed}
 use Rattle.walk.specs.Instant.{Write}
 use Rattle.walk.specs.Calls.{inputsOf}
 use Rattle.walk.specs.Trace.{Script, callAt, lastAt, broken, withInput, script}
-use Rattle.session_trace.specs.declared.line.TraceLine.{TraceLine}
-use Rattle.session_trace.specs.declared.line.TraceLine.the-variants as LV
+use Rattle.session_trace_lines.specs.declared.line.TraceLine.{TraceLine}
+use Rattle.session_trace_lines.specs.declared.line.TraceLine.the-variants as LV
 use Rattle.session_trace.specs.declared.group.Next.{Next}
 use Rattle.session_trace.specs.declared.group.Next.the-variants as NV
 use Rattle.session_trace.specs.declared.group.Joins.{Joins}

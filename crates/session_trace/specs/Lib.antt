@@ -1,4 +1,1 @@
-pub mod Fields
-pub mod Figures
 pub mod Groups
-pub mod Lines

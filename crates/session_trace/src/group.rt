@@ -3,8 +3,8 @@ ghost use mathlib.Core.Path.{_≡_};
 ghost use Prim.Native.Nat.{_≤_};
 ghost use lib.ListN.{length};
 ghost use Rattle.session_trace.specs.Groups.{endedBy, Put, JoinsIs, NextRead};
-use crate::line::TraceLine;
-use crate::line::read_trace_line;
+use session_trace_lines::TraceLine;
+use session_trace_lines::read_trace_line;
 use text_place::Place;
 
 // What is next in a trace.

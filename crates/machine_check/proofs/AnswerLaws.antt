@@ -16,7 +16,7 @@ use Rattle.machine.proofs.PassingWordsHold.{Words32, own-rests}
 use Rattle.machine_words.specs.Tests.{Dues}
 use Rattle.machine_check_slots.specs.Kept.{wordsKept}
 use Rattle.table_child_fields.specs.Tables.{TableBounds}
-use Rattle.machine_check_tree.specs.Scan.{Ready, whole}
+use Rattle.machine_check_paths.specs.Scan.{Ready, whole}
 use Rattle.machine_check.specs.Answer.{answerOf, checkOf, duesLeft}
 use Rattle.machine_check.specs.declared.MachineCheck.the-variants.{NotAState, Stopped, Running}
 

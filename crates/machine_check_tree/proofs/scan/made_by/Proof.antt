@@ -4,8 +4,8 @@ use mathlib.Core.Path.{_≡_, sym, ap, _∙_}
 use lib.ListN.{getD}
 use native.Mathlib.Omega.{arith}
 use borrow.Author.Tests.{not-true, not-false}
-use Rattle.machine_check_tree.specs.Scan.{recordOf}
-use Rattle.machine_check_tree.proofs.ScanLaws.{level-below, level-unfit, picked-made, level-from, child-from, no-maker-made, frame-fits, maker-unfit, maker-fit}
+use Rattle.machine_check_paths.specs.Scan.{recordOf}
+use Rattle.machine_check_paths.proofs.ScanLaws.{level-below, level-unfit, picked-made, level-from, child-from, no-maker-made, frame-fits, maker-unfit, maker-fit}
 use Rattle.table_child_fields.proofs.PickLaws.{picked}
 use borrow.Author.Needs.{needs}
 use Rattle.machine_check_tree.proofs.scan.made_by.Statement.{statement}

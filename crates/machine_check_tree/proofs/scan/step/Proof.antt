@@ -5,9 +5,9 @@ use Rattle.walk.specs.Question7.{ownedBy}
 use Rattle.table.specs.Decode.{tableListing}
 use native.Mathlib.Omega.{arith}
 use borrow.Author.Tests.{not-true, not-false}
-use Rattle.machine_check_tree.specs.Scan.{recordOf}
-use Rattle.machine_check_tree.proofs.ScanLaws.{size-from, wrong-size}
-use Rattle.machine_check_tree.proofs.StepLaws.{refused-step, unmade-path, wrong-size-path, right-size-path}
+use Rattle.machine_check_paths.specs.Scan.{recordOf}
+use Rattle.machine_check_paths.proofs.ScanLaws.{size-from, wrong-size}
+use Rattle.machine_check_paths.proofs.StepLaws.{refused-step, unmade-path, wrong-size-path, right-size-path}
 use borrow.Author.Needs.{needs}
 use Rattle.machine_check_tree.proofs.scan.step.Statement.{statement}
 use Rattle.machine_check_tree.proofs.scan.step.Tie as tie

@@ -3,8 +3,8 @@ use Prim.Native.Nat.{_-_, _≤_}
 use mathlib.Core.Path.{refl, sym}
 use native.Mathlib.Omega.{arith}
 use borrow.Author.Tests.{not-true, not-false}
-use Rattle.machine_check_tree.specs.Scan.{Going}
-use Rattle.machine_check_tree.proofs.StepLaws.{scan-begins, scan-ends}
+use Rattle.machine_check_paths.specs.Scan.{Going}
+use Rattle.machine_check_paths.proofs.StepLaws.{scan-begins, scan-ends}
 use borrow.Author.Needs.{needs}
 use Rattle.machine_check_tree.proofs.scan.tree_passes.Statement.{statement}
 use Rattle.machine_check_tree.proofs.scan.tree_passes.Tie as tie

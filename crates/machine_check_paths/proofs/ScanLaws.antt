@@ -18,8 +18,8 @@ use Rattle.machine.proofs.PassingWordsHold.{length-variablesIn}
 use Rattle.table_child_fields.specs.Tables.{HeadsFit, Seen, at-wait, at-fork, at-other}
 use Rattle.table_child_fields.specs.Picking.{noMaker, makerOf}
 use Rattle.table_child_fields.specs.declared.pick.Maker.{Maker}
-use Rattle.machine_check_tree.specs.Scan.{whole, recordOf, scanAfter, Ready, Heads, Stack, bottom, above, Going, Caller, Made, makerFor}
-use Rattle.machine_check_tree.specs.declared.scan.Path.{Path}
+use Rattle.machine_check_paths.specs.Scan.{whole, recordOf, scanAfter, Ready, Heads, Stack, bottom, above, Going, Caller, Made, makerFor}
+use Rattle.machine_check_paths.specs.declared.path.Path.{Path}
 use Rattle.table_child_fields.proofs.TableLaws.{head-after-add}
 use Rattle.table_child_fields.proofs.PickLaws.{no-clash, Missing, too-low, too-high, Chosen, Picked}
 use Rattle.table.proofs.Reach.{calls-count}

@@ -1,13 +1,13 @@
--- `machine_check_tree::scan::settle` meets its contract.
+-- `machine_check_paths::path::settle` meets its contract.
 use Prim.Native.Nat.{_<_}
 use mathlib.Core.Path.{_≡_, _∙_}
 use native.Mathlib.Omega.{arith}
-use Rattle.machine_check_tree.specs.Scan.{recordOf}
-use Rattle.machine_check_tree.proofs.ScanLaws.{no-sleep, too-deep, level-from, child-from, place-from}
-use Rattle.machine_check_tree.proofs.StepLaws.{refused-step, waiting-step, forking-step, entered-fields, pushed-fields, settled-as, at-wait-path, at-other-path, at-deep-path, at-fork-path}
+use Rattle.machine_check_paths.specs.Scan.{recordOf}
+use Rattle.machine_check_paths.proofs.ScanLaws.{no-sleep, too-deep, level-from, child-from, place-from}
+use Rattle.machine_check_paths.proofs.StepLaws.{refused-step, waiting-step, forking-step, entered-fields, pushed-fields, settled-as, at-wait-path, at-other-path, at-deep-path, at-fork-path}
 use borrow.Author.Needs.{needs}
-use Rattle.machine_check_tree.proofs.scan.settle.Statement.{statement}
-use Rattle.machine_check_tree.proofs.scan.settle.Tie as tie
+use Rattle.machine_check_paths.proofs.path.settle.Statement.{statement}
+use Rattle.machine_check_paths.proofs.path.settle.Tie as tie
 
 block-of-requires : tie.Need-block-of-requires
 block-of-requires c κs =

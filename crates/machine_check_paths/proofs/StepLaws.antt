@@ -16,10 +16,10 @@ use Rattle.machine.specs.Words.{recordsIn}
 use Rattle.table_child_fields.specs.Tables.{TableBounds, HeadsFit, Seen, at-wait, at-fork, at-other, lineAt}
 use Rattle.table_child_fields.specs.declared.pick.Maker.{Maker}
 use Rattle.table_read.specs.declared.Entry.{Entry}
-use Rattle.machine_check_tree.specs.Scan.{whole, recordOf, Ready, Heads, Stack, bottom, above, Going, Caller, Stepped}
-use Rattle.machine_check_tree.specs.Scan.{makerFor, refusedPath, enteredPath, pushedPath, pathAt, settledPath, pathBy, steppedPath}
-use Rattle.machine_check_tree.specs.declared.scan.Path.{Path}
-use Rattle.machine_check_tree.proofs.ScanLaws.{Agree, keep, fork-heads, asleep-law}
+use Rattle.machine_check_paths.specs.Scan.{whole, recordOf, Ready, Heads, Stack, bottom, above, Going, Caller, Stepped}
+use Rattle.machine_check_paths.specs.Scan.{makerFor, refusedPath, enteredPath, pushedPath, pathAt, settledPath, pathBy, steppedPath}
+use Rattle.machine_check_paths.specs.declared.path.Path.{Path}
+use Rattle.machine_check_paths.proofs.ScanLaws.{Agree, keep, fork-heads, asleep-law}
 
 -- ── the path, field by field ──────────────────────────────────────────────────────────────────────
 pub record Entered (p : Path) (level child after rest : ℕ) (q : Path) : Type 0 where

@@ -15,7 +15,7 @@ use Rattle.table_child_fields.specs.Tables.{TableBounds, HeadsFit, lineAt}
 use Rattle.table_child_fields.specs.Picking.{noMaker, makerOf}
 use Rattle.table_child_fields.specs.declared.pick.Maker.{Maker}
 use Rattle.table_read.specs.declared.Entry.{Entry}
-use Rattle.machine_check_tree.specs.declared.scan.Path.{Path}
+use Rattle.machine_check_paths.specs.declared.path.Path.{Path}
 
 abbrev pub whole : List ℕ → List ℕ → Bool
 whole w m = recordsPass (tableListing w) (momentAt m 1) (recordsIn m 0 (getD m 3 0))

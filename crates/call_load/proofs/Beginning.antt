@@ -21,7 +21,7 @@ use Rattle.text_records.specs.Onward.{recordsFrom}
 use Rattle.text_records.proofs.Lines.{formed-whole, records-whole, records-end}
 use Rattle.call_load.specs.Growing.{nothingSaid, withLines}
 use Rattle.call_load.specs.Writing.{Writing}
-use Rattle.call_load.specs.declared.progress.Progress.{Progress}
+use Rattle.table_progress.specs.declared.progress.Progress.{Progress}
 use Rattle.call_load.proofs.Growing.{lines-say}
 use Rattle.call_load.proofs.Words.{nothing-written}
 use Rattle.call_load.proofs.Fitting.{lines-fit}

@@ -24,12 +24,13 @@ use Rattle.text_records.specs.declared.line.Line.the-variants as LV
 use Rattle.text_records.proofs.Lines.{NextLine, next-line}
 use Rattle.call_load.specs.Growing.{openedWith, withInstruction, lastCode, withLine, withLines}
 use Rattle.table_lines.specs.Lines.{holdsOf, wordsAfter, Fits, Good, lineOf, WritesLine, lineAt}
-use Rattle.call_load.specs.Writing.{entered, advanced, wordsIn, Room, placeOf, progressAfter, wordsNext, AllFit, Counted, Writing}
+use Rattle.table_progress.specs.Progress.{entered, advanced, wordsIn, Room}
+use Rattle.call_load.specs.Writing.{placeOf, progressAfter, wordsNext, AllFit, Counted, Writing}
 use Rattle.call_load.specs.Writing as W
 use Rattle.table_lines.specs.declared.line.Holds.{Holds}
 use Rattle.table_lines.specs.declared.line.Holds.the-variants as HV
 use Rattle.table_lines.specs.declared.line.WrittenLine.{WrittenLine}
-use Rattle.call_load.specs.declared.progress.Progress.{Progress}
+use Rattle.table_progress.specs.declared.progress.Progress.{Progress}
 use Rattle.call_load.proofs.Growing.{last-code, last-code-few, added, Grows, lines-grow}
 use Rattle.call_load.proofs.Words.{ports-written, opens-written, instruction-written}
 use Rattle.call_load.proofs.Beginning.{meets-all}

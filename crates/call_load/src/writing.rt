@@ -6,10 +6,10 @@ ghost use Rattle.listing.specs.Load.{Loads};
 ghost use Rattle.listing.specs.Questions.{listingIn};
 ghost use Rattle.table.specs.Areas.{tableWords, TableLong};
 ghost use Rattle.call_load.specs.Writing.{progressAfter, wordsNext, Writing};
-use crate::progress::Progress;
-use crate::progress::advance;
-use crate::progress::enter;
 use machine_halt::blank;
+use table_progress::Progress;
+use table_progress::advance;
+use table_progress::enter;
 use table_writer::write_line;
 use text_place::Place;
 

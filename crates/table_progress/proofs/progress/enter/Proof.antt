@@ -1,7 +1,7 @@
--- `call_load::enter` meets its contract.
+-- `table_progress::enter` meets its contract.
 use borrow.Author.Needs.{needs}
-use Rattle.call_load.proofs.progress.enter.Statement.{statement}
-use Rattle.call_load.proofs.progress.enter.Tie as tie
+use Rattle.table_progress.proofs.progress.enter.Statement.{statement}
+use Rattle.table_progress.proofs.progress.enter.Tie as tie
 
 enum-known-holds : tie.Need-enum-known-holds
 enum-known-holds c = search needs

@@ -1,6 +1,6 @@
 // How far a table is written, and what each line of the listing moves on.
 ghost use mathlib.Core.Path.{_≡_};
-ghost use Rattle.call_load.specs.Writing.{entered, advanced, Room};
+ghost use Rattle.table_progress.specs.Progress.{entered, advanced, Room};
 use table_cells::put::put;
 use table_cells::put::put_entry;
 use table_lines::Holds;

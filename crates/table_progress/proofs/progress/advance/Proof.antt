@@ -1,10 +1,10 @@
--- `call_load::advance` meets its contract.
+-- `table_progress::advance` meets its contract.
 use mathlib.Core.Path.{ap}
 use native.Mathlib.Omega.{arith}
-use Rattle.call_load.specs.Writing.{wordsIn}
+use Rattle.table_progress.specs.Progress.{wordsIn}
 use borrow.Author.Needs.{needs}
-use Rattle.call_load.proofs.progress.advance.Statement.{statement}
-use Rattle.call_load.proofs.progress.advance.Tie as tie
+use Rattle.table_progress.proofs.progress.advance.Statement.{statement}
+use Rattle.table_progress.proofs.progress.advance.Tie as tie
 
 enum-told : tie.Need-enum-told
 enum-told c = search needs

@@ -33,7 +33,7 @@ use Rattle.engine_ready.specs.Slots.{slotsOf}
 use Rattle.engine_steps.specs.declared.running.Running.{Running}
 use Rattle.engine_run_laws.specs.Placed.{Placed}
 use Rattle.engine_begin.specs.Begun.{BegunStart}
-use Rattle.engine_begin.proofs.Found.{no-row, false-not}
+use Rattle.engine_begin_laws.proofs.Found.{no-row, false-not}
 
 -- ── blank words ───────────────────────────────────────────────────────────────────────────────────
 blank-length : length blankWords ≡ 12288

@@ -41,14 +41,14 @@ use Rattle.engine_fill_row.specs.Filling.{orderOf, portsOf, FillsRows, MayFillA
 use Rattle.engine_due.specs.Beginnings.{DueMade, DuesTell, InputsWritten, NumbersBelow}
 use Rattle.engine_inputs.proofs.InputNumbers.{rising-numbers-below}
 use Rattle.engine_due.specs.Reaching.{ReadySoFar, Reaches, NothingWritten}
-use Rattle.engine_begin.specs.Queue.{Queued}
-use Rattle.engine_begin.proofs.QueuedWords.{queued-clean, may-fill-queued, filled-queued}
+use Rattle.engine_queue.specs.Queue.{Queued}
+use Rattle.engine_begin_laws.proofs.QueuedWords.{queued-clean, may-fill-queued, filled-queued}
 use Rattle.engine_begin.specs.Begun.{MayBegin, BegunFrom, Begun}
-use Rattle.engine_begin.proofs.Found.{slot-found, found-live, found-few, found-environment, found-no-triggers, false-not}
-use Rattle.engine_begin.proofs.Filled.{state-found, filledFrom, filled-from-holds, filled-own, filled-rows, may-fill-all}
-use Rattle.engine_begin.proofs.NotDue.{dues-tell}
-use Rattle.engine_begin.proofs.AtRest.{words-unwritten, nothing-written}
-use Rattle.engine_begin.proofs.Made.{own-as-it-is, own-after-due, made-placed, made-sleepers, made-names}
+use Rattle.engine_begin_laws.proofs.Found.{slot-found, found-live, found-few, found-environment, found-no-triggers, false-not}
+use Rattle.engine_begin_laws.proofs.Filled.{state-found, filledFrom, filled-from-holds, filled-own, filled-rows, may-fill-all}
+use Rattle.engine_begin_laws.proofs.NotDue.{dues-tell}
+use Rattle.engine_begin_laws.proofs.AtRest.{words-unwritten, nothing-written}
+use Rattle.engine_begin_laws.proofs.Made.{own-as-it-is, own-after-due, made-placed, made-sleepers, made-names}
 
 -- ── the environment's size ─────────────────────────────────────────────────────────────────────────
 pub size-of-table : (t : List ℕ) → isTable t ≡ true → (n : ℕ) → n ≡ word t 0 + word t 1 → (n ≡ environmentSize (tableListing t)) × (n ≤ 16)

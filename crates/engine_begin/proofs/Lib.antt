@@ -1,13 +1,2 @@
-pub mod Sitting
-pub mod AtInstructions
-pub mod Passing
-pub mod LaidBlocks
-pub mod Found
-pub mod Filled
-pub mod Made
 pub mod Composed
 pub mod Blank
-pub mod NotDue
-pub mod Queueing
-pub mod AtRest
-pub mod QueuedWords

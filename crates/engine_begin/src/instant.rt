@@ -1,10 +1,10 @@
 // The beginning of an instant. Rule 1 of document 01: "Every waiting write due at t is made, and is gone. Then the call's inputs
 // are written": after the trigger lists are made, so that each of these writes reaches just the routines that wait on its variable.
 ghost use Rattle.engine_begin.specs.Begun.{MayBegin, Begun};
-use crate::queue::queue_waiting;
 use engine_due::make_due_at;
 use engine_fill::fill_rows;
 use engine_inputs::write_inputs;
+use engine_queue::queue_waiting;
 use engine_ready::ReadyList;
 use engine_triggers::list_sleepers;
 use table_read::environment_size;

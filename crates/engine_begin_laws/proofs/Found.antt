@@ -38,8 +38,8 @@ use Rattle.engine_triggers.specs.Chains.{NoTriggers}
 use Rattle.engine_fill_row.specs.Filling.{orderOf}
 use Rattle.engine_finish.proofs.EndedIsRead.{first-block}
 use Rattle.engine_finish.proofs.KeptRecords.{toRecord, toRecords, forest-records, rowRecord, kept-length, kept-at, slot-in, place-of}
-use Rattle.engine_begin.proofs.Queueing.{Rests}
-use Rattle.engine_begin.proofs.LaidBlocks.{Laid, no-working-words, laid-rests, variables-back}
+use Rattle.engine_queue.proofs.Queueing.{Rests}
+use Rattle.engine_begin_laws.proofs.LaidBlocks.{Laid, no-working-words, laid-rests, variables-back}
 
 -- ── lists of slots and records ────────────────────────────────────────────────────────────────────
 distinct-of : (l : List ℕ) → ((i k : ℕ) → i < length l → k < length l → getD l i 0 ≡ getD l k 0 → i ≡ k) → Distinct l

@@ -31,8 +31,8 @@ use Rattle.engine_evaluate.specs.Bound.{bindingsOf}
 use Rattle.engine_evaluate.proofs.Standing.{table-names}
 use Rattle.engine_finish.proofs.EndedIsRead.{zero-of}
 use Rattle.engine_run_laws.specs.Placed.{GoesOn, Placed}
-use Rattle.engine_begin.proofs.Found.{no-row}
-use Rattle.engine_begin.proofs.AtInstructions.{used-goes-on, asleep-goes-on}
+use Rattle.engine_begin_laws.proofs.Found.{no-row}
+use Rattle.engine_begin_laws.proofs.AtInstructions.{used-goes-on, asleep-goes-on}
 
 -- ── parents ───────────────────────────────────────────────────────────────────────────────────────
 free-parent : (m : List ℕ) (q : ℕ) → q < 64 → (block m q 0 ≡ 0 → (k : ℕ) → k < 144 → block m q k ≡ 0) → (rowsOf m q) .used ≡ false → 0 < (rowsOf m q) .children → ⊥

@@ -28,7 +28,7 @@ use Rattle.engine_evaluate.proofs.Standing.{table-names}
 use Rattle.engine_new_rows.specs.NewRow.{MayDivide}
 use Rattle.engine_fill_row.specs.Filling.{MayFillMain, MayFillChild, MayFill, fills-main, fills-child, Fillable, fillable-none, fillable-next}
 use Rattle.engine_run_laws.specs.Placed.{GoesOn}
-use Rattle.engine_begin.proofs.Sitting.{Hangs, at-top, under, Sits}
+use Rattle.engine_begin_laws.proofs.Sitting.{Hangs, at-top, under, Sits}
 use Rattle.words.proofs.ForkBits.{fork-bits-are-at-most-three}
 
 -- ── a row that only got more children ─────────────────────────────────────────────────────────────

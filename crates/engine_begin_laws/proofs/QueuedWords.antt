@@ -26,10 +26,10 @@ use Rattle.engine_blocks.proofs.Puts.{put-other, put-same}
 use Rattle.engine_blocks.proofs.Tabulated.{tabulate-same}
 use Rattle.engine_clean.specs.Clean.{CleanSlot, CleanEnvironment, Clean}
 use Rattle.engine_fill_row.specs.Filling.{orderOf, portsOf, FillsRows, MayFillAll}
-use Rattle.engine_begin.specs.Queue.{flagOf, Queued}
-use Rattle.engine_begin.proofs.Queueing.{noted-clean}
-use Rattle.engine_begin.proofs.NotDue.{slot-due, environment-due}
-use Rattle.engine_begin.proofs.Found.{slot-found, outer-rests, outer-before}
+use Rattle.engine_queue.specs.Queue.{flagOf, Queued}
+use Rattle.engine_queue.proofs.Queueing.{noted-clean}
+use Rattle.engine_begin_laws.proofs.NotDue.{slot-due, environment-due}
+use Rattle.engine_begin_laws.proofs.Found.{slot-found, outer-rests, outer-before}
 
 none-at : (d : ℕ) → dueAt d ≡ never → d ≡ 0
 unfolding dueAt

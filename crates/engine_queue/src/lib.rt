@@ -3,7 +3,7 @@
 ghost use mathlib.Core.Path.{_≡_};
 ghost use lib.ListN.{length};
 ghost use Rattle.machine.specs.Words.{HasMachine};
-ghost use Rattle.engine_begin.specs.Queue.{flagOf, Queued};
+ghost use Rattle.engine_queue.specs.Queue.{flagOf, Queued};
 use machine::MAY_WAIT;
 
 // The note of a block by its soonest moment due (0: none).

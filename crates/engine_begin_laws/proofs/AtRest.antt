@@ -20,8 +20,8 @@ use Rattle.engine_blocks.proofs.Tabulated.{getD-tabulate}
 use Rattle.engine_clean.specs.Clean.{Clean}
 use Rattle.engine_finish.proofs.EndedIsRead.{zero-of}
 use Rattle.engine_due.specs.Reaching.{Unwritten, NothingWritten}
-use Rattle.engine_begin.proofs.Found.{no-row}
-use Rattle.engine_begin.proofs.NotDue.{used-no-marks}
+use Rattle.engine_begin_laws.proofs.Found.{no-row}
+use Rattle.engine_begin_laws.proofs.NotDue.{used-no-marks}
 
 -- ── variables without marks ───────────────────────────────────────────────────────────────────────
 block-unwritten : (b : Block) (c : ℕ) → NoMarks (variablesIn b c) → Unwritten (min c 16) b

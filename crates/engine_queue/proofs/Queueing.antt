@@ -19,7 +19,7 @@ use Rattle.engine_blocks.proofs.InBlocks.{other-block, same-outside}
 use Rattle.engine_blocks.proofs.Queued.{seven-rows, seven-environment, seven-triggers}
 use Rattle.engine_blocks.proofs.Staying.{outside-start, outside-then, triggers-start, triggers-then}
 use Rattle.engine_clean.specs.Clean.{Blank, CleanBlock}
-use Rattle.engine_begin.specs.Queue.{flagOf, Queued}
+use Rattle.engine_queue.specs.Queue.{flagOf, Queued}
 
 -- ── the note ──────────────────────────────────────────────────────────────────────────────────────
 pub no-flag : (d : ℕ) → d ≡ 0 → 0 ≡ flagOf d

@@ -26,11 +26,11 @@ use Rattle.engine_rows.proofs.Holds.{Holds}
 use Rattle.engine_rows.proofs.CallOnRows.{Keeps, pass-holds}
 use Rattle.engine_blocks.specs.Blocks.{rowsOf}
 use Rattle.engine_fill_row.specs.Filling.{orderOf, portsOf, Fillable, MayFillAll}
-use Rattle.engine_begin.proofs.Sitting.{holds-sits}
-use Rattle.engine_begin.proofs.AtInstructions.{used-goes-on}
-use Rattle.engine_begin.proofs.Passing.{fillable-all}
-use Rattle.engine_begin.proofs.NotDue.{own-kept}
-use Rattle.engine_begin.proofs.Found.{found-state, found-few, found-environment, found-keeps, found-used}
+use Rattle.engine_begin_laws.proofs.Sitting.{holds-sits}
+use Rattle.engine_begin_laws.proofs.AtInstructions.{used-goes-on}
+use Rattle.engine_begin_laws.proofs.Passing.{fillable-all}
+use Rattle.engine_begin_laws.proofs.NotDue.{own-kept}
+use Rattle.engine_begin_laws.proofs.Found.{found-state, found-few, found-environment, found-keeps, found-used}
 
 pub table-fits : (t : List ℕ) → isTable t ≡ true → TableFits (tableListing t)
 table-fits t h = loaded-table-fits (tableListing t) (sym (length-needs-no-test (tableListing t)) ∙ table-well-formed t h)

@@ -1,12 +1,12 @@
--- `engine_begin::queue::queue_waiting` meets its contract.
+-- `engine_queue::queue_waiting` meets its contract.
 use mathlib.Core.Path.{_≡_}
 use Prim.Native.Nat.{_≤_, _-_}
 use native.Mathlib.Omega.{arith}
-use Rattle.engine_begin.specs.Queue.{Queued}
-use Rattle.engine_begin.proofs.Queueing.{none-queued, one-more-queued}
+use Rattle.engine_queue.specs.Queue.{Queued}
+use Rattle.engine_queue.proofs.Queueing.{none-queued, one-more-queued}
 use borrow.Author.Needs.{needs}
-use Rattle.engine_begin.proofs.queue.queue_waiting.Statement.{statement}
-use Rattle.engine_begin.proofs.queue.queue_waiting.Tie as tie
+use Rattle.engine_queue.proofs.queue_waiting.Statement.{statement}
+use Rattle.engine_queue.proofs.queue_waiting.Tie as tie
 
 abbrev Inv-loop : tie.InvT-loop
 Inv-loop m₀ dues s₀ m s =

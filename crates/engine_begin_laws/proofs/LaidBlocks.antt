@@ -19,7 +19,7 @@ use Rattle.machine.proofs.Basics.{and-left, and-right}
 use Rattle.engine_blocks.specs.Tabulate.{tabulateFrom}
 use Rattle.engine_blocks.specs.Blocks.{Block, nonzero, variableIn, variablesIn}
 use Rattle.engine_blocks.proofs.Tabulated.{getD-tabulate, length-tabulate}
-use Rattle.engine_begin.proofs.Queueing.{Rests}
+use Rattle.engine_queue.proofs.Queueing.{Rests}
 use Rattle.engine_finish.proofs.VariableWords.{wordOf, words-at, words-past}
 
 -- Eight words, then the variables, then zeros.

@@ -1,0 +1,10 @@
+pub mod Sitting
+pub mod AtInstructions
+pub mod Passing
+pub mod LaidBlocks
+pub mod Found
+pub mod Filled
+pub mod Made
+pub mod NotDue
+pub mod AtRest
+pub mod QueuedWords

@@ -26,7 +26,7 @@ fn wake_if_written(m: &[u32], ready: ReadyList, s: usize, index: usize) -> Ready
     ensures { λ r. ⌜ ReachesOne (now (m .entry)) s index (slotsOf ready) (slotsOf r) ⌝ }
 {
     if engine_variables::written(m, s, index) {
-        return engine_wake::wake_all(m, ready, s, index);
+        return engine_wake_all::wake_all(m, ready, s, index);
     }
     ready
 }

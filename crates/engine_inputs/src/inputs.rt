@@ -26,7 +26,7 @@ pub fn write_inputs(m: &mut [u32], ready: ReadyList, numbers: &[u32], values: &[
         let number = numbers[k] as usize;
         let value = values[k];
         engine_variable_changes::assign(m, ENVIRONMENT, number, value);
-        woken = engine_wake::wake_all(m, woken, ENVIRONMENT, number);
+        woken = engine_wake_all::wake_all(m, woken, ENVIRONMENT, number);
         k += 1;
     }
     woken

@@ -1,2 +1,1 @@
 pub mod Waking
-pub mod Putting

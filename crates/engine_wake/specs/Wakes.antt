@@ -1,8 +1,8 @@
 -- Whom a write wakes.
 use mathlib.Core.Bool.{Bool, _&&_}
 use mathlib.Core.List.{List, [], _∷_}
-use Prim.Native.Nat.{ℕ, _-_, _/_}
-use lib.Dec.{leb, ltb}
+use Prim.Native.Nat.{ℕ}
+use lib.Dec.{leb}
 use Rattle.engine_rows.specs.Rows.{Rows}
 use Rattle.engine_rows.specs.Triggers.{consIf}
 
@@ -15,7 +15,3 @@ wakes rows from s = (rows s) .asleep && leb from ((rows s) .low)
 unfoldable pub triggeredFrom : Rows → ℕ → List ℕ → List ℕ
 triggeredFrom rows from [] = []
 triggeredFrom rows from (s ∷ ss) = consIf (wakes rows from s) s (triggeredFrom rows from ss)
-
--- Trigger `next` is one of those numbered up to `most`; its slot sleeps, and has its lowest priority below `low`.
-unfoldable pub goesFirst : Rows → ℕ → ℕ → ℕ → Bool
-goesFirst rows next most low = ltb 0 next && (leb next most && ((rows ((next - 1) / 4)) .asleep && ltb ((rows ((next - 1) / 4)) .low) low))

@@ -17,9 +17,10 @@ use Rattle.engine_push.proofs.Insertion.{insert-first}
 use Rattle.engine_ready.specs.Ordered.{Ordered, firstLow}
 use Rattle.engine_ready.specs.Slots.{falling}
 use Rattle.engine_triggers.proofs.Chaining.{chained-here, chained-none, chained-from}
 use Rattle.engine_wake.proofs.Waking.{wake-next, wake-none, is-woken, inserted}
 use Rattle.engine_triggers.specs.Chains.{nextTrigger, chained}
-use Rattle.engine_wake.specs.Wakes.{triggeredFrom, goesFirst}
+use Rattle.engine_wake.specs.Wakes.{triggeredFrom}
+use Rattle.engine_wake_all.specs.First.{goesFirst}
 
 -- ── whether a trigger's slot goes first ───────────────────────────────────────────────────────────
 pub record GoesFirst (rows : Rows) (next most low : ℕ) : Type 0 where

@@ -1,4 +1,4 @@
--- `engine_wake::wake_all` meets its contract.
+-- `engine_wake_all::wake_all` meets its contract.
 use denote.Ref.{now}
 use mathlib.Core.Path.{_≡_, refl, sym, _∙_}
 use Prim.Native.Nat.{_≤_}
@@ -12,11 +12,11 @@ use Rattle.engine_ready.proofs.Distinct.{ordered-few}
 use Rattle.engine_ready.proofs.Falling.{length-slots}
 use Rattle.engine_ready.specs.Ordered.{Ordered}
 use Rattle.engine_ready.specs.Slots.{falling, slotsOf}
-use Rattle.engine_wake.proofs.Putting.{first-goes, Putting, putting-room, putting-next, putting-few, putting-end}
-use Rattle.engine_wake.proofs.wake_all.Statement.{statement}
+use Rattle.engine_wake_all.proofs.Putting.{first-goes, Putting, putting-room, putting-next, putting-few, putting-end}
+use Rattle.engine_wake_all.proofs.wake_all.Statement.{statement}
 use Rattle.engine_triggers.specs.Chains.{firstTrigger, triggersAt}
 use Rattle.engine_wake.specs.Wakes.{triggeredFrom}
-use Rattle.engine_wake.proofs.wake_all.Tie as tie
+use Rattle.engine_wake_all.proofs.wake_all.Tie as tie
 
 abbrev Inv-loop : tie.InvT-loop
 Inv-loop m q s index next₀ most₀ low₀ new₀ count₀ next most low new count =

@@ -1,10 +1,10 @@
--- `engine_wake::goes_first` meets its contract.
+-- `engine_wake_all::goes_first` meets its contract.
 use mathlib.Core.Path.{sym, _∙_}
 use borrow.Author.Needs.{needs}
 use borrow.Author.Tests.{not-true, not-false}
-use Rattle.engine_wake.proofs.Putting.{no-trigger, too-far, not-asleep, by-priority}
-use Rattle.engine_wake.proofs.goes_first.Statement.{statement}
-use Rattle.engine_wake.proofs.goes_first.Tie as tie
+use Rattle.engine_wake_all.proofs.Putting.{no-trigger, too-far, not-asleep, by-priority}
+use Rattle.engine_wake_all.proofs.goes_first.Statement.{statement}
+use Rattle.engine_wake_all.proofs.goes_first.Tie as tie
 
 returns : tie.Need-returns
 returns c = no-trigger _ _ _ _ (c .if1 .taken)

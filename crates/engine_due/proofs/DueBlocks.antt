@@ -16,7 +16,7 @@ use Rattle.engine_blocks.specs.Changes.{dueBlock}
 use Rattle.engine_blocks.proofs.Tabulated.{tabulate-same}
 use Rattle.engine_blocks.proofs.RowChanges.{variable-same, bindings-same}
 use Rattle.engine_variables.proofs.VariableChanges.{InVariable, other-variable}
-use Rattle.engine_variable_changes.proofs.VariableBlocks.{due-within, due-variable}
+use Rattle.engine_make_due.proofs.MadeBlocks.{due-within, due-variable}
 use Rattle.engine_clean.specs.Clean.{CleanSlot, CleanEnvironment}
 use Rattle.engine_clean.proofs.Whole.{due-slot, due-environment}
 use Rattle.engine_due.specs.Passes.{dueFirst, dueSlot}

@@ -18,7 +18,7 @@ use Rattle.engine_blocks.specs.Changes.{InBlock, Changes, dueBlock, assignedBlo
 use Rattle.engine_blocks.specs.Store.{Store, storeOf, variableFrom, withVariable}
 use Rattle.engine_variables.proofs.Readings.{variable-of, length-variables}
 use Rattle.engine_blocks.proofs.RowChanges.{row-of}
-use Rattle.engine_variable_changes.proofs.VariableBlocks.{due-variable}
+use Rattle.engine_make_due.proofs.MadeBlocks.{due-variable}
 use Rattle.engine_ready.specs.Ordered.{Ordered}
 use Rattle.engine_ready.proofs.Distinct.{ordered-same-lows}
 use Rattle.engine_ready.proofs.SameLows.{low-with-owner}

@@ -48,7 +48,7 @@ fn make_due_in(
     let mut i: usize = 0;
     let mut woken = ready;
     while i < count {
-        engine_variable_changes::make_due(m, s, i, present);
+        engine_make_due::make_due(m, s, i, present);
         woken = wake_if_written(m, woken, s, i);
         i += 1;
     }

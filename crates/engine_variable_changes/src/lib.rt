@@ -2,14 +2,12 @@
 // environment. `m` is the machine's memory, `s` a slot or 64.
 ghost use Prim.Native.Nat.{ℕ, _≤_, _<_};
 ghost use Rattle.machine.specs.Words.{HasMachine};
-ghost use Rattle.walk.specs.State.{writtenTo, scheduledOn, madeDue, unmarkedOf};
+ghost use Rattle.walk.specs.State.{writtenTo, scheduledOn, unmarkedOf};
 ghost use Rattle.engine_blocks.specs.Blocks.{block, ownerAt};
 ghost use Rattle.engine_blocks.specs.Store.{withVariable};
-ghost use Rattle.engine_blocks.specs.Changes.{InBlock, Changes, madeBlock, assignedBlock, scheduledBlock, dueBlock, unmarkedBlock};
+ghost use Rattle.engine_blocks.specs.Changes.{Changes, assignedBlock, scheduledBlock, unmarkedBlock};
 use engine_blocks::put_word;
-use engine_blocks::word_at;
 use engine_variables::SIZE;
-use engine_variables::due;
 use machine::DUE_HIGH;
 use machine::DUE_LOW;
 use machine::VALUE;
@@ -47,32 +45,6 @@ pub fn schedule(m: &mut [u32], s: usize, index: usize, moment: Moment, v: u32)
         DUE_HIGH + index * VARIABLE_WORDS,
         (moment.0 / SIZE) as u32,
     );
-}
-
-// The waiting write is made, and is gone.
-pub fn make(m: &mut [u32], s: usize, index: usize)
-    requires { ⌜ HasMachine (now m) × (s ≤ 64) × (index < 16) ⌝ }
-    ensures { λ _. ⌜ InBlock s (now (m .entry)) (now (m .exit)) (madeBlock index (block (now (m .entry)) s)) ⌝ }
-{
-    let waiting = word_at(m, s, WAITING + index * VARIABLE_WORDS);
-    put_word(m, s, VALUE + index * VARIABLE_WORDS, waiting);
-    put_word(m, s, WAITING + index * VARIABLE_WORDS, 0);
-    put_word(m, s, DUE_LOW + index * VARIABLE_WORDS, 0);
-    put_word(m, s, DUE_HIGH + index * VARIABLE_WORDS, 0);
-    put_word(m, s, WRITTEN + index, 1);
-}
-
-// "Every waiting write due at t is made, and is gone", t being the present moment: that of one variable, which is unwritten otherwise.
-pub fn make_due(m: &mut [u32], s: usize, index: usize, present: Moment)
-    requires { ⌜ HasMachine (now m) × (s ≤ 64) × (index < 16) × (0 < present .0) ⌝ }
-    ensures { λ _. ⌜ Changes s (now (m .entry)) (now (m .exit)) (dueBlock index (present .0) (block (now (m .entry)) s))
-        (withVariable (ownerAt s index) (λ x. madeDue (present .0) x)) ⌝ }
-{
-    if due(m, s, index) == present.0 {
-        make(m, s, index);
-        return;
-    }
-    put_word(m, s, WRITTEN + index, 0);
 }
 
 // The mark of this instant taken away.

@@ -1,16 +1,16 @@
--- `engine_variable_changes::make_due` meets its contract.
+-- `engine_make_due::make_due` meets its contract.
 use denote.Ref.{now}
 use mathlib.Core.Path.{_≡_, sym, _∙_}
 use Prim.Native.Nat.{_+_, _*_}
 use borrow.Author.Needs.{needs}
 use Rattle.engine_variables.proofs.Readings.{moment-of}
-use Rattle.engine_variable_changes.proofs.VariableBlocks.{due-changes, due-block-made, due-block-later}
-use Rattle.engine_variable_changes.proofs.make_due.Statement.{statement}
+use Rattle.engine_make_due.proofs.MadeBlocks.{due-changes, due-block-made, due-block-later}
+use Rattle.engine_make_due.proofs.make_due.Statement.{statement}
 use Rattle.engine_blocks.specs.Blocks.{block, variableIn}
 use Rattle.engine_blocks.specs.Changes.{unmarkedBlock}
-use Rattle.engine_variable_changes.proofs.make_due.Tie as tie
+use Rattle.engine_make_due.proofs.make_due.Tie as tie
 
--- `engine_variable_changes::make_due` meets its contract.
+-- `engine_make_due::make_due` meets its contract.
 
 due-requires : tie.Need-due-requires
 due-requires c κs = search needs

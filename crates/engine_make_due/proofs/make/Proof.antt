@@ -1,14 +1,14 @@
--- `engine_variable_changes::make` meets its contract.
+-- `engine_make_due::make` meets its contract.
 use denote.Ref.{now}
 use Prim.Native.Nat.{_+_, _*_}
 use borrow.Author.Needs.{needs}
 use Rattle.engine_blocks.proofs.InBlocks.{in-block-put-then}
-use Rattle.engine_variable_changes.proofs.make.Statement.{statement}
+use Rattle.engine_make_due.proofs.make.Statement.{statement}
 use Rattle.engine_blocks.specs.Blocks.{block}
 use Rattle.engine_blocks.specs.Changes.{madeBlock}
-use Rattle.engine_variable_changes.proofs.make.Tie as tie
+use Rattle.engine_make_due.proofs.make.Tie as tie
 
--- `engine_variable_changes::make` meets its contract.
+-- `engine_make_due::make` meets its contract.
 
 mul-word-at : tie.Need-mul-word-at
 mul-word-at c = search needs

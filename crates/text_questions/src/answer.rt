@@ -3,8 +3,8 @@ ghost use mathlib.Core.Path.{_≡_};
 ghost use Rattle.listing.specs.Load.{loading};
 ghost use Rattle.text_questions.specs.Outcome.{outcomeOf};
 use crate::opening::form_question;
+use text_endings::ending_place;
 use text_limits::limit_place;
-use text_survey::ending_place;
 use text_survey::there_place;
 
 // What loading gives: the table, or a refusal with the number of the question and the place.

@@ -22,7 +22,7 @@ use Rattle.text_survey.specs.Surveys.{arity, SurveyFits, surveyOf, surve
 use Rattle.text_limits.specs.declared.counts.Counts.{Counts}
 use Rattle.text_survey.specs.declared.routines.Survey.{Survey}
 use Rattle.text_limits.proofs.LimitPass.{Limiting, limiting-begun, limits-hold, none-held, also}
-use Rattle.text_survey.proofs.Body.{Body, body-empty, body-opens, body-of}
+use Rattle.text_endings.proofs.Body.{Body, body-empty, body-opens, body-of}
 
 -- ── the argument counts on lines ─────────────────────────────────────────────────
 unfoldable pub arities : List L.Line → List ℕ

@@ -22,12 +22,13 @@ use Rattle.text_jumps.specs.Records.{asRecord, standIns}
 use Rattle.text_jumps.specs.declared.scope.Scope.{Scope}
 use Rattle.text_records.proofs.Lines.{NextLine, next-line, records-whole, records-end}
 use Rattle.text_records.specs.Onward.{recordsFrom}
-use Rattle.text_survey.specs.Surveys.{arity, surveyOf, statedIf, answersHere, movedHere}
+use Rattle.text_main.specs.Stated.{statedIf}
+use Rattle.text_survey.specs.Surveys.{arity, surveyOf, answersHere, movedHere}
 use Rattle.text_limits.specs.declared.counts.Counts.{Counts}
-use Rattle.text_survey.specs.declared.there.Here.{Here}
+use Rattle.text_main.specs.declared.main_routine.Here.{Here}
 use Rattle.text_survey.specs.declared.routines.Survey.{Survey}
 use Rattle.text_limits.proofs.LimitPass.{Limiting, limiting-begun, limits-hold, none-held, also}
-use Rattle.text_survey.proofs.Body.{NoPorts, none-left, opens-more, instruction-more, Body, body-empty, body-opens, body-of}
+use Rattle.text_endings.proofs.Body.{NoPorts, none-left, opens-more, instruction-more, Body, body-empty, body-opens, body-of}
 
 clash : {A : Type 0} → _≡_ {A = Bool} false true → A
 clash e = absurd (let z : _≡_ {A = ℕ} 0 1 = cc in omega arith)

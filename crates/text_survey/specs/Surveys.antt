@@ -1,15 +1,16 @@
 -- The routines of a listing as a pass over its lines finds them, and where the pass of question 4 is.
 use mathlib.Core.Path.{_≡_}
-use mathlib.Core.Bool.{Bool, true, false, _&&_}
+use mathlib.Core.Bool.{Bool, true, false}
 use mathlib.Core.List.{map, _++_}
 use Prim.Native.Nat.{ℕ, _+_, _-_, _≤_, min}
-use lib.Dec.{eqb, ltb}
+use lib.Dec.{ltb}
 use lib.ListN.{length, replicate, set}
 use Rattle.listing.specs.Listing as L
 use Rattle.text_jumps.specs.declared.record.Record.{Record}
 use Rattle.text_jumps.specs.declared.record.Record.the-variants as CV
+use Rattle.text_main.specs.Stated.{isStated}
+use Rattle.text_main.specs.declared.main_routine.Here.{Here}
 use Rattle.text_survey.specs.declared.routines.Survey.{Survey}
-use Rattle.text_survey.specs.declared.there.Here.{Here}
 
 -- the arguments that a routine takes
 abbrev pub arity : L.Routine → ℕ
@@ -40,13 +41,6 @@ isInstruction (CV.Opens arguments locals byReference) = false
 isInstruction (CV.Instruction pieces there last) = true
 
 -- ── the pass of question 4 ───────────────────────────────────────────────────────
-abbrev pub statedIf : Bool → ℕ → ℕ → Bool → Bool
-statedIf true arguments ports byReference = eqb arguments ports && byReference
-statedIf false arguments ports byReference = true
-
-abbrev pub isStated : Here → ℕ → Bool → Bool
-isStated here arguments byReference = statedIf (here .unopened) arguments (here .inputs + here .outputs) byReference
-
 abbrev pub answersHere : Here → Record → Bool
 answersHere here (CV.Ports i o) = true
 answersHere here (CV.Opens arguments locals byReference) = isStated here arguments byReference

@@ -6,40 +6,17 @@ ghost use lib.ListN.{length, drop};
 ghost use Rattle.listing.specs.Listing.{codeOf};
 ghost use Rattle.listing.specs.Questions.{place2, place3, place4};
 ghost use Rattle.text_records.specs.Onward.{Formed, recordsFrom};
-ghost use Rattle.text_survey.specs.Surveys.{isStated, answersHere, movedHere};
+ghost use Rattle.text_survey.specs.Surveys.{answersHere, movedHere};
 use crate::routines::code_length;
 use crate::routines::few;
 use crate::routines::survey_routines;
 use text_jumps::Record;
 use text_jumps::Scope;
+use text_main::Here;
+use text_main::is_stated;
 use text_place::Place;
 use text_records::Line;
 use text_records::read_line;
-
-// Where the pass is: the inputs and outputs, whether main is still to come, and the names and instructions of the routine.
-pub struct Here {
-    pub inputs: u64,
-    pub outputs: u64,
-    pub unopened: bool,
-    pub names: u8,
-    pub size: u16,
-}
-
-// Whether an `R` is main's as stated: "Main has i + o arguments, all `r`".
-fn is_stated(here: Here, arguments: u64, stated: bool) -> bool
-    ensures { λ a. ⌜ a ≡ isStated here arguments stated ⌝ }
-{
-    if !here.unopened {
-        return true;
-    }
-    if arguments < here.inputs {
-        return false;
-    }
-    if arguments - here.inputs == here.outputs {
-        return stated;
-    }
-    false
-}
 
 fn answers(here: Here, r: Record) -> bool
     ensures { λ a. ⌜ a ≡ answersHere here r ⌝ }

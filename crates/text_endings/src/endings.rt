@@ -1,7 +1,7 @@
 // Question 5. Document 01: "Has every routine a line (place: its `R`), the last being `E` or `G`?"
 ghost use mathlib.Core.Path.{_≡_};
 ghost use Rattle.listing.specs.Questions.{place2, place5};
-ghost use Rattle.text_survey.specs.Endings.{endsBadly, mayEndWith};
+ghost use Rattle.text_endings.specs.Endings.{endsBadly, mayEndWith};
 use text_jumps::Record;
 use text_jumps::Scope;
 use text_place::Place;

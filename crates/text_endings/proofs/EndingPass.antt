@@ -15,8 +15,8 @@ use Rattle.text_jumps.specs.Records.{asRecord}
 use Rattle.text_jumps.specs.declared.scope.Scope.{Scope}
 use Rattle.text_records.proofs.Lines.{formed-whole, NextLine, records-whole, records-end}
 use Rattle.text_records.specs.Onward.{Formed, recordsFrom}
-use Rattle.text_survey.specs.Endings.{endsBadly, mayEndWith}
-use Rattle.text_survey.proofs.Body.{NoPorts, none-left, opens-more, instruction-more, Body, body-empty, body-opens, body-of}
+use Rattle.text_endings.specs.Endings.{endsBadly, mayEndWith}
+use Rattle.text_endings.proofs.Body.{NoPorts, none-left, opens-more, instruction-more, Body, body-empty, body-opens, body-of}
 
 -- ── question 5, line by line: a line is judged with the one after it ─────────────
 unfoldable pub endsFrom : Bool → List L.Line → List Bool

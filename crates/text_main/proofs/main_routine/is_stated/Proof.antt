@@ -1,9 +1,9 @@
--- `text_survey::is_stated` meets its contract.
+-- `text_main::is_stated` meets its contract.
 use Prim.Native.Nat.{_-_}
 use borrow.Author.Tests.{not-true, not-false}
-use Rattle.text_survey.proofs.StatedLaws as laws
-use Rattle.text_survey.proofs.there.is_stated.Statement.{statement}
-use Rattle.text_survey.proofs.there.is_stated.Tie as tie
+use Rattle.text_main.proofs.StatedLaws as laws
+use Rattle.text_main.proofs.main_routine.is_stated.Statement.{statement}
+use Rattle.text_main.proofs.main_routine.is_stated.Tie as tie
 
 returns : tie.Need-returns
 returns c =

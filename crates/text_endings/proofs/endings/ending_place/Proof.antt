@@ -1,4 +1,4 @@
--- `text_survey::ending_place` meets its contract.
+-- `text_endings::ending_place` meets its contract.
 use denote.Ref.{now}
 use mathlib.Core.Path.{sym, ap, _∙_}
 use Prim.Native.Nat.{_-_}
@@ -6,11 +6,11 @@ use native.Mathlib.Omega.{arith}
 use lib.ListN.{length}
 use Rattle.text_records.proofs.Lines as lines
 use Rattle.text_limits.proofs.Steps as steps
-use Rattle.text_survey.specs.Endings.{endsBadly, mayEndWith}
-use Rattle.text_survey.proofs.EndingPass as pass
+use Rattle.text_endings.specs.Endings.{endsBadly, mayEndWith}
+use Rattle.text_endings.proofs.EndingPass as pass
 use borrow.Author.Needs.{needs}
-use Rattle.text_survey.proofs.endings.ending_place.Statement.{statement}
-use Rattle.text_survey.proofs.endings.ending_place.Tie as tie
+use Rattle.text_endings.proofs.endings.ending_place.Statement.{statement}
+use Rattle.text_endings.proofs.endings.ending_place.Tie as tie
 
 abbrev Inv-loop : tie.InvT-loop
 Inv-loop s nothing none may-end₀ at₀ line₀ may-end at line =

@@ -4,8 +4,8 @@ use mathlib.Core.Bool.{Bool, true, false}
 use Prim.Native.Nat.{ℕ, _+_, _-_, _≤_, _<_}
 use native.Mathlib.Omega.{arith}
 use borrow.Author.Tests.{eq-eqb, ne-eqb}
-use Rattle.text_survey.specs.Surveys.{isStated}
-use Rattle.text_survey.specs.declared.there.Here.{Here}
+use Rattle.text_main.specs.Stated.{isStated}
+use Rattle.text_main.specs.declared.main_routine.Here.{Here}
 
 module _ (here : Here) (arguments : ℕ) (byReference : Bool) (main : here .unopened ≡ true) where
   pub too-few : arguments < here .inputs → false ≡ isStated here arguments byReference

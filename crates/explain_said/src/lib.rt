@@ -1,0 +1,6 @@
+// A reason in words, put into lent bytes: the field and the piece that it is about, and its sentence.
+pub mod reason;
+pub mod spot;
+
+pub use reason::put_reason;
+pub use spot::put_fault;

@@ -14,9 +14,7 @@ use Rattle.session_print.specs.Puts.{Puts}
 use Rattle.session_print.proofs.LineBytes.{same-bytes, then-bytes, one-byte}
 use Rattle.explain.specs.Sentences.{sentences, sentenceOf}
 use Rattle.explain.specs.Said.{ruleLine, rules, verdictLine, VerdictSaid}
-use Rattle.explain.specs.Lines.{IsLine}
 use Rattle.explain.specs.Verdicts.{VerdictOn}
-use Rattle.explain.specs.declared.line.Line.{Line}
 use Rattle.explain.specs.declared.verdict.Verdict.{Verdict}
 
 -- ── the sentences of a number ────────────────────────────────────────────────────
@@ -41,16 +39,10 @@ none-said before at number a b c d e = (same-bytes (none-of number a b c d e) (r
 pub counted : (n : ℕ) (bytes : Bytes) → n ≤ length bytes → n ≡ length (take n bytes)
 counted n bytes h = sym (length-take-le n bytes h)
 
--- ── a line, a verdict ────────────────────────────────────────────────────────────
-pub line-size : (text : Bytes) (lines : ℕ) (l : Line) → IsLine text lines l → length (take (l .to - l .from) (drop (l .from) text)) ≤ length text
-line-size text lines l is =
-    let left = length-drop (l .from) text in
-    let size = length-take-le (l .to - l .from) (drop (l .from) text) (omega (arith, left, is .rising, is .inside)) in
-    omega (arith, size, is .rising, is .inside)
-
-pub verdict-said : {listing text before after : Bytes} {v w : Verdict} {r : ℕ} → VerdictOn listing v → v ≡ w → text ≡ verdictLine listing w →
-    Puts before 0 text after r → r ≤ 50000 → VerdictSaid listing before after r
-verdict-said {listing} {v = v} on e t p few = record { verdict = v; is = on; puts = same-bytes (t ∙ ap (verdictLine listing) (sym e)) p; few = few }
+-- ── a verdict ────────────────────────────────────────────────────────────
+pub verdict-said : {path listing text before after : Bytes} {v w : Verdict} {r : ℕ} → VerdictOn listing v → v ≡ w → text ≡ verdictLine path listing w →
+    Puts before 0 text after r → r ≤ 50000 → VerdictSaid path listing before after r
+verdict-said {path} {listing} {v = v} on e t p few = record { verdict = v; is = on; puts = same-bytes (t ∙ ap (verdictLine path listing) (sym e)) p; few = few }
 
 -- ── the rules, one after another ─────────────────────────────────────────────────
 -- so many of them are put from a place on

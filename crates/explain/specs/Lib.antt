@@ -1,4 +1,3 @@
-pub mod Lines
 pub mod Sentences
 pub mod Verdicts
 pub mod Said

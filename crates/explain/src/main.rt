@@ -1,6 +1,5 @@
-// Says of each listing whether it loads, and if not, which question it fails, at which line, and what the rule is: `explain LISTING..`.
+// Says of each listing whether it loads, and if not, at which line, why, and by which rule: `explain LISTING..`. No byte of a file is printed raw.
 // Without an argument: all rules.
-pub mod line;
 pub mod said;
 pub mod sentences;
 pub mod verdict;

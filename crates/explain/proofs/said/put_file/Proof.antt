@@ -7,13 +7,13 @@ use Rattle.explain.proofs.said.put_file.Statement.{statement}
 use Rattle.explain.proofs.said.put_file.Tie as tie
 
 text-requires : tie.Need-text-requires
-text-requires c κs = tt
+text-requires c κs = search needs
 
 slice-aggregate-read-listing : tie.Need-slice-aggregate-read-listing
 slice-aggregate-read-listing c = search needs
 
 read-listing-requires : tie.Need-read-listing-requires
-read-listing-requires c κs = tt
+read-listing-requires c κs = search needs
 
 returns : tie.Need-returns
 returns c = (unread refl, omega arith)
@@ -25,10 +25,7 @@ slice-aggregate-put-verdict : tie.Need-slice-aggregate-put-verdict
 slice-aggregate-put-verdict c = search needs
 
 put-verdict-requires : tie.Need-put-verdict-requires
-put-verdict-requires c κs =
-    let past = c .before .before .before .before .before in
-    let got = past .read-listing .ensures in
-    omega (arith, got .0 .0, got .0 .1, got .1, past .before .before .text .ensures)
+put-verdict-requires c κs = let got = c .before .before .before .before .before .read-listing .ensures in omega (arith, got .0 .0, got .0 .1, got .1, c .before .before .before .before .before .before .before .text .ensures)
 
 same-length : tie.Need-same-length
 same-length c = search needs

@@ -1,6 +1,5 @@
 -- `explain::said::put_verdict` meets its contract.
 use mathlib.Core.Path.{refl}
-use native.Mathlib.Omega.{arith}
 use Rattle.listing.specs.Bytes.{bytesOf}
 use Rattle.explain.specs.Said.{verdictLine}
 use Rattle.explain.proofs.Sayings.{verdict-said}
@@ -9,25 +8,25 @@ use Rattle.explain.proofs.said.put_verdict.Statement.{statement}
 use Rattle.explain.proofs.said.put_verdict.Tie as tie
 
 judge-requires : tie.Need-judge-requires
-judge-requires c κs = tt
+judge-requires c κs = search needs
 
 enum-told : tie.Need-enum-told
 enum-told c = search needs
 
-slice-aggregate-put-text : tie.Need-slice-aggregate-put-text
-slice-aggregate-put-text c = search needs
+slice-aggregate-put-named : tie.Need-slice-aggregate-put-named
+slice-aggregate-put-named c = search needs
 
-put-text-requires : tie.Need-put-text-requires
-put-text-requires c κs = search needs
+put-named-requires : tie.Need-put-named-requires
+put-named-requires c κs = search needs
 
 enum-told-2 : tie.Need-enum-told-2
 enum-told-2 c = search needs
 
-slice-aggregate-put-text-2 : tie.Need-slice-aggregate-put-text-2
-slice-aggregate-put-text-2 c = search needs
+slice-aggregate-put-named-2 : tie.Need-slice-aggregate-put-named-2
+slice-aggregate-put-named-2 c = search needs
 
-put-text-requires-2 : tie.Need-put-text-requires-2
-put-text-requires-2 c κs = search needs
+put-named-requires-2 : tie.Need-put-named-requires-2
+put-named-requires-2 c κs = search needs
 
 enum-known-answer : tie.Need-enum-known-answer
 enum-known-answer c = search needs
@@ -40,27 +39,21 @@ same-length c = search needs
 
 returns : tie.Need-returns
 unfolding verdictLine bytesOf
-returns c =
-    let text = c .before .before .put-text .ensures in
-    verdict-said (c .before .before .before .before .before .before .before .judge .ensures) (c .before .before .before .before .before .enum-told .given .1) refl (text .0) (omega (arith, text .1))
+returns c = let text = c .before .before .put-named .ensures in verdict-said (c .before .before .before .before .before .before .before .judge .ensures) (c .before .before .before .before .before .enum-told .given .1) refl (text .0) (text .1)
 
 same-length-2 : tie.Need-same-length-2
 same-length-2 c = search needs
 
 returns-2 : tie.Need-returns-2
 unfolding verdictLine bytesOf
-returns-2 c =
-    let text = c .before .before .put-text2 .ensures in
-    verdict-said (c .before .before .before .before .before .before .before .judge .ensures) (c .before .before .before .before .before .enum-told2 .given .1) refl (text .0) (omega (arith, text .1))
+returns-2 c = let text = c .before .before .put-named2 .ensures in verdict-said (c .before .before .before .before .before .before .before .judge .ensures) (c .before .before .before .before .before .enum-told2 .given .1) refl (text .0) (text .1)
 
 same-length-3 : tie.Need-same-length-3
 same-length-3 c = search needs
 
 returns-3 : tie.Need-returns-3
 unfolding verdictLine
-returns-3 c =
-    let text = c .before .before .put-refusal .ensures in
-    verdict-said (c .before .before .before .before .before .before .before .judge .ensures) (c .before .before .before .before .before .answer .given .1) refl (text .0) (omega (arith, text .1))
+returns-3 c = let text = c .before .before .put-refusal .ensures in verdict-said (c .before .before .before .before .before .before .before .judge .ensures) (c .before .before .before .before .before .answer .given .1) refl (text .0) (text .1)
 
 pub put-verdict-spec : {M : Type 1} → statement M
 put-verdict-spec =
@@ -68,11 +61,11 @@ put-verdict-spec =
     (tie.spec
     judge-requires
     enum-told
-    slice-aggregate-put-text
-    put-text-requires
+    slice-aggregate-put-named
+    put-named-requires
     enum-told-2
-    slice-aggregate-put-text-2
-    put-text-requires-2
+    slice-aggregate-put-named-2
+    put-named-requires-2
     enum-known-answer
     put-refusal-requires
     same-length

@@ -18,7 +18,8 @@ use Rattle.call_conclude.specs.declared.answers.Due.{Due}
 use Rattle.call_conclude.specs.declared.answers.Due.the-variants.{Never, At}
 use Rattle.call_conclude.specs.declared.answers.Answer.{Answer}
 use Rattle.call_conclude.specs.declared.answers.Answer.the-variants.{Refused, Stopped, Done}
-use Rattle.call_figures.specs.Figures.{dueIn, resultIn, DueTold, goneThrough, ofAnswer, bit, ofLoaded, ofComparison}
+use Rattle.call_figures.specs.Figures.{dueIn, resultIn, DueTold, bit}
+use Rattle.call_figures.specs.Answers.{goneThrough, ofAnswer, ofLoaded, ofComparison}
 
 -- ── start and instant ─────────────────────────────────────────────────────────────────────────────
 done-says : (steps listed : ℕ) (due : Due) →

@@ -3,7 +3,7 @@
 pub mod loading;
 
 ghost use mathlib.Core.Path.{_≡_};
-ghost use Rattle.call_figures.specs.Figures.{turnedAway, goneThrough, ofAnswer, ofComparison};
+ghost use Rattle.call_figures.specs.Answers.{turnedAway, goneThrough, ofAnswer, ofComparison};
 use call_alike::Comparison;
 use call_conclude::Answer;
 use call_conclude::Due;

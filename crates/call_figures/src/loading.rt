@@ -1,6 +1,6 @@
 // The figures of loading.
 ghost use mathlib.Core.Path.{_≡_};
-ghost use Rattle.call_figures.specs.Figures.{ofLoaded};
+ghost use Rattle.call_figures.specs.Answers.{ofLoaded};
 use text_questions::Loaded;
 
 // Document 01's number and place: 0 and 0, or the question that refuses and the line.

@@ -15,7 +15,8 @@ use Rattle.call_conclude.specs.Answers.{resultOf}
 use Rattle.call_conclude.specs.declared.answers.Answer.{Answer}
 use Rattle.call_alike.specs.Compared.{comparedOf}
 use Rattle.call_alike.specs.declared.Comparison.{Comparison}
-use Rattle.call_figures.specs.Figures.{resultIn, DueTold, ofAnswer, ofLoaded, ofComparison, bit}
+use Rattle.call_figures.specs.Figures.{resultIn, DueTold, bit}
+use Rattle.call_figures.specs.Answers.{ofAnswer, ofLoaded, ofComparison}
 use Rattle.call_figures.specs.declared.loading.FabrwentLoad.{FabrwentLoad}
 use Rattle.call_figures.specs.declared.FabrwentCall.{FabrwentCall}
 use Rattle.call_figures.specs.declared.FabrwentAlike.{FabrwentAlike}

@@ -3,7 +3,7 @@ use mathlib.Core.Path.{sym, ap, _∙_}
 use Prim.Native.Nat.{ℕ}
 use borrow.Author.Needs.{needs}
 use Rattle.call_figures.specs.declared.FabrwentAlike.{FabrwentAlike}
-use Rattle.call_figures.specs.Figures.{ofComparison}
+use Rattle.call_figures.specs.Answers.{ofComparison}
 use Rattle.call_figures.proofs.Says.{bit-of}
 use Rattle.call_figures.proofs.alike_figures.Statement.{statement}
 use Rattle.call_figures.proofs.alike_figures.Tie as tie

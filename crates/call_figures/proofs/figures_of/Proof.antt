@@ -1,6 +1,6 @@
 -- `call_figures::figures_of` meets its contract.
 use mathlib.Core.Path.{sym, ap, _∙_}
-use Rattle.call_figures.specs.Figures.{ofAnswer}
+use Rattle.call_figures.specs.Answers.{ofAnswer}
 use borrow.Author.Needs.{needs}
 use Rattle.call_figures.proofs.figures_of.Statement.{statement}
 use Rattle.call_figures.proofs.figures_of.Tie as tie

@@ -1,6 +1,6 @@
 -- `call_figures::gone_through` meets its contract.
 use mathlib.Core.Path.{sym, ap}
-use Rattle.call_figures.specs.Figures.{goneThrough}
+use Rattle.call_figures.specs.Answers.{goneThrough}
 use borrow.Author.Needs.{needs}
 use Rattle.call_figures.proofs.gone_through.Statement.{statement}
 use Rattle.call_figures.proofs.gone_through.Tie as tie

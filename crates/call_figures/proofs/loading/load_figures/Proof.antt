@@ -1,7 +1,7 @@
 -- `call_figures::load_figures` meets its contract.
 use mathlib.Core.Path.{sym, ap}
 use borrow.Author.Needs.{needs}
-use Rattle.call_figures.specs.Figures.{ofLoaded}
+use Rattle.call_figures.specs.Answers.{ofLoaded}
 use Rattle.call_figures.proofs.loading.load_figures.Statement.{statement}
 use Rattle.call_figures.proofs.loading.load_figures.Tie as tie
 

@@ -7,6 +7,8 @@ use Rattle.session_print.specs.Puts.{Puts}
 use Rattle.explain_parts.specs.Parts.{partOf}
 use Rattle.explain_parts.specs.Shown.{shown}
 use Rattle.explain_reasons.specs.Faults.{faultAt}
+use Rattle.explain_there.specs.There.{allowedAt}
+use Rattle.explain_said.specs.Reasons.{allowedText}
 use Rattle.explain_said.specs.Spots.{faultText}
 use Rattle.explain.specs.Sentences.{sentenceOf}
 use Rattle.explain.specs.Verdicts.{VerdictOn}
@@ -25,9 +27,12 @@ questionLine number = bytesOf "\nQuestion " ++ (figure number ++ (bytesOf ": " +
 unfoldable pub headline : Bytes → ℕ → Bytes
 headline path place = shown 4096 path ++ (bytesOf ":" ++ (figure place ++ bytesOf ": "))
 
--- the reason at a line, the line as it is shown, and the rule
+-- the reason at a line with what would be allowed, the line as it is shown, and the rule
 unfoldable pub reasoned : Bytes → ℕ → ℕ → Bytes → Bytes
-reasoned listing number place line = faultText line (faultAt listing number place line) ++ (bytesOf "\n    " ++ (shown 120 line ++ questionLine number))
+reasoned listing number place line =
+    let fault = faultAt listing number place line in
+    faultText line fault
+    ++ (allowedText (fault .why) (allowedAt listing place (fault .why)) ++ (bytesOf "\n    " ++ (shown 120 line ++ questionLine number)))
 
 -- a question that fails: where (the first line has no lines before it), why, and its rule
 unfoldable pub refusal : Bytes → Bytes → ℕ → ℕ → Bytes

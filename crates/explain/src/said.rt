@@ -13,7 +13,9 @@ use explain_parts::part_after;
 use explain_parts::put_shown;
 use explain_reasons::reason::lines_before;
 use explain_reasons::reason_at;
+use explain_said::put_allowed;
 use explain_said::put_fault;
+use explain_there::allowed_at;
 use session_print::figure::put_byte;
 use session_print::figure::put_figure;
 use test_cases::report::put_text;
@@ -84,10 +86,12 @@ fn put_reasoned(
     ensures { λ r. ⌜ Puts (now (out .entry)) at (reasoned (now (listing .entry)) number place (now (line .entry))) (now (out .exit)) r × (r ≤ at + 6000) ⌝ }
 {
     let fault = reason_at(listing, number, place, line);
+    let why = fault.why;
     let a = put_fault(out, at, line, fault);
-    let b = put_text(out, a, b"\n    ");
-    let c = put_shown(out, b, line, LINE_SHOWN);
-    put_question(out, c, number)
+    let b = put_allowed(out, a, why, allowed_at(listing, place, why));
+    let c = put_text(out, b, b"\n    ");
+    let d = put_shown(out, c, line, LINE_SHOWN);
+    put_question(out, d, number)
 }
 
 // A question that fails: where, why, and its rule; how many bytes.

@@ -105,3 +105,23 @@ noInstruction = 26
 
 abbrev pub noEnd : ℕ
 noEnd = 27
+
+-- ── question 4: "Does every name, routine, jump and argument count point to something there? Is main as stated ..?" ──
+abbrev pub noName : ℕ
+noName = 28
+
+abbrev pub noJump : ℕ
+noJump = 29
+
+abbrev pub noRoutine : ℕ
+noRoutine = 30
+
+abbrev pub argumentCount : ℕ
+argumentCount = 31
+
+-- "routine 0 is main"; "Main has i + o arguments, all `r`"
+abbrev pub noMain : ℕ
+noMain = 32
+
+abbrev pub mainAsStated : ℕ
+mainAsStated = 33

@@ -54,3 +54,15 @@ pub const MANY_PIECES: u32 = 25;
 pub const NO_INSTRUCTION: u32 = 26;
 
 pub const NO_END: u32 = 27;
+
+pub const NO_NAME: u32 = 28;
+
+pub const NO_JUMP: u32 = 29;
+
+pub const NO_ROUTINE: u32 = 30;
+
+pub const ARGUMENT_COUNT: u32 = 31;
+
+pub const NO_MAIN: u32 = 32;
+
+pub const MAIN_AS_STATED: u32 = 33;

@@ -9,6 +9,7 @@ use Rattle.listing.specs.Bytes.{Bytes, lineFeed, split}
 use Rattle.explain_fields.specs.Reasons.{fine, noLineFeed, emptyListing, noInstruction, noEnd}
 use Rattle.explain_lines.specs.Lines.{lineFault}
 use Rattle.explain_lines.specs.declared.line.Fault.{Fault}
+use Rattle.explain_there.specs.There.{thereFault}
 use Rattle.explain_reasons.specs.Tallies.{limitWhy}
 
 -- a reason that is about a whole line
@@ -33,4 +34,5 @@ unfoldable pub faultAt : Bytes → ℕ → ℕ → Bytes → Fault
 faultAt text number place line =
     cond (eqb number 2) (formFault text place line)
     (cond (eqb number 3) (about (limitWhy text place))
-    (cond (eqb number 5) (about (endingWhy line)) (about fine)))
+    (cond (eqb number 4) (thereFault text place line)
+    (cond (eqb number 5) (about (endingWhy line)) (about fine))))

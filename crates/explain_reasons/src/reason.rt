@@ -13,7 +13,7 @@ use explain_lines::Fault;
 use explain_lines::letter::first_byte;
 use explain_lines::line_fault;
 use explain_parts::count_parts;
-use explain_parts::part_after;
+use explain_there::there_fault;
 
 // The first line, from 1, has no lines before it. Place 0 is no line; it is shown as the first.
 pub fn lines_before(place: usize) -> usize
@@ -72,6 +72,7 @@ pub fn reason_at(listing: &[u8], number: u32, place: usize, line: &[u8]) -> Faul
     match number {
         2 => form_fault(listing, place, line),
         3 => about(limit_why(listing, place)),
+        4 => there_fault(listing, place, line),
         5 => about(ending_why(line)),
         _ => about(FINE),
     }

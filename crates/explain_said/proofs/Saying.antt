@@ -2,14 +2,15 @@
 use mathlib.Core.Path.{_≡_, refl, sym, ap, _∙_}
 use mathlib.Core.Bool.{true}
 use mathlib.Core.List.{List, [], _∷_, _++_}
-use Prim.Native.Nat.{ℕ, zero, suc, _+_, _-_, _≤_}
+use Prim.Native.Nat.{ℕ, zero, suc, _+_, _-_, _≤_, _<_}
 use native.Mathlib.Omega.{arith}
 use lib.ListN.{length, getD}
+use borrow.Author.Tests.{le-leb, lt-leb}
 use Rattle.listing.specs.Bytes.{Bytes, bytesOf, split, extend, join, figure}
 use Rattle.session_print.specs.Puts.{Puts}
 use Rattle.session_print.proofs.LineBytes.{same-bytes, then-bytes}
 use Rattle.explain_parts.specs.Parts.{partOf}
-use Rattle.explain_said.specs.Reasons.{reasonTexts, reasonText, joined}
+use Rattle.explain_said.specs.Reasons.{reasonTexts, reasonText, joined, allowedText}
 use Rattle.explain_said.specs.Spots.{pieceText, fieldText, spotText}
 
 -- nothing is put
@@ -38,3 +39,16 @@ pub some-field : (line : Bytes) (field piece : ℕ) → (field ≡ 0 → ⊥) �
 unfolding spotText
 some-field line zero piece n = absurd (n refl)
 some-field line (suc field) piece n = refl
+
+-- ── what would be allowed ────────────────────────────────────────────────────────
+pub low-reason : (why allowed : ℕ) → why < 28 → [] ≡ allowedText why allowed
+unfolding allowedText
+low-reason why allowed h = rw (lt-leb 28 why h)
+
+pub high-reason : (why allowed : ℕ) → 28 ≤ why → 30 < why → [] ≡ allowedText why allowed
+unfolding allowedText
+high-reason why allowed l h = rw (le-leb 28 why l, lt-leb why 30 h)
+
+pub counted-reason : (why allowed : ℕ) → 28 ≤ why → why ≤ 30 → figure allowed ≡ allowedText why allowed
+unfolding allowedText
+counted-reason why allowed l h = rw (le-leb 28 why l, le-leb why 30 h)

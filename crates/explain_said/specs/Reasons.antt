@@ -1,9 +1,12 @@
 -- The sentences of the reasons, by their number (explain_fields specs Reasons names the numbers and the words of document 01 that each renders).
+use mathlib.Core.Bool.{cond, _&&_}
 use mathlib.Core.List.{List, [], _∷_, map}
 use Prim.Native.Nat.{ℕ}
 use Prim.Native.String.{String}
+use lib.Dec.{leb}
 use lib.ListN.{getD}
-use Rattle.listing.specs.Bytes.{Bytes, bytesOf, lineFeed, join}
+use Rattle.listing.specs.Bytes.{Bytes, bytesOf, lineFeed, join, figure}
+use Rattle.explain_fields.specs.Reasons.{noName, noRoutine}
 
 -- from 0, the number of a rule that has no reasons of its own
 abbrev pub sentences : List String
@@ -36,6 +39,12 @@ sentences =
     ∷ "the pieces are too many: at most 4,096 after the letters of instruction lines"
     ∷ "this routine has no instruction: it ends in E or G"
     ∷ "this is the last instruction of its routine: it is E or G"
+    ∷ "no such name: they are numbered from 0, arguments first; this routine has "
+    ∷ "no such instruction: they are numbered from 0 in their routine; this one has "
+    ∷ "no such routine: they are numbered from 0; this listing has "
+    ∷ "a child has too many or too few arguments: one for each kind of the routine that it calls"
+    ∷ "main is missing: its R is line 2"
+    ∷ "main has one argument r for each input and output, and no other"
     ∷ []
 
 unfoldable pub reasonTexts : List Bytes
@@ -48,3 +57,7 @@ reasonText why = getD reasonTexts why []
 -- all of them, one to a line
 unfoldable pub joined : Bytes
 joined = join lineFeed reasonTexts
+
+-- behind these, how many there are: a name, an instruction, a routine
+unfoldable pub allowedText : ℕ → ℕ → Bytes
+allowedText why allowed = cond (leb noName why && leb why noRoutine) (figure allowed) []

@@ -2,5 +2,6 @@
 pub mod reason;
 pub mod spot;
 
+pub use reason::put_allowed;
 pub use reason::put_reason;
 pub use spot::put_fault;

@@ -1,10 +1,14 @@
 // The sentences of the reasons. They are those of specs/Reasons, as the contract says.
+ghost use mathlib.Core.Path.{_≡_};
 ghost use Prim.Native.Nat.{_+_, _≤_};
 ghost use lib.ListN.{length};
 ghost use Rattle.session_print.specs.Puts.{Puts};
 ghost use Rattle.explain_parts.specs.Parts.{partOf};
-ghost use Rattle.explain_said.specs.Reasons.{reasonText};
+ghost use Rattle.explain_said.specs.Reasons.{reasonText, allowedText};
+use explain_fields::reasons::NO_NAME;
+use explain_fields::reasons::NO_ROUTINE;
 use explain_parts::part_after;
+use session_print::figure::put_figure;
 use test_cases::report::put_text;
 
 // A line of a text by the lines before it, put at a place; the place past it.
@@ -53,7 +57,27 @@ the routine has too many names: arguments and locals are at most 16
 this is instruction 513: at most 512 in all
 the pieces are too many: at most 4,096 after the letters of instruction lines
 this routine has no instruction: it ends in E or G
-this is the last instruction of its routine: it is E or G",
+this is the last instruction of its routine: it is E or G
+no such name: they are numbered from 0, arguments first; this routine has 
+no such instruction: they are numbered from 0 in their routine; this one has 
+no such routine: they are numbered from 0; this listing has 
+a child has too many or too few arguments: one for each kind of the routine that it calls
+main is missing: its R is line 2
+main has one argument r for each input and output, and no other",
         why as usize,
     )
+}
+
+// How many names, instructions or routines there are, behind a reason that asks for it; the place past it.
+pub fn put_allowed(out: &mut [u8], at: usize, why: u32, allowed: usize) -> usize
+    requires { ⌜ at ≤ 60000 ⌝ }
+    ensures { λ r. ⌜ Puts (now (out .entry)) at (allowedText why allowed) (now (out .exit)) r × (r ≤ at + 20) ⌝ }
+{
+    if why < NO_NAME {
+        return at;
+    }
+    if why > NO_ROUTINE {
+        return at;
+    }
+    put_figure(out, at, allowed as u64)
 }

@@ -14,6 +14,9 @@ limit-why-requires c κs = search needs
 about-requires : tie.Need-about-requires
 about-requires c κs = search needs
 
+there-fault-requires : tie.Need-there-fault-requires
+there-fault-requires c κs = search needs
+
 ending-why-requires : tie.Need-ending-why-requires
 ending-why-requires c κs = search needs
 
@@ -33,11 +36,15 @@ returns-2 c = rw (c .before .before .match .keys2, c .about .ensures, c .before 
 
 returns-3 : tie.Need-returns-3
 unfolding faultAt
-returns-3 c = rw (c .before .before .match .keys3, c .about2 .ensures, c .before .ending-why .ensures)
+returns-3 c = rw (c .before .match .keys3) (c .there-fault .ensures)
 
 returns-4 : tie.Need-returns-4
 unfolding faultAt
-returns-4 c = let r = c .before .match .rest in rw (ne-eqb _ 2 (r .0 .0 .1), ne-eqb _ 3 (r .0 .1), ne-eqb _ 5 (r .1)) (c .about3 .ensures)
+returns-4 c = rw (c .before .before .match .keys4, c .about2 .ensures, c .before .ending-why .ensures)
+
+returns-5 : tie.Need-returns-5
+unfolding faultAt
+returns-5 c = let r = c .before .match .rest in rw (ne-eqb _ 2 (r .0 .0 .0 .1), ne-eqb _ 3 (r .0 .0 .1), ne-eqb _ 4 (r .0 .1), ne-eqb _ 5 (r .1)) (c .about3 .ensures)
 
 pub reason-at-spec : {M : Type 1} → statement M
 reason-at-spec =
@@ -46,10 +53,12 @@ reason-at-spec =
     form-fault-requires
     limit-why-requires
     about-requires
+    there-fault-requires
     ending-why-requires
     about-requires-2
     about-requires-3
     returns
     returns-2
     returns-3
-    returns-4)
+    returns-4
+    returns-5)

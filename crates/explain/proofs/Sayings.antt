@@ -1,39 +1,17 @@
 -- What the program says, put piece by piece. Letters: at the place of the first byte, r the place past the last.
 use mathlib.Core.Path.{_≡_, refl, sym, ap, _∙_}
-use mathlib.Core.Bool.{true}
 use mathlib.Core.List.{[], _∷_, _++_}
 use Prim.Native.Nat.{ℕ, zero, suc, _+_, _*_, _-_, _≤_}
 use native.Mathlib.Omega.{arith}
 use native.Mathlib.Numerals.{add-one}
-use lib.Dec.{leb}
-use lib.ListN.{length, getD, set, take, drop, length-drop, List·getD-eq-default}
+use lib.ListN.{length, set, take}
 use lib.Seq.{length-take-le}
-use borrow.Author.Tests.{leb-true}
 use Rattle.listing.specs.Bytes.{Bytes, bytesOf, figure}
 use Rattle.session_print.specs.Puts.{Puts}
 use Rattle.session_print.proofs.LineBytes.{same-bytes, then-bytes, one-byte}
-use Rattle.explain.specs.Sentences.{sentences, sentenceOf}
 use Rattle.explain.specs.Said.{ruleLine, rules, verdictLine, VerdictSaid}
 use Rattle.explain.specs.Verdicts.{VerdictOn}
 use Rattle.explain.specs.declared.verdict.Verdict.{Verdict}
-
--- ── the sentences of a number ────────────────────────────────────────────────────
-pub said : {text before after : Bytes} {at r : ℕ} (number k : ℕ) → number ≡ k → leb (length (sentenceOf k)) 300 ≡ true → text ≡ sentenceOf k →
-    Puts before at text after r → Puts before at (sentenceOf number) after r × (r ≤ at + 300)
-said number k e few t p =
-    let whole = same-bytes (t ∙ ap sentenceOf (sym e)) p in
-    let same : length (sentenceOf number) ≡ length (sentenceOf k) = ap (λ (n : ℕ). length (sentenceOf n)) e in
-    (whole, omega (arith, whole .past, same, leb-true (length (sentenceOf k)) 300 few))
-
-none-of : (n : ℕ) → (n ≡ 1 → ⊥) → (n ≡ 2 → ⊥) → (n ≡ 3 → ⊥) → (n ≡ 4 → ⊥) → (n ≡ 5 → ⊥) → [] ≡ sentenceOf n
-unfolding sentences
-none-of zero a b c d e = refl
-none-of (suc n) a b c d e = sym (List·getD-eq-default sentences [] (let h : 6 ≤ suc n = omega arith in h))
-
--- none for other numbers
-pub none-said : (before : Bytes) (at number : ℕ) → (number ≡ 1 → ⊥) → (number ≡ 2 → ⊥) → (number ≡ 3 → ⊥) → (number ≡ 4 → ⊥) → (number ≡ 5 → ⊥) →
-    Puts before at (sentenceOf number) before at × (at ≤ at + 300)
-none-said before at number a b c d e = (same-bytes (none-of number a b c d e) (record { past = omega arith; stored = refl }), omega arith)
 
 -- so many bytes are the first so many
 pub counted : (n : ℕ) (bytes : Bytes) → n ≤ length bytes → n ≡ length (take n bytes)

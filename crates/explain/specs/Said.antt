@@ -10,7 +10,7 @@ use Rattle.explain_reasons.specs.Faults.{faultAt}
 use Rattle.explain_there.specs.There.{allowedAt}
 use Rattle.explain_said.specs.Reasons.{allowedText}
 use Rattle.explain_said.specs.Spots.{faultText}
-use Rattle.explain.specs.Sentences.{sentenceOf}
+use Rattle.explain_said.specs.Sentences.{sentenceOf}
 use Rattle.explain.specs.Verdicts.{VerdictOn}
 use Rattle.explain.specs.declared.verdict.Verdict.{Verdict}
 use Rattle.explain.specs.declared.verdict.Verdict.the-variants as VV

@@ -1,7 +1,6 @@
 // Says of each listing whether it loads, and if not, at which line, why, and by which rule: `explain LISTING..`. No byte of a file is printed raw.
 // Without an argument: all rules.
 pub mod said;
-pub mod sentences;
 pub mod verdict;
 
 use crate::said::put_file;

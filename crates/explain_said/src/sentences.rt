@@ -2,7 +2,7 @@
 // Each is the one of specs/Sentences, as the contract says.
 ghost use Prim.Native.Nat.{_+_, _≤_};
 ghost use Rattle.session_print.specs.Puts.{Puts};
-ghost use Rattle.explain.specs.Sentences.{sentenceOf};
+ghost use Rattle.explain_said.specs.Sentences.{sentenceOf};
 use test_cases::report::put_text;
 
 // The sentences for a question, put into lent bytes at a place; the place past them. None for other numbers.

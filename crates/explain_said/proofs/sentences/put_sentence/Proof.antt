@@ -1,11 +1,11 @@
--- `explain::sentences::put_sentence` meets its contract.
+-- `explain_said::sentences::put_sentence` meets its contract.
 use mathlib.Core.Path.{refl}
 use Rattle.listing.specs.Bytes.{bytesOf}
-use Rattle.explain.specs.Sentences.{sentences}
-use Rattle.explain.proofs.Sayings.{said, none-said}
+use Rattle.explain_said.specs.Sentences.{sentences}
+use Rattle.explain_said.proofs.Numbered.{said, none-said}
 use borrow.Author.Needs.{needs}
-use Rattle.explain.proofs.sentences.put_sentence.Statement.{statement}
-use Rattle.explain.proofs.sentences.put_sentence.Tie as tie
+use Rattle.explain_said.proofs.sentences.put_sentence.Statement.{statement}
+use Rattle.explain_said.proofs.sentences.put_sentence.Tie as tie
 
 slice-aggregate-put-text : tie.Need-slice-aggregate-put-text
 slice-aggregate-put-text c = search needs

@@ -38,7 +38,10 @@ same-length : tie.Need-same-length
 same-length c = search needs
 
 returns : tie.Need-returns
-returns c = hex-put _ (c .before .before .before .before .before .before .before .before .before .before .before .before .before .before .before .before .put-byte .ensures) (c .before .before .before .before .before .before .before .before .before .before .before .before .put-byte2 .ensures) (c .before .before .before .before .before .before .before .put-byte3 .ensures) (c .before .before .put-byte4 .ensures) (c .before .before .before .before .before .before .before .before .hex-digit .ensures) (c .before .before .before .hex-digit2 .ensures)
+returns c =
+    let past = c .before .before .before .before .before .before .before .before in
+    let earlier = past .before .before .before .before in
+    hex-put _ (earlier .before .before .before .before .put-byte .ensures) (earlier .put-byte2 .ensures) (c .before .before .before .before .before .before .before .put-byte3 .ensures) (c .before .before .put-byte4 .ensures) (past .hex-digit .ensures) (c .before .before .before .hex-digit2 .ensures)
 
 pub put-hex-spec : {M : Type 1} → statement M
 put-hex-spec =

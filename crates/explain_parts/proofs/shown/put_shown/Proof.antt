@@ -30,10 +30,16 @@ add-result : tie.Need-add-result Inv-loop μ-loop
 add-result c = let v = c .before .before .before .before .before .before .before .before .before .before .loop .inv in record { fits = omega (arith, v .few, v .upTo, c .before .before .before .before .before .before .before .before .before .before .before .before .before .pre .0, c .before .before .before .before .before .before .before .before .before .before .before .before .before .pre .1) }
 
 same-length : tie.Need-same-length Inv-loop μ-loop
-same-length c = still-long (shown-cut (c .before .before .before .before .before .before .before .before .before .before .loop .inv) (c .before .before .before .before .before .before .before .before .before .loop-test .taken) (c .before .before .before .before .before .before .before .before .if1 .taken) (c .before .before .before .before .before .before .put-byte .ensures) (c .before .before .put-byte2 .ensures) .0)
+same-length c =
+    let past = c .before .before .before .before .before .before in
+    let v = past .before .before .before .before .loop in
+    still-long (shown-cut (v .inv) (past .before .before .before .loop-test .taken) (past .before .before .if1 .taken) (past .put-byte .ensures) (c .before .before .put-byte2 .ensures) .0)
 
 returns : tie.Need-returns Inv-loop μ-loop
-returns c = shown-cut (c .before .before .before .before .before .before .before .before .before .before .loop .inv) (c .before .before .before .before .before .before .before .before .before .loop-test .taken) (c .before .before .before .before .before .before .before .before .if1 .taken) (c .before .before .before .before .before .before .put-byte .ensures) (c .before .before .put-byte2 .ensures)
+returns c =
+    let past = c .before .before .before .before .before .before in
+    let v = past .before .before .before .before .loop in
+    shown-cut (v .inv) (past .before .before .before .loop-test .taken) (past .before .before .if1 .taken) (past .put-byte .ensures) (c .before .before .put-byte2 .ensures)
 
 shared-slice-read-put-escaped : tie.Need-shared-slice-read-put-escaped Inv-loop μ-loop
 shared-slice-read-put-escaped c = search needs

@@ -49,12 +49,15 @@ same-length c = search needs
 returns-2 : tie.Need-returns-2
 unfolding bytesOf
 returns-2 c =
-    let first = c .before .before .before .before .before .before .before .before .before .before .before .before .before .put-text .ensures in
+    let past = c .before .before .before .before .before .before in
+    let earlier = past .before .before .before .before .before .before .before in
+    let a = earlier .before .before .before .before .before .before .args in
+    let first = earlier .put-text .ensures in
     let number = c .before .before .before .before .before .before .before .before .before .put-figure .ensures in
     let part = c .before .before .before .before .before .part-after .ensures in
     let last = c .before .before .put-piece .ensures in
-    let is = ap (λ (f : List ℕ). pieceText f (c .before .before .before .before .before .before .before .before .before .before .before .before .before .before .before .before .before .before .before .args .piece)) (part .is ∙ ap (partOf 9 (now (c .before .before .before .before .before .before .before .before .before .before .before .before .before .before .before .before .before .before .before .args .line))) (c .before .before .before .before .before .before .before2 .ensures)) in
-    (line.same-bytes (saying.some-piece _ _ _ (c .before .before .before .before .before .before .before .before .before .before .before .before .before .before .before .before .if1 .left)) (line.then-bytes (first .0) (line.then-bytes (number .0) (line.same-bytes is (last .0)))), omega (arith, first .1, number .1, last .1))
+    let is = ap (λ (f : List ℕ). pieceText f (a .piece)) (part .is ∙ ap (partOf 9 (now (a .line))) (past .before2 .ensures)) in
+    (line.same-bytes (saying.some-piece _ _ _ (earlier .before .before .before .if1 .left)) (line.then-bytes (first .0) (line.then-bytes (number .0) (line.same-bytes is (last .0)))), omega (arith, first .1, number .1, last .1))
 
 pub put-numbered-spec : {M : Type 1} → statement M
 put-numbered-spec =

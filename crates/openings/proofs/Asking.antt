@@ -2,16 +2,16 @@
 use mathlib.Core.Path.{_≡_, refl, sym, ap, _∙_}
 use mathlib.Core.Bool.{Bool, true, false, _&&_, _||_, not}
 use mathlib.Core.List.{List, [], _∷_}
-use Prim.Native.Nat.{ℕ, zero, suc, _+_, _-_, _≤_, _<_}
+use Prim.Native.Nat.{ℕ, zero, suc, _+_, _≤_, _<_}
 use native.Mathlib.Omega.{arith}
 use native.Mathlib.Numerals.{add-one}
 use lib.Dec.{leb, ltb, eqb}
 use lib.ListN.{length, getD, drop, drop-of-length-le}
 use lib.Seq.{drop-cons}
-use borrow.Author.Tests.{le-leb, lt-leb, lt-ltb, le-ltb, leb-true, eq-eqb, ne-eqb}
-use Rattle.listing.proofs.Tests.{and-left, and-right, no-test}
+use borrow.Author.Tests.{le-leb, lt-leb, lt-ltb, le-ltb, leb-true}
+use Rattle.listing.proofs.Tests.{and-left, and-right}
 use Rattle.openings.specs.Writes.{Write, writesOf}
-use Rattle.openings.specs.Questions.{riseFrom, listedAmong, onceAfter, listedEarlier}
+use Rattle.openings.specs.Questions.{riseFrom, listedAmong, onceAfter}
 use Rattle.openings.proofs.Writes.{writeAt, writesFrom, writes-step}
 
 -- ── 9 ─────────────────────────────────────────────────────────────────────────────────────────────
@@ -45,47 +45,13 @@ rise-places (m ∷ ms) least e zero (suc j) l h = rise-least ms m (and-right (le
 rise-places (m ∷ ms) least e (suc i) zero l h = absurd (omega arith)
 rise-places (m ∷ ms) least e (suc i) (suc j) l h = rise-places ms m (and-right (leb least m) _ e) i j (omega arith) (omega arith)
 
--- ── 11, looking back ──────────────────────────────────────────────────────────────────────────────
-module _ (ms os : List ℕ) (k : ℕ) where
-  -- the first i writes are still to be looked at, of which this is the last
-  last-looked : (i : ℕ) → 1 ≤ i → listedEarlier ms os i k ≡
-      ((eqb (getD ms (i - 1) 0) (getD ms k 0) && eqb (getD os (i - 1) 0) (getD os k 0)) || listedEarlier ms os (i - 1) k)
-  unfolding listedEarlier
-  last-looked i p = let e : i ≡ suc (i - 1) = omega arith in ap (λ (j : ℕ). listedEarlier ms os j k) e
-
-  pub back-other : (i : ℕ) → 1 ≤ i → (getD os (i - 1) 0 ≡ getD os k 0 → ⊥) → listedEarlier ms os i k ≡ listedEarlier ms os (i - 1) k
-  back-other i p n = last-looked i p ∙ other (eqb (getD ms (i - 1) 0) (getD ms k 0)) (ne-eqb (getD os (i - 1) 0) (getD os k 0) n)
-    where
-      other : (a : Bool) → eqb (getD os (i - 1) 0) (getD os k 0) ≡ false →
-          ((a && eqb (getD os (i - 1) 0) (getD os k 0)) || listedEarlier ms os (i - 1) k) ≡ listedEarlier ms os (i - 1) k
-      other true e = rw e
-      other false e = refl
-
-  pub back-found : (i : ℕ) → 1 ≤ i → getD ms (i - 1) 0 ≡ getD ms k 0 → getD os (i - 1) 0 ≡ getD os k 0 → listedEarlier ms os i k ≡ true
-  back-found i p e f = last-looked i p ∙ rw (eq-eqb (getD ms (i - 1) 0) (getD ms k 0) e, eq-eqb (getD os (i - 1) 0) (getD os k 0) f)
-
-  back-earlier : (i : ℕ) → ((j : ℕ) → j < i → getD ms j 0 < getD ms k 0) → listedEarlier ms os i k ≡ false
-  unfolding listedEarlier
-  back-earlier zero all = refl
-  back-earlier (suc i) all =
-      let before = all i (omega arith) in
-      rw (ne-eqb (getD ms i 0) (getD ms k 0) (λ e. omega arith)) (back-earlier i (λ j h. all j (omega arith)))
-
-  -- an earlier moment ends the search
-  pub back-ends : (i : ℕ) → 1 ≤ i → i ≤ k → k < length ms → riseFrom 0 ms ≡ true → (getD ms (i - 1) 0 ≡ getD ms k 0 → ⊥) → listedEarlier ms os i k ≡ false
-  back-ends i p l h rises n =
-      let whole = rise-places ms 0 rises (i - 1) k (omega arith) h in
-      let less : getD ms (i - 1) 0 < getD ms k 0 = go n whole in
-      back-earlier i (λ j g. let each = rise-places ms 0 rises j (i - 1) (omega arith) (omega arith) in omega arith)
-    where
-      go : {a b : ℕ} → (a ≡ b → ⊥) → a ≤ b → a < b
-      go d u = omega arith
-
-  pub back-none : listedEarlier ms os 0 k ≡ false
-  unfolding listedEarlier
-  back-none = refl
-
 -- ── 11, over the whole lists ──────────────────────────────────────────────────────────────────────
+-- the same question by places in the lists: is write k's output listed in its moment among the first i writes?
+unfoldable pub listedEarlier : List ℕ → List ℕ → ℕ → ℕ → Bool
+listedEarlier moments outputs zero k = false
+listedEarlier moments outputs (suc i) k =
+    (eqb (getD moments i 0) (getD moments k 0) && eqb (getD outputs i 0) (getD outputs k 0)) || listedEarlier moments outputs i k
+
 -- the first i writes, the latest first
 unfoldable pub earlierOf : List ℕ → List ℕ → List ℕ → ℕ → List Write
 earlierOf ms os vs zero = []

@@ -1,5 +1,6 @@
 pub mod Writes
 pub mod Asking
+pub mod Places
 pub mod All
 pub mod Sorting
 pub mod Closings

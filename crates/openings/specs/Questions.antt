@@ -2,9 +2,9 @@
 -- Document 02, Change 1: "Question 1 turns away .. unequal lists, 9 a moment that falls, 11 an output of 16 or more or listed twice in a moment."
 use mathlib.Core.Bool.{Bool, true, false, _&&_, _||_, not}
 use mathlib.Core.List.{List, [], _∷_}
-use Prim.Native.Nat.{ℕ, zero, suc}
+use Prim.Native.Nat.{ℕ}
 use lib.Dec.{eqb, leb, ltb}
-use lib.ListN.{length, getD}
+use lib.ListN.{length}
 use Rattle.openings.specs.Writes.{Write}
 
 -- 1: the three lists are equally long
@@ -33,9 +33,3 @@ onceAfter earlier (w ∷ later) = ltb (w .output) 16 && (not (listedAmong w earl
 -- 11: "an output of 16 or more or listed twice in a moment" is turned away
 abbrev pub listedOnce : List Write → Bool
 listedOnce writes = onceAfter [] writes
-
--- the same question by places in the lists: is write k's output listed in its moment among the first i writes?
-unfoldable pub listedEarlier : List ℕ → List ℕ → ℕ → ℕ → Bool
-listedEarlier moments outputs zero k = false
-listedEarlier moments outputs (suc i) k =
-    (eqb (getD moments i 0) (getD moments k 0) && eqb (getD outputs i 0) (getD outputs k 0)) || listedEarlier moments outputs i k

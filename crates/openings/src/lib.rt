@@ -1,12 +1,14 @@
 // The openings of a session's valves, from the lists of its writes: definitions and laws, and the questions put to the lists.
 // Document 02: "9 a moment that falls, 11 an output of 16 or more or listed twice in a moment."
-ghost use mathlib.Core.Bool.{true};
+ghost use mathlib.Core.Bool.{true, cond};
 ghost use mathlib.Core.List.{List};
 ghost use mathlib.Core.Path.{_≡_};
-ghost use Prim.Native.Nat.{ℕ, _<_};
+ghost use Prim.Native.Nat.{ℕ};
+ghost use lib.Dec.{eqb};
 ghost use lib.ListN.{length};
 ghost use Rattle.openings.specs.Writes.{writesOf};
-ghost use Rattle.openings.specs.Questions.{noneFalls, listedOnce, listedEarlier};
+ghost use Rattle.openings.specs.Questions.{noneFalls, listedOnce};
+use words::number;
 
 const OUTPUTS: u32 = 16;
 
@@ -27,38 +29,40 @@ pub fn none_falls(moments: &[u64]) -> bool
     true
 }
 
-// Is the output of write k listed before it in the same moment? No moment falls, so it looks back as far as the moment goes.
-fn listed_before(moments: &[u64], outputs: &[u32], k: usize) -> bool
-    requires { ⌜ (k < length (now moments)) × (k < length (now outputs)) × (noneFalls (now moments) ≡ true) ⌝ }
-    ensures { λ r. ⌜ r ≡ listedEarlier (now (moments .entry)) (now (outputs .entry)) k k ⌝ }
+// Where the moment of write k begins: at `from`, if it is the moment of the write before, else here.
+fn beginning(moment: u64, before: u64, from: usize, k: usize) -> usize
+    ensures { λ r. ⌜ r ≡ cond (eqb moment before) from k ⌝ }
 {
-    let mut i = k;
-    while i > 0 {
-        i -= 1;
-        if moments[i] != moments[k] {
-            return false;
-        }
-        if outputs[i] == outputs[k] {
-            return true;
-        }
+    if moment == before {
+        return from;
     }
-    false
+    k
 }
 
-// 11: is every output below 16, and none listed twice in a moment?
+// 11: is every output below 16, and none listed twice in a moment? `past` has for each output the place past its latest write, so an
+// output is listed in this moment already if that lies past the moment's beginning.
 pub fn listed_once(moments: &[u64], outputs: &[u32]) -> bool
     requires { ⌜ (length (now moments) ≡ length (now outputs)) × (noneFalls (now moments) ≡ true) ⌝ }
     ensures { λ r. ⌜ ((values : List ℕ) → length values ≡ length (now (moments .entry)) → r ≡ listedOnce (writesOf (now (moments .entry)) (now (outputs .entry)) values)) ⌝ }
 {
+    let mut past = [0usize; 16];
+    let mut from: usize = 0;
+    let mut before: u64 = 0;
     let mut k: usize = 0;
     while k < moments.len() {
-        if outputs[k] >= OUTPUTS {
+        let output = outputs[k];
+        if output >= OUTPUTS {
             return false;
         }
-        if listed_before(moments, outputs, k) {
+        let valve = number(output);
+        let moment = moments[k];
+        from = beginning(moment, before, from, k);
+        before = moment;
+        if past[valve] > from {
             return false;
         }
         k += 1;
+        past[valve] = k;
     }
     true
 }

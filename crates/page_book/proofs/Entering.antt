@@ -11,6 +11,7 @@ use lib.Seq.{sets, length-sets}
 use borrow.Author.Tests.{le-leb, lt-leb, lt-ltb, le-ltb, eq-eqb, ne-eqb}
 use Rattle.listing.specs.Bytes.{Bytes, figure}
 use Rattle.openings.specs.Writes.{Write}
+use Rattle.openings.specs.Openings.{isZero}
 use Rattle.page_rows.specs.Rows.{rightAligned, row}
 use Rattle.page_book.specs.Book.{Book, bookOf, lineOf, onPage, rowClosed, rowOpened, valveClosed, valveOpened, enteredBy, entered, allEntered}
 
@@ -66,6 +67,19 @@ module _ (memory : Bytes) (line : ℕ) where
       sets memory (at * 45) (row (record { output = output; opened = moment; closed = none })) ≡ rowOpened memory line output moment
   unfolding rowOpened
   opened-here o m n h at e = rw (this-page line n h, e)
+
+-- ── a write on a book, by its value and its valve ─────────────────────────────────────────────────
+pub entered-zero : (first : ℕ) (b : Book) (w : Write) → isZero w ≡ true → entered first b w ≡ valveClosed w b
+unfolding entered enteredBy
+entered-zero first b w z = rw z
+
+pub entered-open : (first : ℕ) (b : Book) (w : Write) → isZero w ≡ false → (getD (b .lines) (w .output) 0 ≡ 0 → ⊥) → entered first b w ≡ b
+unfolding entered enteredBy
+entered-open first b w z n = rw (z, ne-eqb (getD (b .lines) (w .output) 0) 0 n)
+
+pub entered-shut : (first : ℕ) (b : Book) (w : Write) → isZero w ≡ false → getD (b .lines) (w .output) 0 ≡ 0 → entered first b w ≡ valveOpened first w b
+unfolding entered enteredBy
+entered-shut first b w z n = rw (z, eq-eqb (getD (b .lines) (w .output) 0) 0 n)
 
 -- ── the write, by its value and its valve ─────────────────────────────────────────────────────────
 module _ (first : ℕ) (memory : Bytes) (lines opened : List ℕ) (count moment output value : ℕ) where

@@ -21,7 +21,7 @@ use Rattle.page_rows.specs.Rows.{rightAligned, row, blankRow, joined}
 use Rattle.page_rows.proofs.RowBytes.{aligned-length, blank-length}
 use Rattle.page_rows.proofs.Columns.{few-digits}
 use Rattle.page_book.specs.Book.{Book, bookOf, lineOf, onPage, rowClosed, rowOpened, valveClosed, valveOpened, enteredBy, entered, allEntered}
-use Rattle.page_book.proofs.Entering.{none-closed}
+use Rattle.page_book.proofs.Entering.{none-closed, entered-zero, entered-open, entered-shut}
 use Rattle.page_book.proofs.OpenValves.{NoneOpen, openOne, closedOne, none-changes, still-open, after-open, after-other, none-opens, all-fit, new-fits}
 use Rattle.page_book.proofs.RowList.{Fits, row-long, row-closes, sets-whole, rowNumber, number-here, number-past, differ-at, differ-end, shown, stored-at}
 
@@ -101,18 +101,6 @@ unfolding opens
 opens-by e w z = rw z
 
 -- ── the book after the write ──────────────────────────────────────────────────────────────────────
-entered-zero : (first : ℕ) (b : Book) (w : Write) → isZero w ≡ true → entered first b w ≡ valveClosed w b
-unfolding entered enteredBy
-entered-zero first b w z = rw z
-
-entered-open : (first : ℕ) (b : Book) (w : Write) → isZero w ≡ false → (getD (b .lines) (w .output) 0 ≡ 0 → ⊥) → entered first b w ≡ b
-unfolding entered enteredBy
-entered-open first b w z n = rw (z, ne-eqb (getD (b .lines) (w .output) 0) 0 n)
-
-entered-shut : (first : ℕ) (b : Book) (w : Write) → isZero w ≡ false → getD (b .lines) (w .output) 0 ≡ 0 → entered first b w ≡ valveOpened first w b
-unfolding entered enteredBy
-entered-shut first b w z n = rw (z, eq-eqb (getD (b .lines) (w .output) 0) 0 n)
-
 line-some : (first n : ℕ) → lineOf first n ≡ 0 → ⊥
 unfolding lineOf
 line-some first n = go (lib.Dec.leb first n && lib.Dec.ltb (n - first) 59)

@@ -1,6 +1,8 @@
 pub mod Entering
 pub mod Moments
 pub mod Turns
+pub mod Listed
+pub mod AnyOrder
 pub mod Groups
 pub mod RowList
 pub mod OpenValves

@@ -1,6 +1,7 @@
 -- `page::write_page` meets its contract.
 use native.Mathlib.Omega.{arith}
 use denote.Ref.{now}
+use Rattle.page_book.proofs.AnyOrder.{apart-none}
 use Rattle.page.proofs.Written as written
 use borrow.Author.Needs.{needs}
 use Rattle.page.proofs.write_page.Statement.{statement}
@@ -13,7 +14,8 @@ first-opening-requires : tie.Need-first-opening-requires
 first-opening-requires c κs = search needs
 
 enter-writes-requires : tie.Need-enter-writes-requires
-enter-writes-requires c κs = search needs
+enter-writes-requires c κs =
+    (search needs, search needs, search needs, search needs, search needs, search needs, apart-none _)
 
 page-count-requires : tie.Need-page-count-requires
 page-count-requires c κs = search needs

@@ -1,8 +1,8 @@
--- `test_pages::say_rows` meets its contract.
+-- `test_page_prints::say_rows` meets its contract.
 use Prim.Native.Nat.{_-_, _≤_}
 use borrow.Author.Needs.{needs}
-use Rattle.test_pages.proofs.say_rows.Statement.{statement}
-use Rattle.test_pages.proofs.say_rows.Tie as tie
+use Rattle.test_page_prints.proofs.say_rows.Statement.{statement}
+use Rattle.test_page_prints.proofs.say_rows.Tie as tie
 
 abbrev Inv-loop : tie.InvT-loop
 Inv-loop page line₀ t6 line =

@@ -1,12 +1,12 @@
--- `test_pages::run_case` meets its contract.
+-- `test_page_prints::run_case` meets its contract.
 use mathlib.Core.Path.{_≡_, sym, ap, _∙_}
 use native.Mathlib.Omega.{arith}
 use lib.ListN.{length, length-replicate}
 use lib.Seq.{length-take-le}
 use denote.Ref.{now}
 use borrow.Author.Needs.{needs}
-use Rattle.test_pages.proofs.run_case.Statement.{statement}
-use Rattle.test_pages.proofs.run_case.Tie as tie
+use Rattle.test_page_prints.proofs.run_case.Statement.{statement}
+use Rattle.test_page_prints.proofs.run_case.Tie as tie
 
 fill-bytes-requires : tie.Need-fill-bytes-requires
 fill-bytes-requires c κs = search needs

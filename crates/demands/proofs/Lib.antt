@@ -1,3 +1,4 @@
 pub mod LayoutIsExact
 pub mod Exported
 pub mod Demands
+pub mod Book

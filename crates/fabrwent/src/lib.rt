@@ -3,6 +3,7 @@
 pub mod calls;
 pub mod loading;
 pub mod looking;
+pub mod pages;
 
 pub use call_figures::FabrwentAlike;
 pub use call_figures::FabrwentCall;
@@ -13,3 +14,4 @@ pub use calls::fabrwent_instant;
 pub use calls::fabrwent_start;
 pub use loading::fabrwent_load;
 pub use looking::fabrwent_look;
+pub use pages::fabrwent_page;

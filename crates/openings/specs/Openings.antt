@@ -1,9 +1,10 @@
 -- The openings of a session's valves, from its writes.
 -- Document 02, Change 1: "A valve is open while its value isn't 0; a write that doesn't change open or closed gives no row."
+use mathlib.Core.Path.{_≡_}
 use mathlib.Core.Bool.{Bool, true, false, cond, _&&_, not}
 use mathlib.Core.List.{List, [], _∷_}
 use mathlib.Core.Option.{Option, none, some}
-use Prim.Native.Nat.{ℕ}
+use Prim.Native.Nat.{ℕ, _≤_}
 use lib.Dec.{eqb}
 use Rattle.openings.specs.Writes.{Write}
 
@@ -52,3 +53,7 @@ openingsAfter earlier (w ∷ later) = withOpening (opens earlier w) (openingOf w
 -- the openings of a session's writes, as they are listed
 abbrev pub openings : List Write → List Opening
 openings writes = openingsAfter [] writes
+
+-- an opening that does not end before it began
+abbrev pub EndsLater : Opening → Type 0
+EndsLater x = (c : ℕ) → x .closed ≡ some c → x .opened ≤ c

@@ -10,9 +10,9 @@ use borrow.Author.Tests.{le-leb, lt-leb, eq-eqb, ne-eqb}
 use Rattle.listing.specs.Bytes.{Bytes}
 use Rattle.openings.specs.Writes.{writesOf}
 use Rattle.openings.specs.Order.{sortedOpenings}
-use Rattle.openings.specs.Questions.{noneFalls, listedOnce}
+use Rattle.openings.specs.Questions.{equallyLong, noneFalls, listedOnce}
 use Rattle.page.specs.Pages.{pageCount, pageBytes}
-use Rattle.page.specs.Call.{Outcome, refused, printed, ask, printedPage, pageCall, outcomeNumber, outcomePages, memoryAfter, PrintedAs, refusal}
+use Rattle.page.specs.Call.{pageLength, Outcome, refused, printed, ask, printedPage, pageCall, outcomeNumber, outcomePages, memoryAfter, PrintedAs, refusal}
 use Rattle.page.specs.declared.Printed.{Printed}
 
 -- a refusal under its number leaves the memory as it was
@@ -73,3 +73,25 @@ module _ (ms os vs : List ℕ) (p : ℕ) (memory : Bytes) where
             PrintedAs outcome memory memory′ (record { number = 0; place = 0; pages = pages })
         unfolding outcomeNumber outcomePages memoryAfter printedPage
         page-printed h l memory′ pages m c = let o = all-pass h l in record { numberIs = rw o; placeIs = refl; pagesIs = rw o c; memoryIs = rw o m }
+
+-- ── a call with number 0 ──────────────────────────────────────────────────────────────────────────
+-- it has passed the questions, and its outcome is the page
+pub record Through (ms os vs : List ℕ) (p : ℕ) (memory : Bytes) : Type 0 where
+  pub rises : noneFalls ms ≡ true
+  pub once : listedOnce (writesOf ms os vs) ≡ true
+  pub is : pageCall ms os vs p memory ≡ printedPage p (sortedOpenings (writesOf ms os vs))
+
+pub gone-through : (ms os vs : List ℕ) (p : ℕ) (memory : Bytes) → outcomeNumber (pageCall ms os vs p memory) ≡ 0 → Through ms os vs p memory
+unfolding pageCall ask outcomeNumber
+gone-through ms os vs p memory =
+    go (leb pageLength (length memory) && equallyLong ms os vs) refl (noneFalls ms) refl (listedOnce (writesOf ms os vs)) refl
+  where
+    page : Outcome
+    page = printedPage p (sortedOpenings (writesOf ms os vs))
+
+    go : (a : Bool) → (leb pageLength (length memory) && equallyLong ms os vs) ≡ a → (b : Bool) → noneFalls ms ≡ b →
+        (c : Bool) → listedOnce (writesOf ms os vs) ≡ c → outcomeNumber (ask 1 a (ask 9 b (ask 11 c page))) ≡ 0 → Through ms os vs p memory
+    go true e true f true g h = record { rises = f; once = g; is = rw (e, f, g) }
+    go true e true f false g h = absurd (omega arith)
+    go true e false f c g h = absurd (omega arith)
+    go false e b f c g h = absurd (omega arith)

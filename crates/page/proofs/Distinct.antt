@@ -8,16 +8,15 @@ use native.Mathlib.Omega.{arith}
 use lib.ListN.{length, getD, replicate}
 use Rattle.listing.specs.Bytes.{Bytes}
 use Rattle.openings.specs.Writes.{Write, writesOf}
-use Rattle.openings.specs.Openings.{opens, Opening, openingOf, withOpening, openingsAfter, openings}
+use Rattle.openings.specs.Openings.{opens, Opening, openingOf, withOpening, openingsAfter, openings, EndsLater}
 use Rattle.openings.specs.Order.{sort, writePrecedes, sortedOpenings}
 use Rattle.openings.specs.Questions.{noneFalls, listedOnce}
 use Rattle.openings.proofs.All.{All, none, each}
 use Rattle.openings.proofs.Listed.{Differ, AllDiffer, end, then, once-differ, sort-differs}
-use Rattle.openings.proofs.SortedOpenings.{rising-passable, sorted-by-writes}
-use Rattle.page_rows.specs.Rows.{row, blankRow, joined}
-use Rattle.page_book.proofs.RowList.{Fits}
+use Rattle.openings.proofs.SortedOpenings.{rising-passable, sorted-by-writes, sorted-end-later}
+use Rattle.page_rows.specs.Rows.{row, Fits, blankRow, joined}
 use Rattle.page_book.proofs.Whole.{book-shows}
-use Rattle.page.proofs.ReadRows.{row-tells}
+use Rattle.page.proofs.ReadRows.{start-told}
 
 -- not of one moment and one output
 abbrev Apart : Opening → Opening → Type 0
@@ -50,7 +49,7 @@ all-apart e (w ∷ ws) (then a s) = go (opens e w) (all-apart (w ∷ e) ws s)
 -- ── their rows ────────────────────────────────────────────────────────────────────────────────────
 other-row : (x : Opening) → Fits x → (xs : List Opening) → All Fits xs → All (Apart x) xs → (j : ℕ) → j < length xs → row x ≡ getD (map row xs) j [] → ⊥
 other-row x f [] a d j h e = omega arith
-other-row x f (y ∷ xs) (each g a) (each d b) zero h e = let t = row-tells x y f g e in d (t .1) (t .0)
+other-row x f (y ∷ xs) (each g a) (each d b) zero h e = let t = start-told x y f g e in d (t .1) (t .0)
 other-row x f (y ∷ xs) (each g a) (each d b) (suc j) h e = other-row x f xs a b j (omega arith) e
 
 rows-differ : (xs : List Opening) → All Fits xs → AllApart xs → (i j : ℕ) → i < j → j < length xs → getD (map row xs) i [] ≡ getD (map row xs) j [] → ⊥
@@ -68,6 +67,10 @@ module _ (ms os vs : List ℕ) (rises : noneFalls ms ≡ true) (once : listedOnc
   -- the numbers of every opening have room in their columns, so that ReadRows speaks of each row
   pub openings-fit : All Fits xs
   openings-fit = book-shows 0 [] (joined (replicate 60 blankRow)) ms os vs rises once small (sym (append-nil (joined (replicate 60 blankRow)))) .fit
+
+  -- and none ends before it began: with both, `row-tells` says that a row has all of its opening, the closing moment too
+  pub openings-end-later : All EndsLater xs
+  openings-end-later = sorted-end-later ms os vs rises
 
   openings-apart : AllApart xs
   openings-apart =

@@ -6,3 +6,4 @@ pub mod Headings
 pub mod ReadRows
 pub mod Examples
 pub mod Distinct
+pub mod Left

@@ -102,7 +102,7 @@ blank-page memory h e =
     e ∙ sets-eq (joined (replicate 60 blankRow)) memory 0 (omega arith)
     ∙ ap (λ (i : ℕ). joined (replicate 60 blankRow) ++ drop i memory) (ap (λ (i : ℕ). 0 + i) long)
 
-heading-length : length heading ≡ 45
+pub heading-length : length heading ≡ 45
 unfolding heading rowOf rightAligned bytesOf
 heading-length = refl
 

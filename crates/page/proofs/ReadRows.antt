@@ -9,15 +9,15 @@ use lib.Dec.{leb, eqb}
 use lib.ListN.{length, getD, take, drop, replicate, length-append}
 use lib.Seq.{take-at, drop-at, drop-append-add}
 use borrow.Author.Tests.{ne-eqb}
-use Rattle.listing.specs.Bytes.{Bytes, figure, readFigure}
+use Rattle.listing.specs.Bytes.{Bytes, figure, isFigure, readFigure}
 use Rattle.listing.specs.Lists.{all}
 use Rattle.listing.proofs.Figures.{Leading, figure-leads, figure-zero, readFigure-figure}
-use Rattle.openings.specs.Openings.{Opening}
+use Rattle.openings.specs.Openings.{Opening, EndsLater}
 use Rattle.openings.proofs.All.{All, each}
-use Rattle.page_rows.specs.Rows.{rightAligned, rowOf, hyphens, openFor, row, heading, blankRow, joined}
+use Rattle.page_rows.specs.Rows.{rightAligned, rowOf, hyphens, openFor, row, Fits, heading, blankRow, joined}
 use Rattle.page_rows.proofs.RowBytes.{aligned-length}
 use Rattle.page_rows.proofs.Columns.{few-digits, two-digits}
-use Rattle.page_book.proofs.RowList.{Fits, Long, last-long}
+use Rattle.page_book.proofs.RowList.{Long, last-long}
 use Rattle.page.specs.Together.{rowOfBytes, unpadded, numberAt}
 
 -- ── a figure behind spaces ────────────────────────────────────────────────────────────────────────
@@ -116,11 +116,47 @@ same-some : {m n : ℕ} → some m ≡ some n → m ≡ n
 same-some e = cc
 
 -- Two openings with the same row have the same output and the same moment opened.
-pub row-tells : (x y : Opening) → Fits x → Fits y → row x ≡ row y → (x .output ≡ y .output) × (x .opened ≡ y .opened)
-row-tells x y f g e = (
+pub start-told : (x y : Opening) → Fits x → Fits y → row x ≡ row y → (x .output ≡ y .output) × (x .opened ≡ y .opened)
+start-told x y f g e = (
   same-some (sym (output-read x f) ∙ ap (λ (r : Bytes). numberAt r 0 2) e ∙ output-read y g),
   same-some (sym (opened-read x f) ∙ ap (λ (r : Bytes). numberAt r 3 20) e ∙ opened-read y g),
 )
+
+-- hyphens are no number
+hyphens-unread : readFigure (unpadded hyphens) ≡ none
+unfolding unpadded hyphens readFigure isFigure all
+hyphens-unread = refl
+
+open-unread : (x : Opening) → Fits x → x .closed ≡ none → numberAt (row x) 24 20 ≡ none
+open-unread x f e = ap (λ (t : Bytes). readFigure (unpadded t)) (hyphens-read x f e) ∙ hyphens-unread
+
+end-told : (x y : Opening) → Fits x → Fits y → EndsLater x → EndsLater y → row x ≡ row y → x .opened ≡ y .opened →
+    (c d : Option ℕ) → x .closed ≡ c → y .closed ≡ d → c ≡ d
+end-told x y f g l m e s none none p q = refl
+end-told x y f g l m e s none (some d) p q =
+    let z = sym (open-unread x f p) ∙ ap (λ (r : Bytes). numberAt r 24 20) e ∙ milliseconds-read y g d q in
+    absurd (let n : _≡_ {A = ℕ} 0 1 = cc in omega arith)
+end-told x y f g l m e s (some c) none p q =
+    let z = sym (open-unread y g q) ∙ ap (λ (r : Bytes). numberAt r 24 20) (sym e) ∙ milliseconds-read x f c p in
+    absurd (let n : _≡_ {A = ℕ} 0 1 = cc in omega arith)
+end-told x y f g l m e s (some c) (some d) p q =
+    let z = same-some (sym (milliseconds-read x f c p) ∙ ap (λ (r : Bytes). numberAt r 24 20) e ∙ milliseconds-read y g d q) in
+    let a = l c p in
+    let b = m d q in
+    let same : c ≡ d = omega arith in
+    ap some same
+
+same-opening : (x y : Opening) → x .output ≡ y .output → x .opened ≡ y .opened → x .closed ≡ y .closed → x ≡ y
+same-opening x y p q r =
+    ap (λ (o : ℕ). record { output = o; opened = x .opened; closed = x .closed }) p
+    ∙ ap (λ (m : ℕ). record { output = y .output; opened = m; closed = x .closed }) q
+    ∙ ap (λ (c : Option ℕ). record { output = y .output; opened = y .opened; closed = c }) r
+
+-- A row tells its opening, the closing moment too: two openings with the same row are the same.
+pub row-tells : (x y : Opening) → Fits x → Fits y → EndsLater x → EndsLater y → row x ≡ row y → x ≡ y
+row-tells x y f g l m e =
+    let s = start-told x y f g e in
+    same-opening x y (s .0) (s .1) (end-told x y f g l m e (s .1) (x .closed) (y .closed) refl refl)
 
 -- ── the rows of a page's bytes ────────────────────────────────────────────────────────────────────
 pub row-in-bytes : (rs : List Bytes) (tail : Bytes) (i : ℕ) → All Long rs → i < length rs → rowOfBytes (joined rs ++ tail) i ≡ getD rs i []

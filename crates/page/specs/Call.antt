@@ -61,6 +61,10 @@ pub record PrintedAs (o : Outcome) (memory memory′ : Bytes) (r : Printed) : Ty
   pub pagesIs : r .pages ≡ outcomePages o
   pub memoryIs : memory′ ≡ memoryAfter o memory
 
+-- What a call promises, of any lists, page number and memory: the defined outcome.
+abbrev pub PageFigures : List ℕ → List ℕ → List ℕ → ℕ → Bytes → Bytes → Printed → Type 0
+PageFigures moments outputs values page before after r = PrintedAs (pageCall moments outputs values page before) before after r
+
 abbrev pub refusal : ℕ → Printed
 refusal number = record { number = number; place = 0; pages = 0 }
 

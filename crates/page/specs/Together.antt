@@ -1,5 +1,6 @@
 -- The pages together. Document 02, Change 1: "Proved: the pages together hold each opening exactly once, and no other row but headings and rows of
--- spaces." Here are the words of that sentence; the theorems stand in proofs/Demands and proofs/ReadRows.
+-- spaces." Here are the words of that sentence; the theorems stand in proofs/Demands, Headings, ReadRows and Distinct, and of the calls in proofs/Left.
+use mathlib.Core.Path.{_≡_}
 use mathlib.Core.Bool.{Bool, true, false, cond, _||_, not}
 use mathlib.Core.List.{List, [], _∷_, _++_}
 use mathlib.Core.Option.{Option}
@@ -10,6 +11,8 @@ use Rattle.listing.specs.Bytes.{Bytes, space, lineFeed, readFigure}
 use Rattle.listing.specs.Lists.{all}
 use Rattle.openings.specs.Openings.{Opening}
 use Rattle.page.specs.Pages.{pageRows}
+use Rattle.page.specs.Call.{PageFigures}
+use Rattle.page.specs.declared.Printed.{Printed}
 
 -- a row of a page's bytes, from 0: "44 characters and a line feed"
 abbrev pub rowOfBytes : Bytes → ℕ → Bytes
@@ -19,6 +22,21 @@ rowOfBytes bytes i = take 45 (drop (i * 45) bytes)
 unfoldable pub lowerRows : ℕ → List Opening → List Bytes
 lowerRows zero openings = []
 lowerRows (suc page) openings = lowerRows page openings ++ drop 1 (pageRows (suc page) openings)
+
+-- so many rows of a page's bytes, from row i on
+unfoldable pub rowsOfBytes : ℕ → ℕ → Bytes → List Bytes
+rowsOfBytes zero i bytes = []
+rowsOfBytes (suc count) i bytes = rowOfBytes bytes i ∷ rowsOfBytes count (suc i) bytes
+
+-- rows 2 to 60 of the memories that calls for the pages 1 to n leave
+unfoldable pub rowsLeft : ℕ → (ℕ → Bytes) → List Bytes
+rowsLeft zero after = []
+rowsLeft (suc page) after = rowsLeft page after ++ rowsOfBytes 59 1 (after (suc page))
+
+-- calls for all pages of the same lists, each with a memory of its own; each goes through
+pub record AllPrinted (moments outputs values : List ℕ) (before after : ℕ → Bytes) (r : ℕ → Printed) : Type 0 where
+  pub promised : (page : ℕ) → PageFigures moments outputs values page (before page) (after page) (r page)
+  pub through : (page : ℕ) → r page .number ≡ 0
 
 -- nothing but spaces and a line feed
 abbrev pub isSpace : ℕ → Bool

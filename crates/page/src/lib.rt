@@ -9,7 +9,7 @@ ghost use Rattle.openings.specs.Writes.{writesOf};
 ghost use Rattle.openings.specs.Order.{sortedOpenings};
 ghost use Rattle.openings.specs.Questions.{noneFalls, listedOnce};
 ghost use Rattle.page.specs.Pages.{pageCount, pageBytes};
-ghost use Rattle.page.specs.Call.{pageCall, firstOpening, refusal, PrintedAs};
+ghost use Rattle.page.specs.Call.{firstOpening, refusal, PageFigures};
 use openings::listed_once;
 use openings::none_falls;
 use page_book::enter_writes;
@@ -107,7 +107,7 @@ pub fn print_page(
     page: u64,
     memory: &mut [u8],
 ) -> Printed
-    ensures { λ r. ⌜ PrintedAs (pageCall (now (moments .entry)) (now (outputs .entry)) (now (values .entry)) page (now (memory .entry))) (now (memory .entry)) (now (memory .exit)) r ⌝ }
+    ensures { λ r. ⌜ PageFigures (now (moments .entry)) (now (outputs .entry)) (now (values .entry)) page (now (memory .entry)) (now (memory .exit)) r ⌝ }
 {
     if memory.len() < PAGE_BYTES {
         return refused(1);

@@ -17,13 +17,13 @@ use Rattle.openings.specs.Openings.{isZero, latestOf, closedAfter, opens, closi
 use Rattle.openings.proofs.All.{All, each, both-parts, second-part}
 use Rattle.openings.proofs.All as all
 use Rattle.openings.proofs.OneMore.{passed, passed-last, after, newOpening, openings-last}
-use Rattle.page_rows.specs.Rows.{rightAligned, row, blankRow, joined}
+use Rattle.page_rows.specs.Rows.{rightAligned, row, Fits, blankRow, joined}
 use Rattle.page_rows.proofs.RowBytes.{aligned-length, blank-length}
 use Rattle.page_rows.proofs.Columns.{few-digits}
 use Rattle.page_book.specs.Book.{Book, bookOf, lineOf, onPage, rowClosed, rowOpened, valveClosed, valveOpened, enteredBy, entered, allEntered}
 use Rattle.page_book.proofs.Entering.{none-closed, entered-zero, entered-open, entered-shut}
 use Rattle.page_book.proofs.OpenValves.{NoneOpen, openOne, closedOne, none-changes, still-open, after-open, after-other, none-opens, all-fit, new-fits}
-use Rattle.page_book.proofs.RowList.{Fits, row-long, row-closes, sets-whole, rowNumber, number-here, number-past, differ-at, differ-end, shown, stored-at}
+use Rattle.page_book.proofs.RowList.{row-long, row-closes, sets-whole, rowNumber, number-here, number-past, differ-at, differ-end, shown, stored-at}
 
 -- valve o in the book: closed, or open since the moment noted, with the line of its row
 pub data Valve (first o : ℕ) (e : List Write) (xs : List Opening) (line opened : ℕ) : Type 0 where

@@ -15,7 +15,7 @@ use Rattle.openings.specs.Openings.{isZero, Opening}
 use Rattle.openings.proofs.All.{All, each, mapped}
 use Rattle.openings.proofs.All as all
 use Rattle.openings.proofs.OneMore.{closedAt, ends, after}
-use Rattle.page_book.proofs.RowList.{Fits}
+use Rattle.page_rows.specs.Rows.{Fits}
 
 -- no opening of o lasts
 abbrev pub NoneOpen : ℕ → List Opening → Type 0

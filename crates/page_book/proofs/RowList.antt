@@ -13,7 +13,7 @@ use Rattle.listing.specs.Bytes.{Bytes, figure}
 use Rattle.openings.specs.Openings.{Opening}
 use Rattle.openings.proofs.All.{All, each}
 use Rattle.openings.proofs.All as all
-use Rattle.page_rows.specs.Rows.{rightAligned, rowOf, hyphens, openFor, row, blankRow, joined}
+use Rattle.page_rows.specs.Rows.{rightAligned, rowOf, hyphens, openFor, row, Fits, blankRow, joined}
 use Rattle.page_rows.proofs.RowBytes.{aligned-length, blank-length}
 use Rattle.page_rows.proofs.Columns.{few-digits, two-digits}
 use Rattle.page_book.specs.Book.{lineOf, onPage}
@@ -64,12 +64,6 @@ row-stored (r ∷ rs) tail (suc i) c bs (each e a) h l =
     ∙ sym (append-assoc r (joined (set rs i (sets (getD rs i []) c bs))) tail))
 
 -- ── rows of openings ──────────────────────────────────────────────────────────────────────────────
--- numbers that have room in their columns
-pub record Fits (x : Opening) : Type 0 where
-  pub low : x .output < 16
-  pub soon : x .opened < 18446744073709551616
-  pub ends : (c : ℕ) → x .closed ≡ some c → c < 18446744073709551616
-
 pub last-long : (opened : ℕ) (closed : Option ℕ) → ((c : ℕ) → closed ≡ some c → c < 18446744073709551616) → length (openFor opened closed) ≤ 20
 unfolding openFor hyphens
 last-long opened none h = omega arith

@@ -16,10 +16,10 @@ use Rattle.openings.proofs.OneMore.{passed, passed-last, after, newOpening, ope
 use Rattle.openings.proofs.Listed.{first-below, rest-once}
 use Rattle.openings.proofs.Sorting.{sort-all}
 use Rattle.openings.proofs.SortedOpenings.{rising-passable, sorted-by-writes}
-use Rattle.page_rows.specs.Rows.{blankRow, joined}
+use Rattle.page_rows.specs.Rows.{Fits, blankRow, joined}
 use Rattle.page_book.specs.Book.{Book, bookOf, entered, allEntered}
 use Rattle.page_book.proofs.Kept.{Valve, shut, Kept, one-more}
-use Rattle.page_book.proofs.RowList.{Fits, rowNumber, rowsFrom, shown}
+use Rattle.page_book.proofs.RowList.{rowNumber, rowsFrom, shown}
 
 -- a write whose numbers have room in their columns
 abbrev Small : Write → Type 0

@@ -1,9 +1,10 @@
 -- The rows of the valve book, as bytes.
 -- Document 02, Change 1: "print rows of 44 characters and a line feed: output number in 2 columns, a space, moment opened in 20, a space,
 -- milliseconds open in 20, all right-aligned."
+use mathlib.Core.Path.{_≡_}
 use mathlib.Core.List.{List, [], _∷_, _++_}
 use mathlib.Core.Option.{Option, none, some}
-use Prim.Native.Nat.{ℕ, _-_}
+use Prim.Native.Nat.{ℕ, _-_, _<_}
 use Prim.Native.Char.{code}
 use lib.ListN.{length, replicate}
 use Rattle.listing.specs.Bytes.{Bytes, bytesOf, figure, space, lineFeed}
@@ -30,6 +31,12 @@ openFor opened (some closed) = figure (closed - opened)
 -- the row of an opening
 unfoldable pub row : Opening → Bytes
 row x = rowOf (figure (x .output)) (figure (x .opened)) (openFor (x .opened) (x .closed))
+
+-- numbers that have room in their columns: every opening of lists that pass the questions has such (page `openings-fit`)
+pub record Fits (x : Opening) : Type 0 where
+  pub low : x .output < 16
+  pub soon : x .opened < 18446744073709551616
+  pub ends : (c : ℕ) → x .closed ≡ some c → c < 18446744073709551616
 
 -- "the first being `NR`, `OPENED` and `OPEN FOR` aligned alike"
 unfoldable pub heading : Bytes

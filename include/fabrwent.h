@@ -229,6 +229,36 @@ fabrwent_compared fabrwent_alike(const uint32_t *table, size_t table_words,
 fabrwent_seen fabrwent_look(const uint32_t *table, size_t table_words,
                             const uint32_t *machine, size_t machine_words);
 
+/* ---- A page of the valve book ------------------------------------------------------- */
+
+/* From the lists of a session's writes: moment, output and value of
+ * each, in the order in which the start and the instants listed them. A row is
+ * 44 characters and a line feed: output number in 2 columns, a space, moment opened in
+ * 20, a space, milliseconds open in 20, right-aligned; 20 hyphens if the valve is still
+ * open. A valve is open while its value is not 0. docs/BOOK.md has the form. */
+#define FABRWENT_PAGE_BYTES 2700
+
+/* The result of a page. */
+typedef struct {
+    uint32_t number; /* 0, 1, 9 or 11 */
+    uint32_t place;  /* 0 */
+    uint64_t pages;  /* the number of pages, at least 1; 0 after a refusal */
+} fabrwent_printed;
+
+/* Writes a page, counted from 1, into the memory's first 2,700 bytes: a heading and 59
+ * rows, by opening moment and then by output, the last page filled with rows of spaces.
+ * Page 0 and pages past the last are 60 rows of spaces, with number 0. Bytes past 2,700
+ * stay, and a refusal touches none. Questions, each put to the whole lists before the
+ * next:
+ *    1  the memory is shorter than 2,700 bytes, or the lists are not equally long
+ *    9  a moment is before the one listed before it
+ *   11  an output is 16 or more, or listed twice in one moment
+ * Moments are aligned as uint64_t. The lists are only read and may overlap one another. */
+fabrwent_printed fabrwent_page(const uint64_t *moments, size_t moments_places,
+                               const uint32_t *outputs, size_t outputs_places,
+                               const uint32_t *values, size_t values_places,
+                               uint64_t page, uint8_t *memory, size_t memory_bytes);
+
 /* ---- The same calls on typed memories --------------------------------------------- */
 
 /* A table, a machine and the outputs of an instant, each of its own type: bytes are not

@@ -4,6 +4,7 @@ use crate::bench_listings::{
     full, full_board, full_table, grouped, seventy_three_pieces, sleepers, ticking, twelve_pieces, waiting,
 };
 use crate::bench_listings::{COUNTED, FORKS, PRESS, SUMS, TIMERS};
+use crate::bench_pages::pages;
 use crate::bench_queue::{waiting_writes, Queue};
 use crate::board::{self, Outputs};
 use crate::clock::{beside, longer, ROUNDS};
@@ -291,7 +292,7 @@ const STACK_AIM: usize = 4_096;
 const SCANS: usize = 3;
 
 /// One line of a table; `aim` is the largest ratio.
-fn row(what: &str, (library, peer): (f64, f64), aim: Option<f64>) {
+pub fn row(what: &str, (library, peer): (f64, f64), aim: Option<f64>) {
     let ratio = library / peer;
     let verdict = match aim {
         None => "none".to_string(),
@@ -380,6 +381,7 @@ pub fn run(date: &str) -> bool {
     full_boards();
     woken();
     due_found();
+    pages();
     stack_used();
     true
 }

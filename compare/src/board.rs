@@ -38,6 +38,14 @@ pub struct Seen {
     pub due: u64,
 }
 
+#[repr(C)]
+#[derive(Clone, Copy, Debug, PartialEq)]
+pub struct Printed {
+    pub number: u32,
+    pub place: u32,
+    pub pages: u64,
+}
+
 extern "C" {
     fn fabrwent_load(listing: *const u8, listing_length: usize, table: *mut u32, table_length: usize) -> Loaded;
     fn fabrwent_start(
@@ -76,6 +84,17 @@ extern "C" {
         b_length: usize,
     ) -> Compared;
     fn fabrwent_look(table: *const u32, table_length: usize, machine: *const u32, machine_length: usize) -> Seen;
+    fn fabrwent_page(
+        moments: *const u64,
+        moments_length: usize,
+        outputs: *const u32,
+        outputs_length: usize,
+        values: *const u32,
+        values_length: usize,
+        page: u64,
+        memory: *mut u8,
+        memory_length: usize,
+    ) -> Printed;
 }
 
 /// The two lent lists of outputs.
@@ -147,6 +166,23 @@ pub fn alike(table: &[u32], a: &[u32], b: &[u32]) -> Compared {
 pub fn look(table: &[u32], machine: &[u32]) -> Seen {
     // SAFETY: as above; both memories are only read.
     unsafe { fabrwent_look(table.as_ptr(), table.len(), machine.as_ptr(), machine.len()) }
+}
+
+pub fn page(moments: &[u64], outputs: &[u32], values: &[u32], page: u64, memory: &mut [u8]) -> Printed {
+    // SAFETY: as above; the three lists are only read, and the memory is none of them.
+    unsafe {
+        fabrwent_page(
+            moments.as_ptr(),
+            moments.len(),
+            outputs.as_ptr(),
+            outputs.len(),
+            values.as_ptr(),
+            values.len(),
+            page,
+            memory.as_mut_ptr(),
+            memory.len(),
+        )
+    }
 }
 
 /// What a call must return for the model's answer.

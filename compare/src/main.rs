@@ -1,4 +1,4 @@
-//! An independent model of document 01, compared with stored answers, with the library and with a
+//! An independent model of document 01 and of document 02's pages, compared with stored answers, with the library and with a
 //! session program; and the benchmark. See README.md beside Cargo.toml.
 
 // Without the library only a part of the commands is there.
@@ -8,6 +8,8 @@
 mod bench;
 #[cfg(feature = "archive")]
 mod bench_listings;
+#[cfg(feature = "archive")]
+mod bench_pages;
 #[cfg(feature = "archive")]
 mod bench_queue;
 #[cfg(feature = "archive")]
@@ -22,8 +24,12 @@ mod expression;
 mod flat;
 mod layout;
 mod listing;
+#[cfg(feature = "archive")]
+mod pages;
 mod peer;
 mod plain;
+#[cfg(feature = "archive")]
+mod plain_page;
 mod played;
 mod programs;
 mod queues;
@@ -45,6 +51,8 @@ const USAGE: &str = "usage: compare vectors FOLDER
        compare session LISTING TRACE          (the model's print)
        compare answers [COUNT [SEED]]         (built with the library)
        compare bench [DATE]                   (built with the library)
+       compare bench pages                    (the rows of the valve book's pages alone)
+       compare pages [COUNT [SEED]]           (built with the library)
        compare plain [COUNT [SEED]]
        compare sessions PROGRAM [COUNT [SEED]]";
 
@@ -71,7 +79,14 @@ fn command(words: &[&str]) -> Option<bool> {
         #[cfg(feature = "archive")]
         ["answers", ..] => Some(report::run(figure(1, 1_000_000)?, figure(2, 1)?)),
         #[cfg(feature = "archive")]
+        ["bench", "pages"] => {
+            bench_pages::pages();
+            Some(true)
+        }
+        #[cfg(feature = "archive")]
         ["bench", ..] => Some(bench::run(words.get(1).unwrap_or(&"undated"))),
+        #[cfg(feature = "archive")]
+        ["pages", ..] => Some(pages::run(figure(1, 100_000)?, figure(2, 1)?)),
         ["plain", ..] => Some(peer::run(figure(1, 200_000)?, figure(2, 1)?)),
         ["sessions", program, ..] => {
             Some(told(played::sessions(Path::new(program), figure(2, 20_000)?, figure(3, 1)?)))

@@ -1,0 +1,194 @@
+//! A model of the valve book's pages (document 02, Change 1), written from that paragraph alone and by whole lists: the
+//! writes of each output, its openings, all openings sorted, rows by `format!`. And its comparison with the library.
+
+use crate::board;
+use crate::plain_page;
+use crate::random::Random;
+use std::collections::HashSet;
+
+const PAGE: usize = 2_700;
+const ROWS: usize = 60;
+
+/// Three lists of writes as they are lent, and the page that is asked for.
+pub struct Asked {
+    pub moments: Vec<u64>,
+    pub outputs: Vec<u32>,
+    pub values: Vec<u32>,
+    pub page: u64,
+}
+
+/// "A valve is open while its value isn't 0; a write that doesn't change open or closed gives no row."
+fn openings(asked: &Asked) -> Vec<(u64, u32, Option<u64>)> {
+    let mut all = Vec::new();
+    for output in 0..16 {
+        let own = (0..asked.moments.len()).filter(|&k| asked.outputs[k] == output);
+        let mut since = None;
+        for k in own {
+            match (since, asked.values[k]) {
+                (None, value) if value != 0 => since = Some(asked.moments[k]),
+                (Some(opened), 0) => {
+                    all.push((opened, output, Some(asked.moments[k])));
+                    since = None;
+                }
+                _ => {}
+            }
+        }
+        all.extend(since.map(|opened| (opened, output, None)));
+    }
+    // "Rows go by opening moment, then by output."
+    all.sort_by_key(|&(opened, output, _)| (opened, output));
+    all
+}
+
+/// Every page there is, each as 60 rows; "no openings give one page".
+fn pages(asked: &Asked) -> Vec<Vec<String>> {
+    let rows: Vec<String> = openings(asked)
+        .into_iter()
+        .map(|(opened, output, closed)| {
+            let open_for = closed.map_or("-".repeat(20), |closed| (closed - opened).to_string());
+            format!("{output:>2} {opened:>20} {open_for:>20}")
+        })
+        .collect();
+    let heading = format!("{:>2} {:>20} {:>20}", "NR", "OPENED", "OPEN FOR");
+    let mut pages: Vec<Vec<String>> = rows.chunks(ROWS - 1).map(|part| [&[heading.clone()], part].concat()).collect();
+    if pages.is_empty() {
+        pages.push(vec![heading]);
+    }
+    pages.iter_mut().for_each(|page| page.resize(ROWS, " ".repeat(44)));
+    pages
+}
+
+/// "Question 1 turns away short memory or unequal lists, 9 a moment that falls, 11 an output of 16 or more or listed twice
+/// in a moment."
+fn refusal(asked: &Asked, memory: usize) -> Option<u32> {
+    let Asked { moments, outputs, values, .. } = asked;
+    if memory < PAGE || moments.len() != outputs.len() || moments.len() != values.len() {
+        return Some(1);
+    }
+    if moments.windows(2).any(|two| two[1] < two[0]) {
+        return Some(9);
+    }
+    let mut listed = HashSet::new();
+    let once = moments.iter().zip(outputs).all(|write| *write.1 < 16 && listed.insert(write));
+    (!once).then_some(11)
+}
+
+/// Number and pages of the result, and the memory afterwards.
+pub fn answer(asked: &Asked, before: &[u8]) -> (u32, u64, Vec<u8>) {
+    if let Some(number) = refusal(asked, before.len()) {
+        return (number, 0, before.to_vec());
+    }
+    let pages = pages(asked);
+    let blank = vec![" ".repeat(44); ROWS];
+    let there = asked.page >= 1 && asked.page <= pages.len() as u64;
+    let rows = if there { &pages[asked.page as usize - 1] } else { &blank };
+    let mut after: Vec<u8> = rows.iter().flat_map(|row| [row.as_bytes(), b"\n"].concat()).collect();
+    after.extend(&before[PAGE..]);
+    (0, pages.len() as u64, after)
+}
+
+/// The moment after this one: mostly soon, at times far, up to the last of all.
+fn later(random: &mut Random, moment: u64) -> u64 {
+    match random.below(40) {
+        0 => moment.saturating_add(random.bits()),
+        1 => u64::MAX - (u64::MAX - moment) / 2,
+        2 => u64::MAX,
+        3..=12 => moment.saturating_add(1),
+        _ => moment.saturating_add(1 + random.below(100_000) as u64),
+    }
+}
+
+/// Lists that pass, unless the moments end: any number of writes a moment, in any order.
+fn passing(random: &mut Random) -> Asked {
+    let writes = if random.once_in(4) { random.below(1_200) } else { random.below(90) };
+    let (most, zeros, rising) = (*random.pick(&[1, 2, 4, 16]), 1 + random.below(6), random.once_in(3));
+    let mut asked = Asked { moments: vec![], outputs: vec![], values: vec![], page: 0 };
+    let mut moment = if random.once_in(3) { 0 } else { random.below(1_000) as u64 };
+    while asked.moments.len() < writes {
+        let mut outputs: Vec<u32> = (0..16).collect();
+        (1..16).for_each(|k| outputs.swap(k, random.below(k + 1)));
+        outputs.truncate(1 + random.below(most));
+        if rising {
+            outputs.sort();
+        }
+        for output in outputs {
+            asked.moments.push(moment);
+            asked.outputs.push(output);
+            asked.values.push(if random.once_in(zeros) { 0 } else { random.value() as u32 });
+        }
+        if moment == u64::MAX {
+            break;
+        }
+        moment = later(random, moment);
+    }
+    asked
+}
+
+/// Damage: a moment that falls, an output of 16 or more, a double somewhere, unequal lists.
+fn damage(random: &mut Random, asked: &mut Asked) {
+    let writes = asked.moments.len();
+    let at = random.below(writes.max(1));
+    match random.below(5) {
+        0 if writes > 1 && at > 0 => {
+            asked.moments[at] = asked.moments[at - 1].saturating_sub(1 + random.below(3) as u64)
+        }
+        1 if writes > 0 => asked.outputs[at] = 16 + *random.pick(&[0, 1, u32::MAX - 16]),
+        2 if writes > 0 => {
+            let same: Vec<usize> = (0..writes).filter(|&k| asked.moments[k] == asked.moments[at]).collect();
+            asked.outputs[at] = asked.outputs[*random.pick(&same)];
+        }
+        3 => asked.values.push(1),
+        _ => drop(asked.outputs.pop()),
+    }
+}
+
+fn case(seed: u64) -> (Asked, Vec<u8>) {
+    let random = &mut Random::new(seed ^ 0xB00C);
+    let mut asked = passing(random);
+    if random.once_in(4) {
+        damage(random, &mut asked);
+    }
+    asked.page = match random.below(12) {
+        0 => 0,
+        1 => random.bits(),
+        2 => u64::MAX / 59 + random.below(4) as u64,
+        3 => u64::MAX - random.below(3) as u64,
+        _ => 1 + random.below(asked.moments.len() / 59 + 2) as u64,
+    };
+    let length = if random.once_in(30) { PAGE - 1 - random.below(3) } else { PAGE + random.below(4) * 40 };
+    (asked, vec![random.bits() as u8; length])
+}
+
+/// What the library, or the plain pass of the benchmark, makes of the same.
+fn others(asked: &Asked, before: &[u8]) -> [(&'static str, u32, u64, Vec<u8>); 2] {
+    let Asked { moments, outputs, values, page } = asked;
+    let (mut memory, mut plain) = (before.to_vec(), before.to_vec());
+    let ours = board::page(moments, outputs, values, *page, &mut memory);
+    assert_eq!(ours.place, 0);
+    let (number, pages) = plain_page::page(moments, outputs, values, *page, &mut plain);
+    [("the library", ours.number, ours.pages, memory), ("the plain pass", number, pages, plain)]
+}
+
+/// So many lists and pages; says whether all agreed.
+pub fn run(count: u64, seed: u64) -> bool {
+    let (mut by_number, mut with_rows) = ([0u64; 12], 0);
+    for one in seed..seed.saturating_add(count) {
+        let (asked, before) = case(one);
+        let (number, pages, after) = answer(&asked, &before);
+        for (who, n, p, memory) in others(&asked, &before) {
+            if (n, p) != (number, pages) || memory != after {
+                println!("page case {one} differs: the model has {number} and {pages} pages, {who} {n} and {p}");
+                return false;
+            }
+        }
+        by_number[number as usize] += 1;
+        with_rows +=
+            u64::from(after.get(47..89).is_some_and(|row| number == 0 && row.iter().any(|&byte| byte != b' ')));
+    }
+    println!("pages {count} from seed {seed}, {with_rows} of them with rows; by number:");
+    for number in [0, 1, 9, 11] {
+        println!("{number:>6} {:>10}", by_number[number]);
+    }
+    println!("no difference");
+    true
+}

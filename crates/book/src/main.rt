@@ -64,12 +64,11 @@ fn say_first(moments: &[u64], outputs: &[u32], values: &[u32], count: usize)
     say_pages(&moments[..count], &outputs[..count], &values[..count]);
 }
 
-// The print's writes gathered, and their pages.
-fn say_book(print: &mut [u8]) {
+// The writes of a print that was made a trace, gathered, and their pages.
+fn say_book(print: &[u8]) {
     let mut moments = moment_list();
     let mut outputs = word_list();
     let mut values = word_list();
-    make_trace(print);
     let gathered = gather(print, &mut moments, &mut outputs, &mut values);
     if !gathered.all {
         io::write_all(
@@ -91,5 +90,6 @@ fn main() {
         );
         return;
     }
-    say_book(&mut print[..read]);
+    make_trace(&mut print);
+    say_book(&print[..read]);
 }

@@ -17,11 +17,13 @@ enum Order {
     Any,
 }
 
-/// Which values are written: half of them 0 at random; or by turns, so that a processor foresees them.
+/// Which values are written: half of them 0 at random; by turns, so that a processor foresees them; or never 0, so that
+/// each valve opens once.
 #[derive(Clone, Copy, PartialEq)]
 enum Values {
     Half,
     ByTurns,
+    Open,
 }
 
 struct Lists {
@@ -37,6 +39,7 @@ fn together(random: &mut Random, a_moment: usize, order: Order, values: Values, 
     let value = |random: &mut Random| match values {
         Values::Half => random.below(2) as u32 * (1 + random.below(5) as u32),
         Values::ByTurns => (moment % 2) as u32,
+        Values::Open => 1 + random.below(5) as u32,
     };
     let mut writes: Vec<(u32, u32)> = outputs[..a_moment].iter().map(|&output| (output, value(random))).collect();
     match order {
@@ -78,16 +81,19 @@ fn times(lists: &Lists, page: u64) -> (f64, f64) {
 pub fn pages() {
     println!("\n| a page of the valve book, each of a million writes | library | plain pass | ratio | aim |\n|---|---|---|---|---|");
     let orders = [(Order::Rising, "rising"), (Order::ZerosFirst, "0 first, then rising"), (Order::Any, "in any order")];
-    for (values, kind) in [(Values::Half, "values at random"), (Values::ByTurns, "all open, all close")] {
+    let kinds = [
+        (Values::Half, 1_000, "values at random"),
+        (Values::ByTurns, 1_000, "all open, all close"),
+        (Values::Open, 1, "none closes"),
+    ];
+    for (values, page, kind) in kinds {
         for (order, name) in orders {
             for a_moment in [1, 4, 16] {
-                if order != Order::Rising
-                    && (a_moment == 1 || (order == Order::ZerosFirst && values == Values::ByTurns))
-                {
+                if order != Order::Rising && (a_moment == 1 || (order == Order::ZerosFirst && values != Values::Half)) {
                     continue;
                 }
                 let lists = lists(a_moment, order, values);
-                row(&format!("{a_moment} a moment, {name}; {kind}"), times(&lists, 1_000), Some(AIM));
+                row(&format!("{a_moment} a moment, {name}; {kind}"), times(&lists, page), Some(AIM));
             }
         }
     }

@@ -153,7 +153,8 @@ fn case(seed: u64) -> (Asked, Vec<u8>) {
         1 => random.bits(),
         2 => u64::MAX / 59 + random.below(4) as u64,
         3 => u64::MAX - random.below(3) as u64,
-        _ => 1 + random.below(asked.moments.len() / 59 + 2) as u64,
+        4 => 1 + random.below(asked.moments.len() / 59 + 2) as u64,
+        _ => 1 + random.below(asked.moments.len() / 118 + 1) as u64,
     };
     let length = if random.once_in(30) { PAGE - 1 - random.below(3) } else { PAGE + random.below(4) * 40 };
     (asked, vec![random.bits() as u8; length])

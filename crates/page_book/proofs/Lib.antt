@@ -2,6 +2,7 @@ pub mod Entering
 pub mod Moments
 pub mod Turns
 pub mod Listed
+pub mod OwnLines
 pub mod AnyOrder
 pub mod Groups
 pub mod RowList

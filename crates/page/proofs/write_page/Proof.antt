@@ -1,7 +1,7 @@
 -- `page::write_page` meets its contract.
 use native.Mathlib.Omega.{arith}
 use denote.Ref.{now}
-use Rattle.page_book.proofs.AnyOrder.{apart-none}
+use Rattle.page_book.proofs.OwnLines.{apart-none}
 use Rattle.page.proofs.Written as written
 use borrow.Author.Needs.{needs}
 use Rattle.page.proofs.write_page.Statement.{statement}

@@ -7,4 +7,5 @@ pub mod Closings
 pub mod SortedOpenings
 pub mod OneMore
 pub mod Listed
+pub mod InOrder
 pub mod Examples

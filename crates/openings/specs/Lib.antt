@@ -2,3 +2,4 @@ pub mod Writes
 pub mod Openings
 pub mod Order
 pub mod Questions
+pub mod InOrder

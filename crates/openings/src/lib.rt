@@ -7,7 +7,9 @@ ghost use Prim.Native.Nat.{ℕ};
 ghost use lib.Dec.{eqb};
 ghost use lib.ListN.{length};
 ghost use Rattle.openings.specs.Writes.{writesOf};
+ghost use Rattle.openings.specs.Order.{precedes};
 ghost use Rattle.openings.specs.Questions.{noneFalls, listedOnce};
+ghost use Rattle.openings.specs.InOrder.{inOrder};
 use words::number;
 
 const OUTPUTS: u32 = 16;
@@ -63,6 +65,43 @@ pub fn listed_once(moments: &[u64], outputs: &[u32]) -> bool
         }
         k += 1;
         past[valve] = k;
+    }
+    true
+}
+
+// "by opening moment, then by output": does the write come before the output `least` in the moment `before`?
+fn comes_before(moment: u64, output: u32, before: u64, least: u32) -> bool
+    ensures { λ r. ⌜ r ≡ precedes moment output before least ⌝ }
+{
+    if moment > before {
+        return false;
+    }
+    if moment < before {
+        return true;
+    }
+    output < least
+}
+
+// Does each write come behind the one listed before it, and is every output below 16? Such lists pass 9 and 11, and are sorted.
+pub fn in_order(moments: &[u64], outputs: &[u32]) -> bool
+    requires { ⌜ length (now moments) ≡ length (now outputs) ⌝ }
+    ensures { λ r. ⌜ r ≡ inOrder (now (moments .entry)) (now (outputs .entry)) ⌝ }
+{
+    let mut before: u64 = 0;
+    let mut least: u32 = 0;
+    let mut k: usize = 0;
+    while k < moments.len() {
+        let output = outputs[k];
+        if output >= OUTPUTS {
+            return false;
+        }
+        let moment = moments[k];
+        if comes_before(moment, output, before, least) {
+            return false;
+        }
+        before = moment;
+        least = output + 1;
+        k += 1;
     }
     true
 }

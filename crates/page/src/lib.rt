@@ -8,8 +8,10 @@ ghost use lib.ListN.{length, drop};
 ghost use Rattle.openings.specs.Writes.{writesOf};
 ghost use Rattle.openings.specs.Order.{sortedOpenings};
 ghost use Rattle.openings.specs.Questions.{noneFalls, listedOnce};
+ghost use Rattle.openings.specs.InOrder.{inOrder};
 ghost use Rattle.page.specs.Pages.{pageCount, pageBytes};
 ghost use Rattle.page.specs.Call.{firstOpening, refusal, PageFigures};
+use openings::in_order;
 use openings::listed_once;
 use openings::none_falls;
 use page_book::enter_writes;
@@ -57,10 +59,18 @@ fn page_count(openings: u64) -> u64
     (openings - 1) / OPENINGS_ON_PAGE + 1
 }
 
-// The page, of lists that have passed the questions; how many pages there are.
-fn write_page(moments: &[u64], outputs: &[u32], values: &[u32], page: u64, memory: &mut [u8]) -> u64
+// The page, of lists that have passed the questions; how many pages there are. `ordered` says whether the lists are in order.
+fn write_page(
+    moments: &[u64],
+    outputs: &[u32],
+    values: &[u32],
+    ordered: bool,
+    page: u64,
+    memory: &mut [u8],
+) -> u64
     requires { ⌜ (2700 ≤ length (now memory)) × (length (now moments) ≡ length (now outputs)) × (length (now moments) ≡ length (now values))
-        × (noneFalls (now moments) ≡ true) × (listedOnce (writesOf (now moments) (now outputs) (now values)) ≡ true) ⌝ }
+        × (noneFalls (now moments) ≡ true) × (listedOnce (writesOf (now moments) (now outputs) (now values)) ≡ true)
+        × (ordered ≡ inOrder (now moments) (now outputs)) ⌝ }
     ensures { λ r. ⌜ (now (memory .exit) ≡ pageBytes page (sortedOpenings (writesOf (now (moments .entry)) (now (outputs .entry)) (now (values .entry)))) ++ drop 2700 (now (memory .entry)))
         × (r ≡ pageCount (length (sortedOpenings (writesOf (now (moments .entry)) (now (outputs .entry)) (now (values .entry)))))) ⌝ }
 {
@@ -76,6 +86,7 @@ fn write_page(moments: &[u64], outputs: &[u32], values: &[u32], page: u64, memor
         moments,
         outputs,
         values,
+        ordered,
     );
     let pages = page_count(count);
     if page == 0 {
@@ -99,7 +110,7 @@ fn refused(number: u32) -> Printed
     }
 }
 
-// Questions 1, 9 and 11, each put to the whole lists before the next; then the page.
+// Questions 1, 9 and 11, each put to the whole lists before the next; then the page. Lists in order pass 9 and 11.
 pub fn print_page(
     moments: &[u64],
     outputs: &[u32],
@@ -118,13 +129,16 @@ pub fn print_page(
     if moments.len() != values.len() {
         return refused(1);
     }
-    if !none_falls(moments) {
-        return refused(9);
+    let ordered = in_order(moments, outputs);
+    if !ordered {
+        if !none_falls(moments) {
+            return refused(9);
+        }
+        if !listed_once(moments, outputs) {
+            return refused(11);
+        }
     }
-    if !listed_once(moments, outputs) {
-        return refused(11);
-    }
-    let pages = write_page(moments, outputs, values, page, memory);
+    let pages = write_page(moments, outputs, values, ordered, page, memory);
     Printed {
         number: 0,
         place: 0,

@@ -1,19 +1,19 @@
 -- One write entered, by the cases of the code. Letters: b the book before, k the output's place in the arrays.
 use mathlib.Core.Path.{_≡_, refl, sym, ap, ap₂, _∙_}
-use mathlib.Core.Bool.{Bool, true, false, cond, _&&_}
+use mathlib.Core.Bool.{Bool, true, false, cond, _&&_, not}
 use mathlib.Core.List.{List, [], _∷_}
 use mathlib.Core.Option.{none}
 use Prim.Native.Nat.{ℕ, _+_, _-_, _*_, _≤_, _<_}
 use native.Mathlib.Omega.{arith}
 use lib.Dec.{eqb, leb, ltb}
 use lib.ListN.{length, getD, set, length-set}
-use lib.Seq.{sets, length-sets}
-use borrow.Author.Tests.{le-leb, lt-leb, lt-ltb, le-ltb, eq-eqb, ne-eqb}
+use lib.Seq.{sets, length-sets, set-getD}
+use borrow.Author.Tests.{le-leb, lt-leb, lt-ltb, le-ltb, eq-eqb, ne-eqb, eqb-true, eqb-false, not-true}
 use Rattle.listing.specs.Bytes.{Bytes, figure}
 use Rattle.openings.specs.Writes.{Write}
 use Rattle.openings.specs.Openings.{isZero}
 use Rattle.page_rows.specs.Rows.{rightAligned, row}
-use Rattle.page_book.specs.Book.{Book, bookOf, lineOf, onPage, rowClosed, rowOpened, valveClosed, valveOpened, enteredBy, entered, allEntered}
+use Rattle.page_book.specs.Book.{Book, bookOf, lineOf, onPage, rowClosed, rowOpened, valveClosed, valveOpened, enteredBy, leavesValve, entered, allEntered}
 
 -- ── the line of an opening ────────────────────────────────────────────────────────────────────────
 pub line-before : (first number : ℕ) → number < first → 60 ≡ lineOf first number
@@ -106,6 +106,18 @@ module _ (first : ℕ) (memory : Bytes) (lines opened : List ℕ) (count moment 
   enters-new k e n m line f g =
       let l : eqb (getD lines output 0) 0 ≡ true = rw (← e) (eq-eqb (getD lines k 0) 0 m) in
       rw (g, f, e, ne-eqb value 0 n, l)
+
+  pub enters-same : (k : ℕ) → k ≡ output → leavesValve (getD lines k 0) value ≡ true → before ≡ entered first before write
+  unfolding leavesValve
+  enters-same k e h = go (eqb value 0) refl h
+    where
+      go : (b : Bool) → eqb value 0 ≡ b → cond b (eqb (getD lines k 0) 0) (not (eqb (getD lines k 0) 0)) ≡ true → before ≡ entered first before write
+      go true z c =
+          let l = eqb-true (getD lines k 0) 0 c in
+          let same : set lines k 0 ≡ lines = ap (set lines k) (sym l) ∙ set-getD lines k 0 in
+          ap (λ (ls : List ℕ). bookOf memory ls opened count) (sym same)
+          ∙ enters-zero k e (eqb-true value 0 z) (moment - getD opened k 0) refl (none-closed memory (getD lines k 0) (moment - getD opened k 0) l)
+      go false z c = enters-still k e (eqb-false value 0 z) (eqb-false (getD lines k 0) 0 (not-true (eqb (getD lines k 0) 0) c))
 
 -- ── nothing is longer or shorter ──────────────────────────────────────────────────────────────────
 closed-long : (memory : Bytes) (line milliseconds : ℕ) → length (rowClosed memory line milliseconds) ≡ length memory

@@ -1,6 +1,6 @@
 -- The book while it is written: one write after another enters it, in the order of the rows. A row is written with hyphens when its valve opens, and
 -- its last column when the valve closes.
-use mathlib.Core.Bool.{Bool, true, false, cond, _&&_}
+use mathlib.Core.Bool.{Bool, true, false, cond, _&&_, not}
 use mathlib.Core.List.{List, [], _∷_}
 use mathlib.Core.Option.{none}
 use Prim.Native.Nat.{ℕ, _+_, _-_, _*_}
@@ -53,6 +53,10 @@ unfoldable pub enteredBy : Bool → Bool → ℕ → Write → Book → Book
 enteredBy true isClosed first w b = valveClosed w b
 enteredBy false true first w b = valveOpened first w b
 enteredBy false false first w b = b
+
+-- "a write that doesn't change open or closed": of this value, with the valve's line
+unfoldable pub leavesValve : ℕ → ℕ → Bool
+leavesValve line value = cond (eqb value 0) (eqb line 0) (not (eqb line 0))
 
 -- one write entered
 unfoldable pub entered : ℕ → Book → Write → Book

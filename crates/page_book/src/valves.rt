@@ -2,7 +2,7 @@
 ghost use mathlib.Core.Path.{_≡_};
 ghost use Prim.Native.Nat.{_+_, _-_, _≤_, _<_};
 ghost use lib.ListN.{length};
-ghost use Rattle.page_book.specs.Book.{bookOf, lineOf, rowClosed, rowOpened, entered};
+ghost use Rattle.page_book.specs.Book.{bookOf, lineOf, rowClosed, rowOpened, leavesValve, entered};
 use page_rows::put_open_for;
 use page_rows::put_row;
 use words::number;
@@ -102,4 +102,37 @@ pub fn enter_write(
     opened[valve] = moment;
     open_row(memory, new, output, moment);
     count + 1
+}
+
+// Does a write of this value leave the valve with this line as it is, open or closed?
+fn leaves_valve(line: u8, value: u32) -> bool
+    ensures { λ r. ⌜ r ≡ leavesValve line value ⌝ }
+{
+    if value == 0 {
+        return line == 0;
+    }
+    line != 0
+}
+
+// The write enters; one that changes nothing is told by a look at its valve.
+pub fn enter_change(
+    memory: &mut [u8],
+    lines: &mut [u8; 16],
+    opened: &mut [u64; 16],
+    first: u64,
+    count: u64,
+    moment: u64,
+    output: u32,
+    value: u32,
+) -> u64
+    requires { ⌜ (length (now lines) ≡ 16) × (length (now opened) ≡ 16) × (output < 16) × (count < 18446744073709551615) ⌝ }
+    ensures { λ r. ⌜ (bookOf (now (memory .exit)) (now (lines .exit)) (now (opened .exit)) r ≡
+        entered first (bookOf (now (memory .entry)) (now (lines .entry)) (now (opened .entry)) count) (record { moment = moment; output = output; value = value }))
+        × (length (now (lines .exit)) ≡ 16) × (length (now (opened .exit)) ≡ 16) × (r ≤ count + 1) ⌝ }
+{
+    let valve = number(output);
+    if leaves_valve(lines[valve], value) {
+        return count;
+    }
+    enter_write(memory, lines, opened, first, count, moment, output, value)
 }

@@ -1,8 +1,9 @@
 -- `page::print_page` meets its contract.
 use mathlib.Core.Path.{_≡_, sym, _∙_}
-use native.Mathlib.Omega.{arith}
+use mathlib.Core.Logic.{⊎-elim}
 use denote.Ref.{now}
 use borrow.Author.Tests.{not-true, not-false}
+use Rattle.openings.proofs.InOrder.{in-order-rises, in-order-once}
 use Rattle.page.proofs.Answers as answers
 use borrow.Author.Needs.{needs}
 use Rattle.page.proofs.print_page.Statement.{statement}
@@ -32,6 +33,9 @@ returns-3 c =
     let a = c .before .before .before .before .before .before .before .before .args in
     answers.values-unequal (now (a .moments)) (now (a .outputs)) (now (a .values)) (a .page) (now (a .memory)) (c .before .before .before .if1 .left) (c .before .before .if2 .left) (c .before .if3 .taken) _ (c .refused3 .ensures)
 
+in-order-requires : tie.Need-in-order-requires
+in-order-requires c κs = search needs
+
 none-falls-requires : tie.Need-none-falls-requires
 none-falls-requires c κs = search needs
 
@@ -40,43 +44,50 @@ refused-requires-4 c κs = search needs
 
 returns-4 : tie.Need-returns-4
 returns-4 c =
-    let past = c .before .before .before .before .before .before in
-    let a = past .before .before .before .before .args in
-    answers.moment-falls (now (a .moments)) (now (a .outputs)) (now (a .values)) (a .page) (now (a .memory)) (c .before .before .before .before .before .if1 .left) (c .before .before .before .before .if2 .left) (c .before .before .before .if3 .left) (sym (c .before .before .none-falls .ensures) ∙ not-true _ (c .before .if4 .taken)) _ (c .refused4 .ensures)
+    let past = c .before .before .before .before .before in
+    let a = past .before .before .before .before .before .before .before .args in
+    answers.moment-falls (now (a .moments)) (now (a .outputs)) (now (a .values)) (a .page) (now (a .memory)) (past .before .before .if1 .left) (past .before .if2 .left) (past .if3 .left) (sym (c .before .before .none-falls .ensures) ∙ not-true _ (c .before .if5 .taken)) _ (c .refused4 .ensures)
 
 listed-once-requires : tie.Need-listed-once-requires
 listed-once-requires c κs =
-    (c .before .before .before .if2 .left, sym (c .before .none-falls .ensures) ∙ not-false _ (c .if4 .left))
+    (c .before .before .before .before .before .if2 .left, sym (c .before .none-falls .ensures) ∙ not-false _ (c .if5 .left))
 
 refused-requires-5 : tie.Need-refused-requires-5
 refused-requires-5 c κs = search needs
 
 returns-5 : tie.Need-returns-5
 returns-5 c =
-    let past = c .before .before .before .before .before .before in
-    let earlier = past .before .before .before .before .before .before in
-    let a = earlier .args in
-    answers.listed-twice (now (a .moments)) (now (a .outputs)) (now (a .values)) (a .page) (now (a .memory)) (past .before .if1 .left) (past .if2 .left) (c .before .before .before .before .before .if3 .left) (sym (c .before .before .before .before .none-falls .ensures) ∙ not-false _ (c .before .before .before .if4 .left))
-    (sym (c .before .before .listed-once .ensures (now (a .values)) (sym (c .before .before .before .before .before .if3 .left))) ∙ not-true _ (c .before .if5 .taken)) _ (c .refused5 .ensures)
+    let past = c .before .before .before .before .before .before .before in
+    let a = past .before .before .before .before .before .before .before .args in
+    answers.listed-twice (now (a .moments)) (now (a .outputs)) (now (a .values)) (a .page) (now (a .memory)) (past .before .before .if1 .left) (past .before .if2 .left) (past .if3 .left) (sym (c .before .before .before .before .none-falls .ensures) ∙ not-false _ (c .before .before .before .if5 .left))
+    (sym (c .before .before .listed-once .ensures (now (a .values)) (sym (past .if3 .left))) ∙ not-true _ (c .before .if6 .taken)) _ (c .refused5 .ensures)
 
 write-page-requires : tie.Need-write-page-requires
 write-page-requires c κs =
-    let past = c .before .before .before .before .before .before in
-    let earlier = past .before .before .before .before .before .before in
-    let a = earlier .args in
-    (past .before .if1 .left, past .if2 .left, c .before .before .before .before .before .if3 .left, sym (c .before .before .before .before .none-falls .ensures) ∙ not-false _ (c .before .before .before .if4 .left), sym (c .before .before .listed-once .ensures (now (a .values)) (sym (c .before .before .before .before .before .if3 .left))) ∙ not-false _ (c .before .if5 .left))
+    let a = c .before .before .before .before .before .before .before .before .before .before .args in
+    let ms = now (a .moments) in
+    let os = now (a .outputs) in
+    let vs = now (a .values) in
+    let same = c .before .before .before .before .if2 .left in
+    let order = c .before .before .in-order .ensures in (
+      c .before .before .before .before .before .if1 .left,
+      same,
+      c .before .before .before .if3 .left,
+      ⊎-elim (λ w. sym (w .1 .ensures) ∙ not-false _ (w .2 .left)) (λ w. in-order-rises 0 0 ms os same (sym order ∙ not-false _ (w .left))) (c .before .if4 .came),
+      ⊎-elim (λ w. sym (w .3 .ensures vs (sym (c .before .before .before .if3 .left))) ∙ not-false _ (w .4 .left)) (λ w. in-order-once ms os vs (sym order ∙ not-false _ (w .left))) (c .before .if4 .came),
+      order,
+    )
 
 same-length : tie.Need-same-length
 same-length c = search needs
 
 returns-6 : tie.Need-returns-6
 returns-6 c =
-    let past = c .before .before .before .before .before .before in
-    let earlier = past .before .before .before .before .before .before in
-    let a = earlier .before .before .before .args in
+    let start = c .before .before .before .before .before .before .before .before .before .before .before .before .before in
+    let a = start .args in
+    let p = write-page-requires (c .before .before .before) (start .κs) in
     let e = c .before .before .write-page .ensures in
-    answers.page-printed (now (a .moments)) (now (a .outputs)) (now (a .values)) (a .page) (now (a .memory)) (past .before .before .before .before .if1 .left) (past .before .before .before .if2 .left) (past .before .before .if3 .left) (sym (past .before .none-falls .ensures) ∙ not-false _ (past .if4 .left))
-    (sym (c .before .before .before .before .before .listed-once .ensures (now (a .values)) (sym (past .before .before .if3 .left))) ∙ not-false _ (c .before .before .before .before .if5 .left)) _ _ (e .0) (e .1)
+    answers.page-printed (now (a .moments)) (now (a .outputs)) (now (a .values)) (a .page) (now (a .memory)) (p .0) (p .1) (p .2) (p .3) (p .4) _ _ (e .0) (e .1)
 
 pub print-page-spec : {M : Type 1} → statement M
 print-page-spec =
@@ -88,6 +99,7 @@ print-page-spec =
     returns-2
     refused-requires-3
     returns-3
+    in-order-requires
     none-falls-requires
     refused-requires-4
     returns-4

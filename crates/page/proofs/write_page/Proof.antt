@@ -15,7 +15,7 @@ first-opening-requires c κs = search needs
 
 enter-writes-requires : tie.Need-enter-writes-requires
 enter-writes-requires c κs =
-    (search needs, search needs, search needs, search needs, search needs, search needs, apart-none _)
+    (search needs, search needs, search needs, search needs, search needs, search needs, apart-none _, search needs)
 
 page-count-requires : tie.Need-page-count-requires
 page-count-requires c κs = search needs

@@ -38,15 +38,16 @@
  *   are 0; the output lists as they were; the other figures of the result 0. Only a
  *   start makes a stopped machine run again.
  *
- * WHAT A CALL COSTS. Steps are counted and proved. Stack and time are measured, on one
- * machine (AMD EPYC, x86-64 Linux; docs/BENCHMARKS.md), and neither is promised.
+ * WHAT A CALL COSTS. Steps are counted and proved. Stack and time are measured, the
+ * larger figure of two machines (AMD EPYC, Intel Xeon; docs/BENCHMARKS.md), and neither
+ * is promised.
  *
  *              stack, bytes   time
- *     load          984       21 ns for each byte of the listing
- *     start       1,072       7 us on a full table, and its steps
+ *     load        1,048       21 ns for each byte of the listing
+ *     start       1,072       10 us on a full table, and its steps
  *     instant     2,488       28 us on a full table with 64 routines and 1,024 waiting
  *                             writes, and its steps
- *     alike       1,880       17 us for two such machines
+ *     alike       1,880       22 us for two such machines
  *     look      not measured; it puts the questions of an alike to one machine
  *
  * A step takes 6 to 40 ns with expressions of up to 73 pieces, 0.9 us if it writes a

@@ -1,49 +1,96 @@
 -- The check of an expression, piece by piece.
 use mathlib.Core.Path.{_≡_, refl, sym, ap, _∙_}
-use mathlib.Core.Bool.{Bool, true, false, cond, _&&_}
+use mathlib.Core.Bool.{Bool, true, false, cond, _&&_, _||_}
 use mathlib.Core.List.{List}
 use Prim.Native.Nat.{ℕ, zero, suc, _+_, _-_, _≤_, _<_}
 use native.Mathlib.Omega.{arith}
-use lib.Dec.{eqb, leb}
+use lib.Dec.{eqb, ltb, leb}
 use lib.ListN.{getD}
-use borrow.Author.Tests.{ne-eqb, le-leb}
+use borrow.Author.Tests.{eqb-true, ne-eqb, le-leb}
 use Rattle.listing.specs.Lists.{all}
 use Rattle.listing.specs.Listing.{Piece, literal, valueOf, writtenMark, plus, minus, times, less}
 use Rattle.listing.specs.Expressions.{effectOf, mayCome, heldWith, leavesOneFrom}
 use Rattle.listing.specs.Questions.{pieceIsThere}
 use Rattle.listing.proofs.Effects.{held-most}
-use Rattle.listing_effect.specs.Held.{heldAfter}
+use Rattle.listing_effect.specs.Held.{heldAfter, asEffect}
+use Rattle.listing_effect.specs.declared.Effect.the-variants as EV
 use Rattle.listing_effect.proofs.Held.{after-effect}
 use Rattle.table.specs.Areas.{wordsOfEach, pieceWords}
 use Rattle.table.specs.Decode.{word, noPiece, pieceOf, pieceAt, cellsAt, piecesAt}
 use Rattle.table.proofs.Lengths.{piece-two}
 use Rattle.table.proofs.Tests.{and-no, and-yes}
-use Rattle.table_check_cells.specs.Pass.{sameAt, effectBy, pieceTest, heldPast, expressionTest}
-use Rattle.table_check_cells.proofs.Words.{same-split}
+use Rattle.table_check_cells.specs.Pass.{sameAt, isSign, isNamed, effectBy, pieceTest, heldPast, expressionTest}
+use Rattle.table_check_cells.proofs.Words.{same-split, same-number}
 
 -- ── a piece by the number of its kind ────────────────────────────────────────────
--- a number that is no kind's
-pub record NoKind (kind : ℕ) : Type 0 where
-  pub not0 : kind ≡ 0 → ⊥
-  pub not1 : kind ≡ 1 → ⊥
-  pub not2 : kind ≡ 2 → ⊥
-  pub not3 : kind ≡ 3 → ⊥
-  pub not4 : kind ≡ 4 → ⊥
-  pub not5 : kind ≡ 5 → ⊥
-  pub not6 : kind ≡ 6 → ⊥
+-- what holds of each sign's number holds of a sign's number
+sign-is : (P : ℕ → Type 0) (kind : ℕ) → isSign kind ≡ true → P 3 → P 4 → P 5 → P 6 → P kind
+unfolding isSign
+sign-is P k h a b c d = go (eqb k 3) refl (eqb k 4) refl (eqb k 5) refl (eqb k 6) refl h
+  where
+    go : (x : Bool) → eqb k 3 ≡ x → (y : Bool) → eqb k 4 ≡ y → (z : Bool) → eqb k 5 ≡ z → (u : Bool) → eqb k 6 ≡ u → (x || (y || (z || u))) ≡ true → P k
+    go true e y f z g u i h = rw (eqb-true k 3 e) a
+    go false e true f z g u i h = rw (eqb-true k 4 f) b
+    go false e false f true g u i h = rw (eqb-true k 5 g) c
+    go false e false f false g true i h = rw (eqb-true k 6 i) d
+    go false e false f false g false i h = absurd (let z : _≡_ {A = ℕ} 0 1 = cc in omega arith)
 
-no-piece : (kind value : ℕ) → NoKind kind → pieceOf kind value ≡ noPiece
-unfolding pieceOf
-no-piece k v n =
-    rw (ne-eqb k 0 (n .not0), ne-eqb k 1 (n .not1), ne-eqb k 2 (n .not2), ne-eqb k 3 (n .not3), ne-eqb k 4 (n .not4), ne-eqb k 5 (n .not5), ne-eqb k 6 (n .not6))
+named-is : (P : ℕ → Type 0) (kind : ℕ) → isNamed kind ≡ true → P 1 → P 2 → P kind
+unfolding isNamed
+named-is P k h a b = go (eqb k 1) refl (eqb k 2) refl h
+  where
+    go : (x : Bool) → eqb k 1 ≡ x → (y : Bool) → eqb k 2 ≡ y → (x || y) ≡ true → P k
+    go true e y f h = rw (eqb-true k 1 e) a
+    go false e true f h = rw (eqb-true k 2 f) b
+    go false e false f h = absurd (let z : _≡_ {A = ℕ} 0 1 = cc in omega arith)
 
-pub effect-none : (kind : ℕ) → NoKind kind → effectBy 0 ≡ effectBy kind
-unfolding effectBy pieceOf
-effect-none k n = rw (no-piece k 0 n)
+neither : (x y : Bool) → (x || y) ≡ false → (x ≡ false) × (y ≡ false)
+neither false y h = (refl, h)
+neither true y h = absurd (let z : _≡_ {A = ℕ} 0 1 = cc in omega arith)
 
-pub test-none : (names kind value : ℕ) → NoKind kind → false ≡ pieceTest names kind value
-unfolding pieceTest pieceIsThere pieceWords
-test-none names k v n = rw (no-piece k v n, ne-eqb k 0 (n .not0))
+-- a number that is no sign's
+no-sign : (kind value : ℕ) → isSign kind ≡ false
+    → pieceOf kind value ≡ cond (eqb kind 0) (literal value) (cond (eqb kind 1) (valueOf value) (cond (eqb kind 2) (writtenMark value) noPiece))
+unfolding isSign pieceOf
+no-sign k v h =
+    let first = neither (eqb k 3) _ h in
+    let second = neither (eqb k 4) _ (first .1) in
+    let third = neither (eqb k 5) _ (second .1) in
+    rw (first .0, second .0, third .0, third .1)
+
+pub sign-joins : (kind : ℕ) → isSign kind ≡ true → EV.Joins ≡ effectBy kind
+unfolding effectBy pieceOf effectOf
+sign-joins k h = sign-is (λ n. EV.Joins ≡ effectBy n) k h refl refl refl refl
+
+pub other-adds : (kind : ℕ) → isSign kind ≡ false → EV.Adds ≡ effectBy kind
+unfolding effectBy effectOf
+other-adds k h = rw (no-sign k 0 h) (go (eqb k 0) (eqb k 1) (eqb k 2))
+  where
+    go : (x y z : Bool) → EV.Adds ≡ asEffect (effectOf (cond x (literal 0) (cond y (valueOf 0) (cond z (writtenMark 0) noPiece))))
+    go true y z = refl
+    go false true z = refl
+    go false false true = refl
+    go false false false = refl
+
+pub literal-test : (names value : ℕ) → true ≡ pieceTest names 0 value
+unfolding pieceTest pieceOf pieceIsThere pieceWords
+literal-test names v = rw (same-number v)
+
+pub sign-test : (names kind value : ℕ) → isSign kind ≡ true → eqb value 0 ≡ pieceTest names kind value
+unfolding pieceTest pieceOf pieceIsThere pieceWords
+sign-test names k v h = sign-is (λ n. eqb v 0 ≡ pieceTest names n v) k h refl refl refl refl
+
+pub named-test : (names kind value : ℕ) → isNamed kind ≡ true → ltb value names ≡ pieceTest names kind value
+unfolding pieceTest pieceOf pieceIsThere pieceWords
+named-test names k v h =
+    let one : ltb v names ≡ (ltb v names && (true && eqb v v)) = rw (same-number v, and-yes (ltb v names)) in
+    named-is (λ n. ltb v names ≡ pieceTest names n v) k h one one
+
+pub none-test : (names kind value : ℕ) → (kind ≡ 0 → ⊥) → isNamed kind ≡ false → isSign kind ≡ false → false ≡ pieceTest names kind value
+unfolding pieceTest pieceIsThere pieceWords isNamed
+none-test names k v n h s =
+    let named = neither (eqb k 1) (eqb k 2) h in
+    rw (no-sign k v s, ne-eqb k 0 n, named .0, named .1) (rw (ne-eqb k 0 n))
 
 -- the effect does not depend on the value
 effect-kind : (kind value : ℕ) → effectOf (pieceOf kind value) ≡ effectOf (pieceOf kind 0)

@@ -1,6 +1,6 @@
 -- What the check of a routine's instructions computes on a table's words: one pass, with a running address of the cells.
 -- The words are compared with those of what they decode to, and what they decode to is asked question 6's conditions.
-use mathlib.Core.Bool.{Bool, true, cond, _&&_}
+use mathlib.Core.Bool.{Bool, true, cond, _&&_, _||_}
 use mathlib.Core.List.{List, [], _∷_}
 use Prim.Native.Nat.{ℕ, zero, suc, _+_, _*_, _<_}
 use lib.Dec.{eqb, ltb, leb}
@@ -28,6 +28,13 @@ abbrev pub routinesIn : List ℕ → List Routine
 routinesIn w = tableListing w .routines
 
 -- ── expressions ──────────────────────────────────────────────────────────────────
+-- is it the number of a sign, of a name's value or mark?
+unfoldable pub isSign : ℕ → Bool
+isSign kind = eqb kind 3 || (eqb kind 4 || (eqb kind 5 || eqb kind 6))
+
+unfoldable pub isNamed : ℕ → Bool
+isNamed kind = eqb kind 1 || eqb kind 2
+
 -- what a piece of this kind does to the values held
 unfoldable pub effectBy : ℕ → Effect
 effectBy kind = asEffect (effectOf (pieceOf kind 0))

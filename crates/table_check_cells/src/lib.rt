@@ -7,7 +7,7 @@ ghost use Prim.Native.Nat.{_+_, _*_, _≤_};
 ghost use lib.ListN.{length};
 ghost use Rattle.table.specs.Areas.{TableLong};
 ghost use Rattle.table.specs.Decode.{word};
-ghost use Rattle.table_check_cells.specs.Pass.{effectBy, pieceTest, heldPast, expressionTest, namesTest, headTest, callsPast};
+ghost use Rattle.table_check_cells.specs.Pass.{isSign, isNamed, effectBy, pieceTest, heldPast, expressionTest, namesTest, headTest, callsPast};
 use listing_effect::Effect;
 use listing_effect::OUT_OF_FORM;
 use listing_effect::held_after;
@@ -28,36 +28,54 @@ use table_read::head_at;
 use table_read::next_head;
 use words::number;
 
+// Is it the kind of a sign?
+fn is_sign(kind: u32) -> bool
+    ensures { λ r. ⌜ r ≡ isSign kind ⌝ }
+{
+    match kind {
+        PLUS => true,
+        MINUS => true,
+        TIMES => true,
+        LESS => true,
+        _ => false,
+    }
+}
+
+// Is it the kind of a name's value or mark?
+fn is_named(kind: u32) -> bool
+    ensures { λ r. ⌜ r ≡ isNamed kind ⌝ }
+{
+    match kind {
+        VALUE_OF => true,
+        WRITTEN_MARK => true,
+        _ => false,
+    }
+}
+
 // What a piece of this kind does to the values held.
 fn effect_of(kind: u32) -> Effect
     ensures { λ r. ⌜ r ≡ effectBy kind ⌝ }
 {
-    match kind {
-        LITERAL => Effect::Adds,
-        VALUE_OF => Effect::Adds,
-        WRITTEN_MARK => Effect::Adds,
-        PLUS => Effect::Joins,
-        MINUS => Effect::Joins,
-        TIMES => Effect::Joins,
-        LESS => Effect::Joins,
-        _ => Effect::Adds,
+    if is_sign(kind) {
+        return Effect::Joins;
     }
+    Effect::Adds
 }
 
 // Is it a piece, its name there, and a sign's value 0?
 fn piece_passes(names: u32, kind: u32, value: u32) -> bool
     ensures { λ r. ⌜ r ≡ pieceTest names kind value ⌝ }
 {
-    match kind {
-        LITERAL => true,
-        VALUE_OF => value < names,
-        WRITTEN_MARK => value < names,
-        PLUS => value == 0,
-        MINUS => value == 0,
-        TIMES => value == 0,
-        LESS => value == 0,
-        _ => false,
+    if kind == LITERAL {
+        return true;
     }
+    if is_named(kind) {
+        return value < names;
+    }
+    if is_sign(kind) {
+        return value == 0;
+    }
+    false
 }
 
 // The number of values held after the piece at `a`.

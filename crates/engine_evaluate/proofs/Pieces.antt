@@ -2,8 +2,8 @@
 use mathlib.Core.Path.{_≡_, refl, sym, ap, _∙_}
 use mathlib.Core.Bool.{Bool, true, false, _&&_}
 use mathlib.Core.List.{List, _∷_}
-use Prim.Native.Nat.{ℕ, zero, suc, _+_, _≤_, _<_}
-use lib.Dec.{eqb, leb}
+use Prim.Native.Nat.{ℕ, _+_, _≤_, _<_}
+use lib.Dec.{eqb}
 use native.Mathlib.Omega.{arith}
 use lib.ListN.{length}
 use borrow.Author.Tests.{ne-eqb, ltb-true, leb-true}
@@ -11,11 +11,12 @@ use Rattle.words.specs.Words.{bit}
 use Rattle.listing.specs.Listing.{Piece}
 use Rattle.listing.specs.Expressions.{adds, joins, effectOf, mayCome, heldWith}
 use Rattle.listing.specs.Questions.{pieceIsThere}
-use Rattle.table.specs.Decode.{word, noPiece, pieceOf, pieceAt}
+use Rattle.table.specs.Decode.{word, noPiece, pieceOf, isSign, pieceAt}
+use Rattle.table.proofs.Signs.{sign-is}
 use Rattle.walk.specs.State.{Variable}
 use Rattle.walk.specs.Memory.{operate, evaluatePiece}
 use Rattle.engine_evaluate.specs.Bound.{bindingsOf, FromNames}
-use Rattle.engine_values.specs.Values.{heldBy, signOf, isSign, Pushed, Operated}
+use Rattle.engine_values.specs.Values.{heldBy, signOf, Pushed, Operated}
 use Rattle.engine_values.specs.declared.Held.{Held}
 use Rattle.engine_evaluate.specs.Evaluable.{PieceStands, MayCome, Adds, Past}
 
@@ -102,22 +103,14 @@ pub record JoinsBy (f : ℕ → ℕ → ℕ) (p : Piece) : Type 0 where
   pub effect : effectOf p ≡ joins
   pub values : (moment : ℕ) (names : ℕ → Variable) (values : List ℕ) → operate f values ≡ evaluatePiece moment names p values
 
-sign-joins : (kind v : ℕ) → 3 ≤ kind → kind ≤ 6 → JoinsBy (signOf kind) (pieceOf kind v)
-unfolding effectOf pieceOf signOf evaluatePiece
-sign-joins zero v low high = absurd (omega arith)
-sign-joins (suc zero) v low high = absurd (omega arith)
-sign-joins (suc (suc zero)) v low high = absurd (omega arith)
-sign-joins (suc (suc (suc zero))) v low high = record { effect = refl; values = λ moment names values. refl }
-sign-joins (suc (suc (suc (suc zero)))) v low high = record { effect = refl; values = λ moment names values. refl }
-sign-joins (suc (suc (suc (suc (suc zero))))) v low high = record { effect = refl; values = λ moment names values. refl }
-sign-joins (suc (suc (suc (suc (suc (suc zero)))))) v low high = record { effect = refl; values = λ moment names values. refl }
-sign-joins (suc (suc (suc (suc (suc (suc (suc kind))))))) v low high = absurd (omega arith)
-
 pub joins-by : (t : List ℕ) (a : ℕ) → isSign (word t a) ≡ true → JoinsBy (signOf (word t a)) (pieceAt t a)
+unfolding effectOf pieceOf signOf evaluatePiece
 joins-by t a is-one =
     let kind = word t a in
-    let within = both (leb 3 kind) (leb kind 6) is-one in
-    rw (by-kind t a kind refl) (sign-joins kind (word t (a + 1)) (leb-true 3 kind (within .0)) (leb-true kind 6 (within .1)))
+    let v = word t (a + 1) in
+    rw (by-kind t a kind refl)
+    (sign-is (λ k. JoinsBy (signOf k) (pieceOf k v)) kind is-one (record { effect = refl; values = λ moment names values. refl }) (record { effect = refl; values = λ moment names values. refl })
+    (record { effect = refl; values = λ moment names values. refl }) (record { effect = refl; values = λ moment names values. refl }))
 
 module _ {t m values : List ℕ} {me a : ℕ} where
   pub two-for-sign : {count : ℕ} → MayCome t m me a values count → isSign (word t a) ≡ true → 2 ≤ count

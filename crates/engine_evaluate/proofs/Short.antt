@@ -11,11 +11,11 @@ use Rattle.listing.specs.Lists.{all}
 use Rattle.listing.specs.Listing.{literal, valueOf, writtenMark}
 use Rattle.listing.specs.Expressions.{Effect, adds, joins, effectOf, mayCome, heldWith, leavesOneFrom}
 use Rattle.listing.specs.Questions.{pieceIsThere}
-use Rattle.table.specs.Decode.{word, noPiece, pieceOf, pieceAt, cellsAt, piecesAt}
+use Rattle.table.specs.Decode.{word, noPiece, pieceOf, isSign, pieceAt, cellsAt, piecesAt}
 use Rattle.walk.specs.State.{Variable}
 use Rattle.walk.specs.Memory.{top, operate, evaluatePiece, evaluatePieces, evaluateBy}
 use Rattle.engine_evaluate.specs.Bound.{bindingsOf, FromNames, variableNamed}
-use Rattle.engine_values.specs.Values.{signOf, isSign}
+use Rattle.engine_values.specs.Values.{signOf}
 use Rattle.engine_evaluate.specs.Evaluable.{Evaluable, PieceStands, Adds, Evaluates}
 use Rattle.engine_evaluate.proofs.Pieces.{both, by-kind, other-than-sign, joins-by}
 

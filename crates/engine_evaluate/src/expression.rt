@@ -5,12 +5,10 @@ ghost use Prim.Native.Nat.{_<_};
 ghost use lib.ListN.{length};
 ghost use Rattle.machine.specs.Words.{HasMachine};
 ghost use Rattle.words.specs.Words.{bit};
-ghost use Rattle.table.specs.Decode.{word, piecesAt};
+ghost use Rattle.table.specs.Decode.{word, isSign, piecesAt};
 ghost use Rattle.engine_evaluate.specs.Bound.{bindingsOf, FromNames};
 ghost use Rattle.engine_evaluate.specs.Evaluable.{Evaluable, PieceStands, MayCome, Adds, Past, Evaluates};
-ghost use Rattle.engine_values.specs.Values.{isSign};
 use engine_values::Held;
-use engine_values::is_sign;
 use engine_values::operate;
 use engine_values::push;
 use engine_values::sign;
@@ -21,6 +19,7 @@ use table::CELL_WORDS;
 use table::LITERAL;
 use table::VALUE_OF;
 use table::WRITTEN_MARK;
+use table_read::is_sign;
 
 // "`n` (a name's value)"
 fn value_of(m: &[u32], me: usize, name: u32) -> u32

@@ -1,9 +1,9 @@
 -- The values held while an expression is evaluated. Document 01: "An expression is postfix".
-use mathlib.Core.Bool.{Bool, cond, _&&_}
+use mathlib.Core.Bool.{cond}
 use mathlib.Core.List.{List, [], _∷_}
 use mathlib.Core.Path.{_≡_}
 use Prim.Native.Nat.{ℕ, zero, suc, _-_}
-use lib.Dec.{eqb, leb}
+use lib.Dec.{eqb}
 use lib.ListN.{length, getD}
 use Rattle.words.specs.Words.{bit, wrappingAdd, wrappingSubtract, wrappingMultiply, signedLess}
 use Rattle.walk.specs.Memory.{operate}
@@ -27,10 +27,6 @@ unfoldable pub signOf : ℕ → ℕ → ℕ → ℕ
 signOf kind x y =
     cond (eqb kind 3) (wrappingAdd x y) (cond (eqb kind 4) (wrappingSubtract x y)
     (cond (eqb kind 5) (wrappingMultiply x y) (cond (eqb kind 6) (bit (signedLess x y)) 0)))
-
--- Whether a kind's number is a sign's.
-abbrev pub isSign : ℕ → Bool
-isSign kind = leb 3 kind && leb kind 6
 
 -- One value more is held, v on top.
 pub record Pushed (before : List ℕ) (h : Held) (v : ℕ) (after : List ℕ) (r : Held) : Type 0 where

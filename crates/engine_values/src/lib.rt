@@ -3,7 +3,7 @@
 ghost use mathlib.Core.Path.{_≡_};
 ghost use Prim.Native.Nat.{_≤_, _<_};
 ghost use lib.ListN.{length};
-ghost use Rattle.engine_values.specs.Values.{Pushed, Operated, isSign, signOf};
+ghost use Rattle.engine_values.specs.Values.{Pushed, Operated, signOf};
 use table::LESS;
 use table::MINUS;
 use table::PLUS;
@@ -30,13 +30,6 @@ pub fn push(values: &mut [u32; 8], held: Held, v: u32) -> Held
         count: count + 1,
         top: v,
     }
-}
-
-// Whether a kind's number is a sign's.
-pub fn is_sign(kind: u32) -> bool
-    ensures { λ r. ⌜ r ≡ isSign kind ⌝ }
-{
-    PLUS <= kind && kind <= LESS
 }
 
 // The sign with this kind's number, between two values.

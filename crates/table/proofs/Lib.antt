@@ -5,6 +5,7 @@ pub mod Tests
 pub mod Table
 pub mod Question6
 pub mod Pieces
+pub mod Signs
 pub mod Stands
 pub mod Asked
 pub mod Entry

@@ -1,6 +1,6 @@
 -- The listing that a table's words stand for, each part read by its address.
 -- Every list of words decodes to some listing; question 6 asks whether the words are that listing's table.
-use mathlib.Core.Bool.{cond}
+use mathlib.Core.Bool.{Bool, cond, _||_}
 use mathlib.Core.List.{List, [], _∷_}
 use Prim.Native.Nat.{ℕ, zero, suc, _+_, _*_, _/_, _%_}
 use lib.Dec.{eqb}
@@ -20,6 +20,10 @@ unfoldable pub pieceOf : ℕ → ℕ → Piece
 pieceOf kind value =
     cond (eqb kind 0) (literal value) (cond (eqb kind 1) (valueOf value) (cond (eqb kind 2) (writtenMark value)
     (cond (eqb kind 3) plus (cond (eqb kind 4) minus (cond (eqb kind 5) times (cond (eqb kind 6) less noPiece))))))
+
+-- is it a sign's number?
+abbrev pub isSign : ℕ → Bool
+isSign kind = eqb kind 3 || (eqb kind 4 || (eqb kind 5 || eqb kind 6))
 
 unfoldable pub pieceAt : List ℕ → ℕ → Piece
 pieceAt w a = pieceOf (word w (a + 0)) (word w (a + 1))

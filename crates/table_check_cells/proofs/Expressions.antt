@@ -16,25 +16,14 @@ use Rattle.listing_effect.specs.Held.{heldAfter, asEffect}
 use Rattle.listing_effect.specs.declared.Effect.the-variants as EV
 use Rattle.listing_effect.proofs.Held.{after-effect}
 use Rattle.table.specs.Areas.{wordsOfEach, pieceWords}
-use Rattle.table.specs.Decode.{word, noPiece, pieceOf, pieceAt, cellsAt, piecesAt}
+use Rattle.table.specs.Decode.{word, noPiece, pieceOf, isSign, pieceAt, cellsAt, piecesAt}
 use Rattle.table.proofs.Lengths.{piece-two}
+use Rattle.table.proofs.Signs.{sign-is, neither, no-sign}
 use Rattle.table.proofs.Tests.{and-no, and-yes}
-use Rattle.table_check_cells.specs.Pass.{sameAt, isSign, isNamed, effectBy, pieceTest, heldPast, expressionTest}
+use Rattle.table_check_cells.specs.Pass.{sameAt, isNamed, effectBy, pieceTest, heldPast, expressionTest}
 use Rattle.table_check_cells.proofs.Words.{same-split, same-number}
 
 -- ── a piece by the number of its kind ────────────────────────────────────────────
--- what holds of each sign's number holds of a sign's number
-sign-is : (P : ℕ → Type 0) (kind : ℕ) → isSign kind ≡ true → P 3 → P 4 → P 5 → P 6 → P kind
-unfolding isSign
-sign-is P k h a b c d = go (eqb k 3) refl (eqb k 4) refl (eqb k 5) refl (eqb k 6) refl h
-  where
-    go : (x : Bool) → eqb k 3 ≡ x → (y : Bool) → eqb k 4 ≡ y → (z : Bool) → eqb k 5 ≡ z → (u : Bool) → eqb k 6 ≡ u → (x || (y || (z || u))) ≡ true → P k
-    go true e y f z g u i h = rw (eqb-true k 3 e) a
-    go false e true f z g u i h = rw (eqb-true k 4 f) b
-    go false e false f true g u i h = rw (eqb-true k 5 g) c
-    go false e false f false g true i h = rw (eqb-true k 6 i) d
-    go false e false f false g false i h = absurd (let z : _≡_ {A = ℕ} 0 1 = cc in omega arith)
-
 named-is : (P : ℕ → Type 0) (kind : ℕ) → isNamed kind ≡ true → P 1 → P 2 → P kind
 unfolding isNamed
 named-is P k h a b = go (eqb k 1) refl (eqb k 2) refl h
@@ -43,20 +32,6 @@ named-is P k h a b = go (eqb k 1) refl (eqb k 2) refl h
     go true e y f h = rw (eqb-true k 1 e) a
     go false e true f h = rw (eqb-true k 2 f) b
     go false e false f h = absurd (let z : _≡_ {A = ℕ} 0 1 = cc in omega arith)
-
-neither : (x y : Bool) → (x || y) ≡ false → (x ≡ false) × (y ≡ false)
-neither false y h = (refl, h)
-neither true y h = absurd (let z : _≡_ {A = ℕ} 0 1 = cc in omega arith)
-
--- a number that is no sign's
-no-sign : (kind value : ℕ) → isSign kind ≡ false
-    → pieceOf kind value ≡ cond (eqb kind 0) (literal value) (cond (eqb kind 1) (valueOf value) (cond (eqb kind 2) (writtenMark value) noPiece))
-unfolding isSign pieceOf
-no-sign k v h =
-    let first = neither (eqb k 3) _ h in
-    let second = neither (eqb k 4) _ (first .1) in
-    let third = neither (eqb k 5) _ (second .1) in
-    rw (first .0, second .0, third .0, third .1)
 
 pub sign-joins : (kind : ℕ) → isSign kind ≡ true → EV.Joins ≡ effectBy kind
 unfolding effectBy pieceOf effectOf

@@ -28,10 +28,7 @@ abbrev pub routinesIn : List ℕ → List Routine
 routinesIn w = tableListing w .routines
 
 -- ── expressions ──────────────────────────────────────────────────────────────────
--- is it the number of a sign, of a name's value or mark?
-unfoldable pub isSign : ℕ → Bool
-isSign kind = eqb kind 3 || (eqb kind 4 || (eqb kind 5 || eqb kind 6))
-
+-- is it the number of a name's value or mark?
 unfoldable pub isNamed : ℕ → Bool
 isNamed kind = eqb kind 1 || eqb kind 2
 

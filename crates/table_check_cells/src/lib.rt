@@ -7,39 +7,23 @@ ghost use Prim.Native.Nat.{_+_, _*_, _≤_};
 ghost use lib.ListN.{length};
 ghost use Rattle.table.specs.Areas.{TableLong};
 ghost use Rattle.table.specs.Decode.{word};
-ghost use Rattle.table_check_cells.specs.Pass.{isSign, isNamed, effectBy, pieceTest, heldPast, expressionTest, namesTest, headTest, callsPast};
+ghost use Rattle.table_check_cells.specs.Pass.{isNamed, effectBy, pieceTest, heldPast, expressionTest, namesTest, headTest, callsPast};
 use listing_effect::Effect;
 use listing_effect::OUT_OF_FORM;
 use listing_effect::held_after;
 use table::ARGUMENTS;
 use table::CELL_END;
 use table::CELL_WORDS;
-use table::LESS;
 use table::LITERAL;
-use table::MINUS;
-use table::PLUS;
 use table::ROUTINE_COUNT;
 use table::ROUTINE_WORDS;
 use table::ROUTINES;
-use table::TIMES;
 use table::VALUE_OF;
 use table::WRITTEN_MARK;
 use table_read::head_at;
+use table_read::is_sign;
 use table_read::next_head;
 use words::number;
-
-// Is it the kind of a sign?
-fn is_sign(kind: u32) -> bool
-    ensures { λ r. ⌜ r ≡ isSign kind ⌝ }
-{
-    match kind {
-        PLUS => true,
-        MINUS => true,
-        TIMES => true,
-        LESS => true,
-        _ => false,
-    }
-}
 
 // Is it the kind of a name's value or mark?
 fn is_named(kind: u32) -> bool

@@ -1,4 +1,4 @@
-// Reading a table: the number of environment variables, an instruction by its routine and place, a routine's entry, a child field's head, a name.
+// Reading a table: the number of environment variables, an instruction by its routine and place, a routine's entry, a child field's head, a name, a sign.
 // `t` is a table's 12,288 words.
 
 ghost use mathlib.Core.Path.{_≡_};
@@ -6,7 +6,7 @@ ghost use mathlib.Core.Bool.{true};
 ghost use Prim.Native.Nat.{ℕ, _+_, _<_, _≤_};
 ghost use lib.ListN.{length};
 ghost use Rattle.table.specs.Areas.{TableLong};
-ghost use Rattle.table.specs.Decode.{word, nameAt, afterCall, headAfter};
+ghost use Rattle.table.specs.Decode.{word, isSign, nameAt, afterCall, headAfter};
 ghost use Rattle.table.specs.Question6.{isTable};
 ghost use Rattle.table_read.specs.Opened.{Opened, HasEntry, codeAt, entryOf, entryAt, openingAt};
 use table::ARGUMENTS;
@@ -18,13 +18,17 @@ use table::FIRST_ENTRY;
 use table::INPUTS;
 use table::KIND;
 use table::KIND_BITS;
+use table::LESS;
 use table::LOCALS;
+use table::MINUS;
 use table::OPERAND;
 use table::OUTPUTS;
+use table::PLUS;
 use table::ROUTINE_WORDS;
 use table::ROUTINES;
 use table::SECOND_COUNT;
 use table::SIZE;
+use table::TIMES;
 use words::number;
 
 // The number of environment variables: the inputs and the outputs.
@@ -149,4 +153,17 @@ pub fn name_at(t: &[u32], a: usize) -> usize
     ensures { λ r. ⌜ r ≡ nameAt (now (t .entry)) a ⌝ }
 {
     number(t[a + 1])
+}
+
+// Is it the kind of a sign?
+pub fn is_sign(kind: u32) -> bool
+    ensures { λ r. ⌜ r ≡ isSign kind ⌝ }
+{
+    match kind {
+        PLUS => true,
+        MINUS => true,
+        TIMES => true,
+        LESS => true,
+        _ => false,
+    }
 }

@@ -1,31 +1,25 @@
--- `table_check_cells::is_sign` meets its contract.
+-- `table_read::is_sign` meets its contract.
 use borrow.Author.Tests.{ne-eqb}
-use Rattle.table_check_cells.specs.Pass.{isSign}
-use Rattle.table_check_cells.proofs.is_sign.Statement.{statement}
-use Rattle.table_check_cells.proofs.is_sign.Tie as tie
+use Rattle.table_read.proofs.is_sign.Statement.{statement}
+use Rattle.table_read.proofs.is_sign.Tie as tie
 
 returns : tie.Need-returns
-unfolding isSign
 returns c =
     rw (c .match .keys1)
 
 returns-2 : tie.Need-returns-2
-unfolding isSign
 returns-2 c =
     rw (c .match .keys2)
 
 returns-3 : tie.Need-returns-3
-unfolding isSign
 returns-3 c =
     rw (c .match .keys3)
 
 returns-4 : tie.Need-returns-4
-unfolding isSign
 returns-4 c =
     rw (c .match .keys4)
 
 returns-5 : tie.Need-returns-5
-unfolding isSign
 returns-5 c =
     let r = c .match .rest in
     let k = c .before .args .kind in

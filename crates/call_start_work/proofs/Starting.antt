@@ -22,7 +22,7 @@ use Rattle.engine_rows.proofs.FirstReached.{start-reaches}
 use Rattle.engine_steps.specs.declared.running.Running.{Running}
 use Rattle.engine_run_laws.specs.Runs.{MayRunOn, ranBy, RunsOn}
 use Rattle.engine_run_laws.specs.declared.Ran.{Ran}
-use Rattle.engine_begin.specs.Begun.{BegunStart}
+use Rattle.engine_begin_start.specs.Begun.{BegunStart}
 use Rattle.engine_begin_laws.proofs.Filled.{table-fits}
 use Rattle.call_conclude.specs.declared.answers.Answer.{Answer}
 use Rattle.call_conclude.specs.Conclusions.{Concludes, MayConclude}

@@ -27,7 +27,7 @@ pub fn start_work(
         (now (machine .exit)) (now (numbers .exit)) (now (values .exit)) (walk.start (tableListing (now (table .entry))) allowance) r ⌝ }
 {
     let present = Moment(0);
-    let running = engine_begin::begin_start(table, machine);
+    let running = engine_begin_start::begin_start(table, machine);
     let ran = engine_run::run_on(table, machine, present, running, allowance);
     conclude(table, machine, present, allowance, ran, numbers, values)
 }

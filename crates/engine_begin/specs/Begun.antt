@@ -1,8 +1,8 @@
--- What the beginning of a call asks for and promises: of an instant, up to its first routine that runs; of the start.
+-- What the beginning of an instant asks for and promises, up to its first routine that runs.
 -- Letters: t the table's words, before and after the machine's, q a slot.
 use mathlib.Core.Bool.{true, false}
 use mathlib.Core.Path.{_≡_}
-use mathlib.Core.List.{List, []}
+use mathlib.Core.List.{List}
 use mathlib.Core.Option.{some}
 use Prim.Native.Nat.{ℕ, _≤_, _<_}
 use lib.ListN.{length, getD, take, drop}
@@ -13,9 +13,9 @@ use Rattle.table.specs.Decode.{tableListing}
 use Rattle.table.specs.Question6.{isTable}
 use Rattle.machine.specs.ReadMachine.{readMachine}
 use Rattle.machine_words.specs.Tests.{Dues}
-use Rattle.engine_rows.specs.Rows.{Rows, noRows, withRow}
+use Rattle.engine_rows.specs.Rows.{Rows}
 use Rattle.engine_rows.specs.Triggers.{triggersOf, readyOf}
-use Rattle.engine_rows.specs.Beginning.{dueInRows, mainRow, newEnvironment}
+use Rattle.engine_rows.specs.Beginning.{dueInRows}
 use Rattle.engine_rows.specs.Holds.{Holds}
 use Rattle.engine_blocks.specs.Blocks.{ownerAt, rowsOf, environmentOf}
 use Rattle.engine_clean.specs.Clean.{Clean}
@@ -23,7 +23,6 @@ use Rattle.engine_ready.specs.declared.ReadyList.{ReadyList}
 use Rattle.engine_ready.specs.Slots.{slotsOf}
 use Rattle.engine_ready.specs.Ordered.{Ordered}
 use Rattle.engine_triggers.specs.Chains.{triggersAt}
-use Rattle.engine_steps.specs.declared.running.Running.{Running}
 use Rattle.engine_run_laws.specs.Placed.{Placed}
 
 -- ── an instant ────────────────────────────────────────────────────────────────────────────────────
@@ -60,18 +59,3 @@ pub record BegunFrom (t before after : List ℕ) (moment : ℕ) (inputs : List W
 pub record Begun (t before after : List ℕ) (moment : ℕ) (numbers values : List ℕ) (ready : ReadyList) : Type 0 where
   pub holds : (s : State) → readMachine (tableListing t) (take 12288 before) ≡ some (running s) →
       BegunFrom t before after moment (inputsOf numbers values) ready s
-
--- ── the start ─────────────────────────────────────────────────────────────────────────────────────
--- "The start is the instant 0, with main newly called and no inputs": main alone, in slot u .me, is about to run.
-pub record BegunStart (t before after : List ℕ) (u : Running) : Type 0 where
-  pub slot : u .me < 64
-  pub rows : rowsOf after ≡ withRow noRows (u .me) (mainRow (tableListing t) (newEnvironment (tableListing t)) (u .me))
-  pub environment : environmentOf (environmentSize (tableListing t)) after ≡ newEnvironment (tableListing t)
-  pub lists : (q index : ℕ) → q ≤ 64 → index < 16 → triggersAt after q index ≡ []
-  pub ready-slots : slotsOf (u .ready) ≡ []
-  pub live : u .live ≡ 1
-  pub woken : u .woken ≡ 0
-  pub clean : Clean (environmentSize (tableListing t)) after
-  pub placed : Placed t (rowsOf after)
-  pub size : length after ≡ length before
-  pub past : drop 12288 after ≡ drop 12288 before

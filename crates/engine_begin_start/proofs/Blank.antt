@@ -32,7 +32,7 @@ use Rattle.machine_halt.specs.Zeroed.{blankWords}
 use Rattle.engine_ready.specs.Slots.{slotsOf}
 use Rattle.engine_steps.specs.declared.running.Running.{Running}
 use Rattle.engine_run_laws.specs.Placed.{Placed}
-use Rattle.engine_begin.specs.Begun.{BegunStart}
+use Rattle.engine_begin_start.specs.Begun.{BegunStart}
 use Rattle.engine_begin_laws.proofs.Found.{no-row, false-not}
 
 -- ── blank words ───────────────────────────────────────────────────────────────────────────────────

@@ -2,10 +2,10 @@
 use denote.Ref.{now}
 use mathlib.Core.Path.{refl}
 use native.Mathlib.Omega.{arith}
-use Rattle.engine_begin.proofs.Blank.{begun-start}
+use Rattle.engine_begin_start.proofs.Blank.{begun-start}
 use borrow.Author.Needs.{needs}
-use Rattle.engine_begin.proofs.start.begin_start.Statement.{statement}
-use Rattle.engine_begin.proofs.start.begin_start.Tie as tie
+use Rattle.engine_begin_start.proofs.begin_start.Statement.{statement}
+use Rattle.engine_begin_start.proofs.begin_start.Tie as tie
 
 blank-requires : tie.Need-blank-requires
 blank-requires c κs = search needs

@@ -1,9 +1,10 @@
 // The beginning of the start. Document 01: "The start is the instant 0, with main newly called and no inputs."
+// `t` is the table, `m` the machine's memory.
 ghost use mathlib.Core.Path.{_≡_};
 ghost use mathlib.Core.Bool.{true};
 ghost use Rattle.machine.specs.Words.{HasMachine};
 ghost use Rattle.table.specs.Question6.{isTable};
-ghost use Rattle.engine_begin.specs.Begun.{BegunStart};
+ghost use Rattle.engine_begin_start.specs.Begun.{BegunStart};
 use engine_main_row::main_row;
 use engine_steps::Running;
 use machine_halt::blank;

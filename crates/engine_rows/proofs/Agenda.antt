@@ -16,6 +16,7 @@ use Rattle.walk_laws.proofs.Bound.{run-same, then-same, begin-same, join-same}
 use Rattle.engine_rows.proofs.Quiet.{QuietNode, quiet-node}
 pub use Rattle.engine_rows.specs.Agenda.{Task, see, new, goes, back}
 unfoldable pub use Rattle.engine_rows.specs.Agenda.{outer, beyond, rest}
+use Rattle.engine_rows.specs.Agenda.{runningWith}
 
 pub then-assoc : (o : Result Turn) (f g : Turn → Result Turn) → ((o >>= f) >>= g) ≡ (o >>= λ a. f a >>= g)
 unfolding _>>=_
@@ -84,7 +85,7 @@ module _ (listing : Listing) (now : ℕ) where
   -- one instruction
   pub rest-S : (level r place : ℕ) (ns : List ℕ) (b n : ℕ) (e : List Piece) (ts : List Task) (d : Forest) (ds : List Forest) (m : List Variable)
       (k l woken : ℕ) → instructionAt listing r place ≡ assign n e →
-      rest listing now (goes (frame level r place ns b) ∷ ts) d ds (record { memory = m; left = suc k; live = l; woken = woken }) ≡ rest listing now
+      rest listing now (goes (frame level r place ns b) ∷ ts) d ds (runningWith m (suc k) l woken) ≡ rest listing now
       (goes (frame level r (suc place) ns b) ∷ ts) d ds (record {
         memory = writeAt now m (addressOf ns n) (evaluate now m ns e);
         left = k;
@@ -96,8 +97,8 @@ module _ (listing : Listing) (now : ℕ) where
 
   pub rest-W : (level r place : ℕ) (ns : List ℕ) (b : ℕ) (ws : List ℕ) (ts : List Task) (d : Forest) (ds : List Forest) (m : List Variable)
       (k l woken : ℕ) → instructionAt listing r place ≡ wait ws →
-      rest listing now (goes (frame level r place ns b) ∷ ts) d ds (record { memory = m; left = suc k; live = l; woken = woken }) ≡ rest listing now ts
-      (d ⊕ more (node r place ns (drop b m) empty) empty) ds (record { memory = take b m; left = k; live = l; woken = woken })
+      rest listing now (goes (frame level r place ns b) ∷ ts) d ds (runningWith m (suc k) l woken) ≡ rest listing now ts
+      (d ⊕ more (node r place ns (drop b m) empty) empty) ds (runningWith (take b m) k l woken)
   unfolding rest run step execute move carryOut sleep _>>=_
   rest-W level r place ns b ws ts d ds m k l woken h = rw h
 
@@ -114,7 +115,7 @@ module _ (listing : Listing) (now : ℕ) where
 
   pub rest-F : (level r place : ℕ) (ns : List ℕ) (b : ℕ) (cs : List Call) (ts : List Task) (d : Forest) (ds : List Forest) (m : List Variable)
       (k l woken : ℕ) → instructionAt listing r place ≡ fork cs → leb (l + childCount cs) 64 ≡ true → leb level 9 ≡ true →
-      rest listing now (goes (frame level r place ns b) ∷ ts) d ds (record { memory = m; left = suc k; live = l; woken = woken }) ≡
+      rest listing now (goes (frame level r place ns b) ∷ ts) d ds (runningWith m (suc k) l woken) ≡
       rest listing now (news (newRoutines listing now m ns cs) (suc level) (back (frame level r place ns b) ∷ ts)) empty (d ∷ ds) (record {
         memory = m;
         left = k;

@@ -18,6 +18,7 @@ use Rattle.walk.specs.Walk.{instructionAt, visitForest}
 use Rattle.engine_rows.specs.Rows.{Owner, Row, Rows, inSlot, named, ownerOf, variableOf}
 use Rattle.engine_rows.specs.Ready.{insertAll, insert, insertIf}
 use Rattle.engine_rows.specs.Triggers.{awaited, awaitedBy, anyNamedWritten, wakesNow, readyBelow, readyOf}
+use Rattle.engine_rows.specs.Agenda.{runningWith}
 use Rattle.engine_rows.proofs.Agenda.{rest, rest-sees}
 use Rattle.engine_rows.proofs.Place.{Record, Tree, nil, put, erase, _⋈_, plug, memoryOf, up, dones, key, willRun, ready, readyUp, between, Rests, rests-nil, rests-wait, rests-join, at-root, Full, tasks-old}
 use Rattle.engine_rows.proofs.Finding.{loosen}
@@ -334,7 +335,7 @@ module _ (listing : Listing) where
 
   module _ (now : ℕ) where
     same-start : (environment : List Variable) (j l woken : ℕ) (t : Tree) → Rests listing false t →
-        visitForest listing now (erase t) 0 (record { memory = environment; left = j; live = l; woken = woken }) ≡ between listing now environment j l
+        visitForest listing now (erase t) 0 (runningWith environment j l woken) ≡ between listing now environment j l
         woken [] nil t
     unfolding between up dones memoryOf erase rest _⊕_
     same-start environment j l woken t rs =
@@ -345,21 +346,21 @@ module _ (listing : Listing) where
           woken = woken;
         }) ∙ last))
       where
-        last : (visitForest listing now (erase t) 0 (record { memory = environment; left = j; live = l; woken = woken }) >>= λ a. rest listing now []
+        last : (visitForest listing now (erase t) 0 (runningWith environment j l woken) >>= λ a. rest listing now []
             (empty ⊕ a .tree) [] (a .running)) ≡ visitForest listing now (erase t) 0 (record {
               memory = environment;
               left = j;
               live = l;
               woken = woken;
             })
-        last = bind-ok (visitForest listing now (erase t) 0 (record { memory = environment; left = j; live = l; woken = woken }))
+        last = bind-ok (visitForest listing now (erase t) 0 (runningWith environment j l woken))
 
     -- an instant begins
     pub begin-idle : (σ : Rows) (triggers : Owner → List ℕ) (environment : List Variable) (hi j l woken : ℕ) (t : Tree) →
         Triggers listing σ triggers → Range 0 hi t → Rests listing false t → Held σ true [] (length environment) t → Brief (length environment) t →
         Known σ t → Full t →
         Idle listing now triggers hi σ environment (readyOf listing σ environment) j l woken [] nil t
-        (visitForest listing now (erase t) 0 (record { memory = environment; left = j; live = l; woken = woken }))
+        (visitForest listing now (erase t) 0 (runningWith environment j l woken))
     unfolding plug _⋈_ pathOf memoryOf readyUp
     begin-idle σ triggers environment hi j l woken t T r rs h w K fl =
         record {

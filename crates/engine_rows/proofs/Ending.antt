@@ -11,6 +11,7 @@ use Rattle.walk.specs.Memory.{operate}
 use Rattle.walk.specs.State.{Result, Turn, Variable, empty, ok}
 use Rattle.walk.specs.Walk.{instructionAt}
 use Rattle.engine_rows.specs.Rows.{Owner, Row, Rows, atPlace, freeRow, withChildren, withRow}
+use Rattle.engine_rows.specs.Agenda.{runningWith}
 use Rattle.engine_rows.proofs.Place.{nil, put, erase, _⋈_, Frame, plug, memoryOf, tasks, up, dones, ready, readyUp, between, Paused, under, Full}
 use Rattle.engine_rows.proofs.Agenda.{rest}
 use Rattle.engine_rows.proofs.Priority.{Range, range-low, range-join, Split, range-split, parts}
@@ -25,7 +26,7 @@ module _ (listing : Listing) (now : ℕ) (triggers : Owner → List ℕ) (hi : �
   -- ── an end ────────────────────────────────────────────────────────────────────────────────────
   at-end : (environment : List Variable) (j l woken : ℕ) →
       between listing now environment j l woken [] nil nil ≡ ok
-      (record { running = record { memory = environment; left = j; live = l; woken = woken }; tree = empty })
+      (record { running = runningWith environment j l woken; tree = empty })
   unfolding between tasks up rest memoryOf erase dones
   at-end environment j l woken = refl
 
@@ -80,7 +81,7 @@ module _ (listing : Listing) (now : ℕ) (triggers : Owner → List ℕ) (hi : �
     -- main has ended
     pub runs-E-main : Runs listing now triggers hi σ environment q (suc j) l woken f [] whole →
         instructionAt listing ((f .self) .routine) ((f .self) .place) ≡ end → f .done ≡ nil → f .todo ≡ nil →
-        whole ≡ ok (record { running = record { memory = environment; left = j; live = l - 1; woken = woken }; tree = empty })
+        whole ≡ ok (record { running = runningWith environment j (l - 1) woken; tree = empty })
     runs-E-main R i d t = R .same ∙ move-E listing now environment j l woken f [] i ∙ ap₂ (between listing now environment j (l - 1) woken []) d t ∙
         at-end environment j (l - 1) woken
 

@@ -8,6 +8,7 @@ use Rattle.listing.specs.Listing.{Call, Listing, fork}
 use Rattle.walk.specs.State.{Variable, ok}
 use Rattle.walk.specs.Walk.{instructionAt}
 use Rattle.engine_rows.specs.Triggers.{consIf}
+use Rattle.engine_rows.specs.Agenda.{runningWith}
 use Rattle.engine_rows.proofs.Agenda.{rest}
 use Rattle.engine_rows.proofs.Place.{rests-join, tasks, ⋈-nil, nil, willRun, Paused, nil-not, stay, plug, by-down, memoryOf, ⋈-assoc, pass, Frame, erase, key, full, Tree, at-root, ready, Silent, rests-new, put, up, between, rise, by-up, append-empty, Rests, down, _⋈_, under, readyUp, by-pass, Record, Full, rests-wait, rests-nil}
 
@@ -158,7 +159,7 @@ module _ (listing : Listing) (now : ℕ) where
 
   at-top : (environment : List Variable) (j l woken : ℕ) (t : Tree) →
       between listing now environment j l woken [] t nil ≡ ok (record {
-        running = record { memory = environment; left = j; live = l; woken = woken };
+        running = runningWith environment j l woken;
         tree = erase t;
       })
   unfolding between tasks up rest memoryOf
@@ -182,7 +183,7 @@ module _ (listing : Listing) (now : ℕ) where
   pub over : (environment : List Variable) (j l woken : ℕ) (fs : List Frame) (done t : Tree) → Paused listing fs → Rests listing true t →
       Full (done ⋈ t) → ready listing (memoryOf environment fs) t ++ readyUp listing environment fs ≡ [] →
       between listing now environment j l woken fs done t ≡ ok (record {
-        running = record { memory = environment; left = j; live = l; woken = woken };
+        running = runningWith environment j l woken;
         tree = erase (plug fs (done ⋈ t));
       })
   unfolding readyUp plug
@@ -196,5 +197,5 @@ module _ (listing : Listing) (now : ℕ) where
       over environment j l woken fs (f .done ⋈ put (f .self) (done ⋈ t) nil) (f .todo) p q
       (full-then _ _ (then-full (f .done) (f .self) (done ⋈ t) nil))
       (append-empty (ready listing (memoryOf environment (f ∷ fs)) t) (readyUp listing environment (f ∷ fs)) e .1) ∙
-      ap (λ z. ok (record { running = record { memory = environment; left = j; live = l; woken = woken }; tree = erase (plug fs z) }))
+      ap (λ z. ok (record { running = runningWith environment j l woken; tree = erase (plug fs z) }))
       (shift f (done ⋈ t))

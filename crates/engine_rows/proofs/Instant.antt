@@ -11,6 +11,7 @@ use Rattle.walk.specs.Walk.{visitForest}
 use Rattle.engine_rows.specs.Rows.{Owner, Rows}
 use Rattle.engine_rows.specs.Triggers.{readyOf}
 use Rattle.engine_rows.specs.Engine.{RowsResult, RowsRunner, nextReady, runRows}
+use Rattle.engine_rows.specs.Agenda.{runningWith}
 use Rattle.engine_rows.proofs.Place.{Tree, nil, erase, Full, Rests, plug, _⋈_}
 use Rattle.engine_rows.proofs.Priority.{Range}
 use Rattle.engine_rows.proofs.Held.{Held}
@@ -29,7 +30,7 @@ steady-brief listing (steady-put {level = level} {c = c} {x = x} f k s) =
 module _ (listing : Listing) (now : ℕ) (triggers : Owner → List ℕ) (hi : ℕ) (T : TableFits listing) where
   -- whatever is to be shown of the outcome, by any rest of the run
   pub visit-meets : {G : RowsResult → Type 0} {go : RowsRunner} (σ : Rows) (environment : List Variable) (j l woken : ℕ) (t : Tree) →
-      Goal listing now triggers hi T j (visitForest listing now (erase t) 0 (record { memory = environment; left = j; live = l; woken = woken })) G
+      Goal listing now triggers hi T j (visitForest listing now (erase t) 0 (runningWith environment j l woken)) G
       go →
       Triggers listing σ triggers → Range 0 hi t → Rests listing false t → Held σ true [] (length environment) t → Known σ t → Full t →
       Sound listing now triggers hi T σ environment l t → G (nextReady go j σ environment (readyOf listing σ environment) l woken)
@@ -40,7 +41,7 @@ module _ (listing : Listing) (now : ℕ) (triggers : Owner → List ℕ) (hi : �
 
   pub run-as-visit : (σ : Rows) (environment : List Variable) (j l woken : ℕ) (t : Tree) → Triggers listing σ triggers → Range 0 hi t →
       Rests listing false t → Held σ true [] (length environment) t → Known σ t → Full t → Sound listing now triggers hi T σ environment l t →
-      AsWalk listing now triggers hi T (visitForest listing now (erase t) 0 (record { memory = environment; left = j; live = l; woken = woken }))
+      AsWalk listing now triggers hi T (visitForest listing now (erase t) 0 (runningWith environment j l woken))
       (nextReady (runRows listing now triggers j) j σ environment (readyOf listing σ environment) l woken)
   run-as-visit σ environment j l woken t tr r rs h K fl S = visit-meets σ environment j l woken t (run-meets listing now triggers hi T j _) tr r rs h
       K fl S

@@ -34,6 +34,7 @@ use Rattle.engine_rows.proofs.Loop.{run-meets}
 use Rattle.engine_rows.proofs.Changing.{changed, due-rows, changed-due, due-live, unmarked-live, due-length, inputs-length, changed-slots, changed-range, changed-rests, changed-steady, changed-held, changed-used, changed-asleep}
 use Rattle.engine_rows.proofs.Holds.{Holds, steady-single, holds-live, holds-due, unmarkedState, unmarked-holds, next-due-unmarked}
 pub use Rattle.engine_rows.specs.Holds.{Agrees, SameOutcome, same-stop, same-done}
+use Rattle.engine_rows.specs.Agenda.{runningWith}
 
 -- ── the same outcome ────────────────────────────────────────────────────────────────────────────
 within-left : {allowance : ℕ} {o : Result Turn} {a : Turn} → Within allowance o → o ≡ ok a → (a .running) .left ≤ allowance
@@ -93,7 +94,7 @@ module _ (listing : Listing) (t : ℕ) (triggers : Owner → List ℕ) (T : Tabl
   -- the run on rows that hold a tree, main ended or not
   visit-alike : {G : RowsResult → Type 0} {go : RowsRunner} (σ : Rows) (environment : List Variable) (allowance l : ℕ) (tree : Tree) →
       Goal listing t triggers 4294967296 T allowance (visitForest listing t (erase tree) 0
-      (record { memory = environment; left = allowance; live = l; woken = 0 })) G go →
+      (runningWith environment allowance l 0)) G go →
       Triggers listing σ triggers → Range 0 4294967296 tree → Rests listing false tree → Held σ true [] (length environment) tree → Known σ tree →
       SteadyTree listing environment tree → usedBelow σ 64 ≡ l → ((s : ℕ) → (σ s) .used ≡ true → In s (slotsOf tree)) →
       G (nextReady go allowance σ environment (readyOf listing σ environment) l 0)
@@ -121,7 +122,7 @@ module _ (listing : Listing) (t : ℕ) (triggers : Owner → List ℕ) (T : Tabl
   abbrev pub visitAt : (s : State) (σ : Rows) (environment : List Variable) → Holds true listing σ environment s → List Write → ℕ → Result Turn
   visitAt s σ environment H inputs allowance =
       visitForest listing t (erase (changed (dueWrites t) (H .tree))) 0
-      (record { memory = applyInputs t inputs (dueWrites t environment); left = allowance; live = liveInForest (s .tree); woken = 0 })
+      (runningWith (applyInputs t inputs (dueWrites t environment)) allowance (liveInForest (s .tree)) 0)
 
   pub instant-meets : {G : RowsResult → Type 0} {go : RowsRunner} (s : State) → IsState listing s → (σ : Rows) (environment : List Variable)
       (H : Holds true listing σ environment s) (inputs : List Write) (allowance : ℕ) →
@@ -188,7 +189,7 @@ module _ (listing : Listing) (t : ℕ) (triggers : Owner → List ℕ) (T : Tabl
       result = nextReady (runRows listing t triggers allowance) allowance σ′ environment′ (readyOf listing σ′ environment′) (liveInForest (s .tree)) 0
 
       visited : Result Turn
-      visited = visitForest listing t (erase tree′) 0 (record { memory = environment′; left = allowance; live = liveInForest (s .tree); woken = 0 })
+      visited = visitForest listing t (erase tree′) 0 (runningWith environment′ allowance (liveInForest (s .tree)) 0)
 
       alike : AsWalk listing t triggers 4294967296 T visited result
       alike = instant-meets s I σ environment H inputs allowance (run-meets listing t triggers 4294967296 T allowance visited) tr
@@ -200,7 +201,7 @@ module _ (listing : Listing) (t : ℕ) (triggers : Owner → List ℕ) (T : Tabl
         woken = 0;
       })
       same-visit =
-          ap₂ (λ f l. visitForest listing t f 0 (record { memory = environment′; left = allowance; live = l; woken = 0 })) (changed-due t (H .tree) ∙
+          ap₂ (λ f l. visitForest listing t f 0 (runningWith environment′ allowance l 0)) (changed-due t (H .tree) ∙
           ap (λ f. dueInForest f t) (H .tree-is)) (sym (due-live t (s .tree))) ∙
           ap (λ e. visitForest listing t (dueInForest (s .tree) t) 0 (record {
             memory = applyInputs t inputs (dueWrites t e);

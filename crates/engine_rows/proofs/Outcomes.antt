@@ -29,13 +29,14 @@ use Rattle.engine_rows.proofs.Children.{usedBelow, used-withRow, one}
 use Rattle.engine_rows.proofs.Taking.{bool-not, withRow-used, used-ext, used-keep, atPlace-used, withChildren-used, rootCount-over, plug-held}
 use Rattle.engine_rows.proofs.Steady.{aboveMain, aboveUp, TableFits, Steady, steady-nil, steady-record, steady-head, steady-placed, SteadyHole, steady-hole, steady-node, steady-join, steady-left, steady-right}
 pub use Rattle.engine_rows.specs.Reached.{Sound}
+use Rattle.engine_rows.specs.Agenda.{runningWith}
 
 module _ (listing : Listing) (now : ℕ) (triggers : Owner → List ℕ) (hi : ℕ) (T : TableFits listing) where
   -- the outcome on rows is the walk's: the same stop, or rows that hold the walk's tree with its environment and counts
   pub data AsWalk (whole : Result Turn) : RowsResult → Type 0 where
     stops-alike : {k : ℕ} → whole ≡ stop k → AsWalk whole (halts k)
     ends-alike : {σ : Rows} {environment : List Variable} {j l woken : ℕ} (t : Tree) →
-        whole ≡ ok (record { running = record { memory = environment; left = j; live = l; woken = woken }; tree = erase t }) →
+        whole ≡ ok (record { running = runningWith environment j l woken; tree = erase t }) →
         Held σ false [] (length environment) t → Range 0 hi t →
         Steady listing (aboveMain listing) 0 (length environment) t → usedBelow σ 64 ≡ l → ((s : ℕ) → (σ s) .used ≡ true → In s (slotsOf t)) →
         AsWalk whole (ends σ environment j l woken)

@@ -21,7 +21,7 @@ unfoldable pub use Rattle.engine_rows.specs.Tree.{erase, _⋈_, plug, me
 unfoldable pub use Rattle.engine_rows.specs.Agenda.{first, tasks, up, dones}
 pub use Rattle.engine_rows.specs.Reached.{Rests, rests-nil, rests-new, rests-wait, rests-join, Paused, at-root, under}
 unfoldable pub use Rattle.engine_rows.specs.Reached.{key, willRun, ready, readyUp}
-use Rattle.engine_rows.specs.Agenda.{frameOn}
+use Rattle.engine_rows.specs.Agenda.{frameOn, runningWith}
 
 pub ⋈-assoc : (f g h : Tree) → (f ⋈ g) ⋈ h ≡ f ⋈ (g ⋈ h)
 unfolding _⋈_
@@ -99,8 +99,8 @@ module _ (listing : Listing) (now : ℕ) where
   -- a pending forest with nothing ready is passed over
   pub rest-skip : (t : Tree) (level : ℕ) (ts : List Task) (d : Forest) (ds : List Forest) (m : List Variable) (j l woken : ℕ) → Rests listing true t →
       ready listing m t ≡ [] →
-      rest listing now (tasks level t ts) d ds (record { memory = m; left = j; live = l; woken = woken }) ≡ rest listing now ts (d ⊕ erase t) ds
-      (record { memory = m; left = j; live = l; woken = woken })
+      rest listing now (tasks level t ts) d ds (runningWith m j l woken) ≡ rest listing now ts (d ⊕ erase t) ds
+      (runningWith m j l woken)
   unfolding _>>=_
   rest-skip t level ts d ds m j l woken r e =
       rw (tasks-quiet m t level ts r e)
@@ -109,7 +109,7 @@ module _ (listing : Listing) (now : ℕ) where
   -- between two turns: what stands done at this level, what is to do, the frames above
   unfoldable pub between : List Variable → ℕ → ℕ → ℕ → List Frame → Tree → Tree → Result Turn
   between environment j l woken fs done todo = rest listing now (tasks (length fs) todo (up environment fs)) (erase done) (dones fs)
-      (record { memory = memoryOf environment fs; left = j; live = l; woken = woken })
+      (runningWith (memoryOf environment fs) j l woken)
 
   tasks-⋈ : (level : ℕ) (t f : Tree) (ts : List Task) → tasks level (t ⋈ f) ts ≡ tasks level t (tasks level f ts)
   unfolding tasks _⋈_
@@ -142,7 +142,7 @@ module _ (listing : Listing) (now : ℕ) where
             (length fs) f (up environment fs)) r,
       )
       (rest-visit listing now (x .routine) (x .place) (x .names) (x .own) (erase children) (length fs) (tasks (length fs) f (up environment fs))
-      (erase done) (dones fs) (record { memory = memoryOf environment fs; left = j; live = l; woken = woken }))
+      (erase done) (dones fs) (runningWith (memoryOf environment fs) j l woken))
 
   -- go up from children of whom one lives
   pub rise : (environment : List Variable) (j l woken : ℕ) (g : Frame) (fs : List Frame) (y : Record) (k f : Tree) (cs : List Call) →

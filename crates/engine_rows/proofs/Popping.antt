@@ -10,6 +10,7 @@ use Rattle.listing.specs.Listing.{Listing}
 use Rattle.walk.specs.State.{Result, Turn, Variable, ok}
 use Rattle.engine_rows.specs.Engine.{firstPlace, countIf}
 use Rattle.engine_rows.specs.Rows.{Owner, Row, Rows, atPlace, withRow}
+use Rattle.engine_rows.specs.Agenda.{runningWith}
 use Rattle.engine_rows.proofs.Place.{Record, Tree, nil, put, erase, _⋈_, Frame, plug, memoryOf, up, key, ready, readyUp, Rests, rests-new, rests-wait, Paused}
 use Rattle.engine_rows.proofs.Finding.{Found, next, over}
 use Rattle.engine_rows.proofs.Priority.{Range}
@@ -150,6 +151,6 @@ module _ (listing : Listing) (now : ℕ) (triggers : Owner → List ℕ) (hi : �
   -- nobody is ready: the walk is over, its tree the one in the rows
   pub finished : {σ : Rows} {environment : List Variable} {j l woken : ℕ} {fs : List Frame} {d t : Tree} {whole : Result Turn} →
       Idle listing now triggers hi σ environment [] j l woken fs d t whole →
-      whole ≡ ok (record { running = record { memory = environment; left = j; live = l; woken = woken }; tree = erase (plug fs (d ⋈ t)) })
+      whole ≡ ok (record { running = runningWith environment j l woken; tree = erase (plug fs (d ⋈ t)) })
   finished {σ} {environment} {j} {l} {woken} {fs} {d} {t} I = I .same ∙
       over listing now environment j l woken fs d t (I .paused) (I .rests) (I .living) (no-key _ (sym (I .queue)))

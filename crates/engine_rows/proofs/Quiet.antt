@@ -9,6 +9,7 @@ use Rattle.listing.specs.Listing.{Call, Listing, fork, wait}
 use Rattle.walk.specs.Memory.{anyWritten}
 use Rattle.walk.specs.State.{Forest, Node, Variable, _>>=_, _⊕_, empty, more, node, ok}
 use Rattle.walk.specs.Walk.{enter, instructionAt, join, resume, sleep, visit, visitForest, wake}
+use Rattle.engine_rows.specs.Agenda.{runningWith}
 
 module _ (listing : Listing) (now : ℕ) where
   mutual
@@ -26,8 +27,8 @@ module _ (listing : Listing) (now : ℕ) where
     unfolding visit enter _>>=_ resume wake sleep join _⊕_
 
     pub quiet-node : (m : List Variable) (n : Node) (j l woken level : ℕ) → QuietNode m n →
-        visit listing now n level (record { memory = m; left = j; live = l; woken = woken }) ≡ ok
-        (record { running = record { memory = m; left = j; live = l; woken = woken }; tree = more n empty })
+        visit listing now n level (runningWith m j l woken) ≡ ok
+        (record { running = runningWith m j l woken; tree = more n empty })
     quiet-node _ _ j l woken level (waits {m = m} {own = own} e a) = rw (e, a, take-append-seam m own, drop-append-seam m own)
     quiet-node _ _ j l woken level (joins {m = m} {own = own} e q) = rw (
       quiet _ _ j l woken (suc level) q,
@@ -37,7 +38,7 @@ module _ (listing : Listing) (now : ℕ) where
     )
 
     pub quiet : (m : List Variable) (f : Forest) (j l woken level : ℕ) → Quiet m f →
-        visitForest listing now f level (record { memory = m; left = j; live = l; woken = woken }) ≡ ok
-        (record { running = record { memory = m; left = j; live = l; woken = woken }; tree = f })
+        visitForest listing now f level (runningWith m j l woken) ≡ ok
+        (record { running = runningWith m j l woken; tree = f })
     quiet _ _ j l woken level nobody = refl
     quiet _ _ j l woken level (one-more qn q) = rw (quiet-node _ _ j l woken level qn, quiet _ _ j l woken level q)

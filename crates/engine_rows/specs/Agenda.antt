@@ -30,6 +30,10 @@ unfoldable pub tasks : ℕ → Tree → List Task → List Task
 tasks level nil ts = ts
 tasks level (put x k f) ts = first (x .isNew) (node (x .routine) (x .place) (x .names) (x .own) (erase k)) level ∷ tasks level f ts
 
+-- the walk's figures while it runs
+abbrev pub runningWith : List Variable → ℕ → ℕ → ℕ → Running
+runningWith memory left live woken = record { memory = memory; left = left; live = live; woken = woken }
+
 -- the walk's frame of a routine whose ancestors are fs
 abbrev pub frameOn : List Variable → Record → List Frame → State.Frame
 frameOn environment x fs = frame (length fs) (x .routine) (x .place) (x .names) (length (memoryOf environment fs))
@@ -59,4 +63,4 @@ module _ (listing : Listing) (now : ℕ) where
   goingOn environment j l woken f fs =
       rest listing now (goes (frameOn environment (f .self) fs) ∷ tasks
       (length fs) (f .todo) (up environment fs)) (erase (f .done)) (dones fs)
-      (record { memory = memoryOf environment fs ++ (f .self) .own; left = j; live = l; woken = woken })
+      (runningWith (memoryOf environment fs ++ (f .self) .own) j l woken)

@@ -1,0 +1,51 @@
+-- `explain_trace::form::letter_why` meets its contract.
+use denote.Ref.{now}
+use mathlib.Core.Path.{sym, _∙_}
+use Prim.Native.Nat.{_<_, _≤_}
+use native.Mathlib.Omega.{arith}
+use lib.ListN.{length}
+use borrow.Author.Tests.{lt-ltb, le-ltb}
+use Rattle.explain_parts.specs.Parts.{firstPart}
+use Rattle.explain_trace.specs.Forms.{letterWhy}
+use borrow.Author.Needs.{needs}
+use Rattle.explain_trace.proofs.form.letter_why.Statement.{statement}
+use Rattle.explain_trace.proofs.form.letter_why.Tie as tie
+
+is-letter-field-requires : tie.Need-is-letter-field-requires
+is-letter-field-requires c κs = search needs
+
+returns : tie.Need-returns
+unfolding letterWhy
+returns c =
+    rw (sym (c .before .is-letter-field .ensures) ∙ c .if1 .taken)
+
+part-end-requires : tie.Need-part-end-requires
+part-end-requires c κs = search needs
+
+returns-2 : tie.Need-returns-2
+unfolding letterWhy
+returns-2 c =
+    let f = now (c .before .before .before .before .before .args .field) in
+    let h : length (firstPart 32 f) < length f = omega (arith, c .before .part-end .ensures .0, c .if2 .taken) in
+    rw (sym (c .before .before .before .is-letter-field .ensures) ∙ c .before .before .if1 .left, lt-ltb _ _ h)
+
+why-bad-requires : tie.Need-why-bad-requires
+why-bad-requires c κs = search needs
+
+returns-3 : tie.Need-returns-3
+unfolding letterWhy
+returns-3 c =
+    let f = now (c .before .before .before .before .before .before .args .field) in
+    let h : length f ≤ length (firstPart 32 f) = omega (arith, c .before .before .part-end .ensures .0, c .before .if2 .left) in
+    rw (sym (c .before .before .before .before .is-letter-field .ensures) ∙ c .before .before .before .if1 .left, le-ltb _ _ h) (c .why-bad .ensures)
+
+pub letter-why-spec : {M : Type 1} → statement M
+letter-why-spec =
+    tie.close
+    (tie.spec
+    is-letter-field-requires
+    returns
+    part-end-requires
+    returns-2
+    why-bad-requires
+    returns-3)

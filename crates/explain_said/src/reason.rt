@@ -12,7 +12,7 @@ use session_print::figure::put_figure;
 use test_cases::report::put_text;
 
 // A line of a text by the lines before it, put at a place; the place past it.
-fn put_line(out: &mut [u8], at: usize, text: &[u8], lines: usize) -> usize
+pub fn put_line(out: &mut [u8], at: usize, text: &[u8], lines: usize) -> usize
     requires { ⌜ (at ≤ 60000) × (length (now text) ≤ 4000) ⌝ }
     ensures { λ r. ⌜ Puts (now (out .entry)) at (partOf 10 (now (text .entry)) lines) (now (out .exit)) r × (r ≤ at + 4000) ⌝ }
 {

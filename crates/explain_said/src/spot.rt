@@ -51,7 +51,7 @@ fn put_numbered(out: &mut [u8], at: usize, line: &[u8], field: usize, piece: usi
 }
 
 // The field that a reason is about, and the piece; nothing for field 0.
-fn put_spot(out: &mut [u8], at: usize, line: &[u8], field: usize, piece: usize) -> usize
+pub fn put_spot(out: &mut [u8], at: usize, line: &[u8], field: usize, piece: usize) -> usize
     requires { ⌜ at ≤ 30000 ⌝ }
     ensures { λ r. ⌜ Puts (now (out .entry)) at (spotText (now (line .entry)) field piece) (now (out .exit)) r × (r ≤ at + 400) ⌝ }
 {

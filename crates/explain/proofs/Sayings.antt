@@ -1,16 +1,20 @@
 -- What the program says, put piece by piece. Letters: at the place of the first byte, r the place past the last.
 use mathlib.Core.Path.{_≡_, refl, sym, ap, _∙_}
-use mathlib.Core.List.{[], _∷_, _++_}
-use Prim.Native.Nat.{ℕ, zero, suc, _+_, _*_, _-_, _≤_}
+use Prim.Native.Nat.{ℕ, _+_, _*_, _-_, _≤_}
 use native.Mathlib.Omega.{arith}
 use native.Mathlib.Numerals.{add-one}
-use lib.ListN.{length, set, take}
+use lib.Dec.{eqb}
+use lib.ListN.{length, getD, set, take}
+use mathlib.Core.Bool.{false}
+use borrow.Author.Tests.{eq-eqb, ne-eqb}
 use lib.Seq.{length-take-le}
-use Rattle.listing.specs.Bytes.{Bytes, bytesOf, figure}
+use Rattle.listing.specs.Bytes.{Bytes, figure}
 use Rattle.session_print.specs.Puts.{Puts}
 use Rattle.session_print.proofs.LineBytes.{same-bytes, then-bytes, one-byte}
 use Rattle.explain.specs.Said.{ruleLine, rules, verdictLine, VerdictSaid}
+use Rattle.explain_session.specs.Sessions.{SessionSaid, too-long, ends}
 use Rattle.explain.specs.Verdicts.{VerdictOn}
+use Rattle.explain.specs.Arguments.{isFlag}
 use Rattle.explain.specs.declared.verdict.Verdict.{Verdict}
 
 -- so many bytes are the first so many
@@ -46,3 +50,21 @@ ruling-on {m₁ = m₁} {a = a} {done = done} v h f e g =
       few = omega (arith, v .few, f .1, g .1);
       puts = same-bytes (simp add-one refl) (then-bytes (v .puts) one);
     }
+
+-- ── a trace ──────────────────────────────────────────────────────────────
+pub session-few : {path trace listingPath listing before after : Bytes} {count : ℕ} → SessionSaid path trace listingPath listing before after count → count ≤ 50000
+session-few (too-long h p few) = few
+session-few (ends h e p few) = few
+
+-- ── an argument ──────────────────────────────────────────────────────────
+pub other-length : (word : Bytes) → (length word ≡ 2 → ⊥) → false ≡ isFlag word
+unfolding isFlag
+other-length word n = rw (ne-eqb (length word) 2 n)
+
+pub other-first : (word : Bytes) → length word ≡ 2 → (getD word 0 0 ≡ 45 → ⊥) → false ≡ isFlag word
+unfolding isFlag
+other-first word e n = rw (eq-eqb (length word) 2 e, ne-eqb (getD word 0 0) 45 n)
+
+pub by-second : (word : Bytes) → length word ≡ 2 → getD word 0 0 ≡ 45 → eqb (getD word 1 0) 116 ≡ isFlag word
+unfolding isFlag
+by-second word e f = rw (eq-eqb (length word) 2 e, eq-eqb (getD word 0 0) 45 f)

@@ -1,2 +1,4 @@
 pub mod Verdicts
 pub mod Said
+pub mod Traced
+pub mod Arguments

@@ -1,26 +1,30 @@
-// Says of each listing whether it loads, and if not, at which line, why, and by which rule: `explain LISTING..`. No byte of a file is printed raw.
-// Without an argument: all rules.
+// Says of each listing whether it loads, and if not, at which line, why, and by which rule; of a trace after `-t`, whether the listing before it plays it to its
+// end, and if not, at which line, why, and by which rule: `explain LISTING [-t TRACE] ..`. No byte of a file is printed raw. Without an argument: all rules.
+pub mod arguments;
 pub mod said;
+pub mod traced;
 pub mod verdict;
 
-use crate::said::put_file;
-use crate::said::put_usage;
-use libc::STDOUT_FILENO;
+use crate::arguments::Held;
+use crate::arguments::say_next;
+use crate::arguments::say_usage;
 
 fn main() {
-    let mut out = io::large_buffer();
-    let mut path = io::buffer();
     let count = os::arg_count();
-    if count < 2 {
-        let n = put_usage(&mut out);
-        io::write_all(STDOUT_FILENO, &out[..n]);
-        return;
-    }
+    let mut held = Held {
+        listing: 0,
+        flagged: false,
+    };
     let mut k: usize = 1;
     while k < count {
-        let length = os::arg(k, &mut path);
-        let n = put_file(&mut out, &path[..length]);
-        io::write_all(STDOUT_FILENO, &out[..n]);
+        held = say_next(k, held);
         k += 1;
+    }
+    if held.flagged {
+        say_usage();
+        return;
+    }
+    if count < 2 {
+        say_usage();
     }
 }

@@ -29,7 +29,7 @@ const NAME_SHOWN: usize = 4096;
 const LINE_SHOWN: usize = 120;
 
 // A byte more than a listing may have: a longer file is cut there, and its length alone decides.
-fn text() -> [u8; 49153]
+pub fn text() -> [u8; 49153]
     ensures { λ r. ⌜ 49153 ≡ length r ⌝ }
 {
     [0; 49153]
@@ -107,7 +107,7 @@ fn put_refusal(out: &mut [u8], path: &[u8], listing: &[u8], number: u32, place: 
 }
 
 // A file's name and what is said of it; how many bytes.
-fn put_named(out: &mut [u8], path: &[u8], text: &[u8]) -> usize
+pub fn put_named(out: &mut [u8], path: &[u8], text: &[u8]) -> usize
     requires { ⌜ length (now text) ≤ 200 ⌝ }
     ensures { λ r. ⌜ Puts (now (out .entry)) 0 (named (now (path .entry)) (now (text .entry))) (now (out .exit)) r × (r ≤ 50000) ⌝ }
 {
@@ -152,7 +152,7 @@ pub fn put_usage(out: &mut [u8]) -> usize
     let mut at = put_text(
         out,
         0,
-        b"usage: explain LISTING..\nLISTING is a file. It is loaded only if all of these hold, asked in this order:\n",
+        b"usage: explain LISTING [-t TRACE] ..\nLISTING and TRACE are files. A listing is loaded only if all of these hold, asked in this order:\n",
     );
     let mut done: u32 = 0;
     while done < QUESTIONS {

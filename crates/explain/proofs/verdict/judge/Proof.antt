@@ -1,3 +1,4 @@
+-- `explain::verdict::judge` meets its contract.
 use denote.Ref.{now}
 use Rattle.explain.specs.Verdicts.{too-long}
 use Rattle.explain.proofs.Judging.{it-loads, it-fails}

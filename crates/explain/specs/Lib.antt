@@ -1,4 +1,2 @@
-pub mod Verdicts
-pub mod Said
 pub mod Traced
 pub mod Arguments

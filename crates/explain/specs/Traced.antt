@@ -4,9 +4,9 @@ use Prim.Native.Nat.{ℕ}
 use Rattle.listing.specs.Bytes.{Bytes, bytesOf}
 use Rattle.session_print.specs.Puts.{Puts}
 use Rattle.explain_session.specs.Sessions.{SessionSaid}
-use Rattle.explain.specs.Verdicts.{VerdictOn}
-use Rattle.explain.specs.Said.{named}
-use Rattle.explain.specs.declared.verdict.Verdict.the-variants as VV
+use Rattle.explain_listing.specs.Verdicts.{VerdictOn}
+use Rattle.explain_listing.specs.Said.{named}
+use Rattle.explain_listing.specs.declared.verdict.Verdict.the-variants as VV
 
 unfoldable pub unplayed : Bytes
 unplayed = bytesOf ": It is not played: the listing does not load.\n"

@@ -1,9 +1,9 @@
 // The arguments, one after another.
 ghost use mathlib.Core.Path.{_≡_};
 ghost use Rattle.explain.specs.Arguments.{isFlag, Goes};
-use crate::said::put_file;
-use crate::said::put_usage;
 use crate::traced::put_traced;
+use explain_listing::said::put_file;
+use explain_listing::said::put_usage;
 use libc::STDOUT_FILENO;
 
 // Between two arguments: the number of the listing's, 0 if there is none yet; and whether a trace comes next.

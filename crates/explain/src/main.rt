@@ -1,9 +1,7 @@
 // Says of each listing whether it loads, and if not, at which line, why, and by which rule; of a trace after `-t`, whether the listing before it plays it to its
 // end, and if not, at which line, why, and by which rule: `explain LISTING [-t TRACE] ..`. No byte of a file is printed raw. Without an argument: all rules.
 pub mod arguments;
-pub mod said;
 pub mod traced;
-pub mod verdict;
 
 use crate::arguments::Held;
 use crate::arguments::say_next;

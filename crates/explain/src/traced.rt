@@ -2,11 +2,11 @@
 ghost use Prim.Native.Nat.{_≤_};
 ghost use lib.ListN.{length};
 ghost use Rattle.explain.specs.Traced.{PlayedSaid, TraceSaid};
-use crate::said::put_named;
-use crate::said::text;
-use crate::verdict::Verdict;
-use crate::verdict::judge;
-use crate::verdict::read_listing;
+use explain_listing::said::put_named;
+use explain_listing::said::text;
+use explain_listing::verdict::Verdict;
+use explain_listing::verdict::judge;
+use explain_listing::verdict::read_listing;
 use explain_session::put_session;
 
 // Of a trace on a listing; how many bytes.

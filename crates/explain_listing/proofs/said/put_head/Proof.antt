@@ -2,10 +2,10 @@
 use native.Mathlib.Omega.{arith}
 use Rattle.listing.specs.Bytes.{bytesOf}
 use Rattle.session_print.proofs.LineBytes as line
-use Rattle.explain.specs.Said.{headline}
+use Rattle.explain_listing.specs.Said.{headline}
 use borrow.Author.Needs.{needs}
-use Rattle.explain.proofs.said.put_head.Statement.{statement}
-use Rattle.explain.proofs.said.put_head.Tie as tie
+use Rattle.explain_listing.proofs.said.put_head.Statement.{statement}
+use Rattle.explain_listing.proofs.said.put_head.Tie as tie
 
 put-name-requires : tie.Need-put-name-requires
 put-name-requires c κs = search needs

@@ -1,7 +1,7 @@
 // What loading says of a file.
 ghost use mathlib.Core.Path.{_≡_};
 ghost use lib.ListN.{length};
-ghost use Rattle.explain.specs.Verdicts.{VerdictOn};
+ghost use Rattle.explain_listing.specs.Verdicts.{VerdictOn};
 ghost use Rattle.io.specs.Counts.{Counts};
 ghost use Rattle.table.specs.Areas.{tableSize};
 use call_load::load;

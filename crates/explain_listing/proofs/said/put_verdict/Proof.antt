@@ -1,11 +1,11 @@
 -- `explain::said::put_verdict` meets its contract.
 use mathlib.Core.Path.{refl}
 use Rattle.listing.specs.Bytes.{bytesOf}
-use Rattle.explain.specs.Said.{verdictLine}
-use Rattle.explain.proofs.Sayings.{verdict-said}
+use Rattle.explain_listing.specs.Said.{verdictLine}
+use Rattle.explain_listing.proofs.Sayings.{verdict-said}
 use borrow.Author.Needs.{needs}
-use Rattle.explain.proofs.said.put_verdict.Statement.{statement}
-use Rattle.explain.proofs.said.put_verdict.Tie as tie
+use Rattle.explain_listing.proofs.said.put_verdict.Statement.{statement}
+use Rattle.explain_listing.proofs.said.put_verdict.Tie as tie
 
 judge-requires : tie.Need-judge-requires
 judge-requires c κs = search needs

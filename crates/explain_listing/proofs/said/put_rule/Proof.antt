@@ -2,8 +2,8 @@
 use native.Mathlib.Omega.{arith}
 use Rattle.session_print.proofs.LineBytes as line
 use borrow.Author.Needs.{needs}
-use Rattle.explain.proofs.said.put_rule.Statement.{statement}
-use Rattle.explain.proofs.said.put_rule.Tie as tie
+use Rattle.explain_listing.proofs.said.put_rule.Statement.{statement}
+use Rattle.explain_listing.proofs.said.put_rule.Tie as tie
 
 put-sentence-requires : tie.Need-put-sentence-requires
 put-sentence-requires c κs = search needs

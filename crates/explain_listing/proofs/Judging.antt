@@ -9,8 +9,8 @@ use Rattle.listing.specs.Load.{loading, isLongEnough}
 use Rattle.text_questions.specs.Outcome.{outcomeOf}
 use Rattle.text_questions.specs.declared.answer.Loaded.{Loaded}
 use Rattle.text_questions.specs.declared.answer.Loaded.the-variants as LV
-use Rattle.explain.specs.Verdicts.{VerdictOn, loads, fails}
-use Rattle.explain.specs.declared.verdict.Verdict.the-variants as VV
+use Rattle.explain_listing.specs.Verdicts.{VerdictOn, loads, fails}
+use Rattle.explain_listing.specs.declared.verdict.Verdict.the-variants as VV
 
 pub it-loads : (text table : List ℕ) (r : Loaded) → length text ≤ byteLimit → 12288 ≡ length table → outcomeOf text r ≡ loading (isLongEnough table) text → r ≡ LV.Done
     → VerdictOn text VV.Loads

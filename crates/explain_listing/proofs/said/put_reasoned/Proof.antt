@@ -8,10 +8,10 @@ use Rattle.explain_lines.specs.declared.line.Fault.{Fault}
 use Rattle.explain_there.specs.There.{allowedAt}
 use Rattle.explain_said.specs.Reasons.{allowedText}
 use Rattle.explain_said.specs.Spots.{faultText}
-use Rattle.explain.specs.Said.{reasoned}
+use Rattle.explain_listing.specs.Said.{reasoned}
 use borrow.Author.Needs.{needs}
-use Rattle.explain.proofs.said.put_reasoned.Statement.{statement}
-use Rattle.explain.proofs.said.put_reasoned.Tie as tie
+use Rattle.explain_listing.proofs.said.put_reasoned.Statement.{statement}
+use Rattle.explain_listing.proofs.said.put_reasoned.Tie as tie
 
 reason-at-requires : tie.Need-reason-at-requires
 reason-at-requires c κs = search needs

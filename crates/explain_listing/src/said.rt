@@ -4,7 +4,7 @@ ghost use Prim.Native.Nat.{_+_, _≤_};
 ghost use lib.ListN.{length};
 ghost use Rattle.session_print.specs.Puts.{Puts};
 ghost use Rattle.explain_parts.specs.Shown.{shown};
-ghost use Rattle.explain.specs.Said.{ruleLine, questionLine, headline, reasoned, refusal, named, usage, VerdictSaid, FileSaid};
+ghost use Rattle.explain_listing.specs.Said.{ruleLine, questionLine, headline, reasoned, refusal, named, usage, VerdictSaid, FileSaid};
 use crate::verdict::Verdict;
 use crate::verdict::judge;
 use crate::verdict::read_listing;

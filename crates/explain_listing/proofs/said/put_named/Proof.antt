@@ -2,8 +2,8 @@
 use native.Mathlib.Omega.{arith}
 use Rattle.session_print.proofs.LineBytes as line
 use borrow.Author.Needs.{needs}
-use Rattle.explain.proofs.said.put_named.Statement.{statement}
-use Rattle.explain.proofs.said.put_named.Tie as tie
+use Rattle.explain_listing.proofs.said.put_named.Statement.{statement}
+use Rattle.explain_listing.proofs.said.put_named.Tie as tie
 
 put-name-requires : tie.Need-put-name-requires
 put-name-requires c κs = search needs

@@ -1,10 +1,10 @@
 -- `explain::said::put_file` meets its contract.
 use mathlib.Core.Path.{refl}
 use native.Mathlib.Omega.{arith}
-use Rattle.explain.specs.Said.{unread, read}
+use Rattle.explain_listing.specs.Said.{unread, read}
 use borrow.Author.Needs.{needs}
-use Rattle.explain.proofs.said.put_file.Statement.{statement}
-use Rattle.explain.proofs.said.put_file.Tie as tie
+use Rattle.explain_listing.proofs.said.put_file.Statement.{statement}
+use Rattle.explain_listing.proofs.said.put_file.Tie as tie
 
 text-requires : tie.Need-text-requires
 text-requires c κs = search needs

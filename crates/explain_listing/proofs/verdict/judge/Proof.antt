@@ -1,10 +1,10 @@
 -- `explain::verdict::judge` meets its contract.
 use denote.Ref.{now}
-use Rattle.explain.specs.Verdicts.{too-long}
-use Rattle.explain.proofs.Judging.{it-loads, it-fails}
+use Rattle.explain_listing.specs.Verdicts.{too-long}
+use Rattle.explain_listing.proofs.Judging.{it-loads, it-fails}
 use borrow.Author.Needs.{needs}
-use Rattle.explain.proofs.verdict.judge.Statement.{statement}
-use Rattle.explain.proofs.verdict.judge.Tie as tie
+use Rattle.explain_listing.proofs.verdict.judge.Statement.{statement}
+use Rattle.explain_listing.proofs.verdict.judge.Tie as tie
 
 returns : tie.Need-returns
 returns c =

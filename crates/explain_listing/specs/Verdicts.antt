@@ -7,8 +7,8 @@ use Rattle.listing.specs.Bytes.{Bytes}
 use Rattle.listing.specs.Limits.{byteLimit}
 use Rattle.listing.specs.Load.{loading, refused, Loads}
 use Rattle.listing.specs.Questions.{listingIn}
-use Rattle.explain.specs.declared.verdict.Verdict.{Verdict}
-use Rattle.explain.specs.declared.verdict.Verdict.the-variants as VV
+use Rattle.explain_listing.specs.declared.verdict.Verdict.{Verdict}
+use Rattle.explain_listing.specs.declared.verdict.Verdict.the-variants as VV
 
 -- "listing 49,152 bytes": a longer one is not loaded. Of another the defined outcome of loading is said, with its number and place.
 pub data VerdictOn (text : Bytes) : Verdict → Type 0 where

@@ -5,11 +5,11 @@ use native.Mathlib.Omega.{arith}
 use Rattle.listing.specs.Bytes.{bytesOf}
 use Rattle.session_print.proofs.LineBytes as line
 use Rattle.session_print.proofs.ListedWrites.{still-long}
-use Rattle.explain.specs.Said.{opening, rules}
-use Rattle.explain.proofs.Sayings.{Ruling, ruling-begun, ruling-on}
+use Rattle.explain_listing.specs.Said.{opening, rules}
+use Rattle.explain_listing.proofs.Sayings.{Ruling, ruling-begun, ruling-on}
 use borrow.Author.Needs.{needs}
-use Rattle.explain.proofs.said.put_usage.Statement.{statement}
-use Rattle.explain.proofs.said.put_usage.Tie as tie
+use Rattle.explain_listing.proofs.said.put_usage.Statement.{statement}
+use Rattle.explain_listing.proofs.said.put_usage.Tie as tie
 
 abbrev Inv-loop : tie.InvT-loop
 Inv-loop out₀ at₀ done₀ out at done = Ruling out₀ at₀ out at done

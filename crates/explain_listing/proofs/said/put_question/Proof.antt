@@ -2,10 +2,10 @@
 use native.Mathlib.Omega.{arith}
 use Rattle.listing.specs.Bytes.{bytesOf}
 use Rattle.session_print.proofs.LineBytes as line
-use Rattle.explain.specs.Said.{questionLine}
+use Rattle.explain_listing.specs.Said.{questionLine}
 use borrow.Author.Needs.{needs}
-use Rattle.explain.proofs.said.put_question.Statement.{statement}
-use Rattle.explain.proofs.said.put_question.Tie as tie
+use Rattle.explain_listing.proofs.said.put_question.Statement.{statement}
+use Rattle.explain_listing.proofs.said.put_question.Tie as tie
 
 slice-aggregate-put-text : tie.Need-slice-aggregate-put-text
 slice-aggregate-put-text c = search needs

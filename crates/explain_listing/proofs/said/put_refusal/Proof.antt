@@ -5,10 +5,10 @@ use denote.Ref.{now}
 use Rattle.session_print.proofs.LineBytes as line
 use Rattle.explain_parts.specs.Parts.{partOf}
 use Rattle.explain_parts.proofs.Parts.{part-size}
-use Rattle.explain.specs.Said.{reasoned, refusal}
+use Rattle.explain_listing.specs.Said.{reasoned, refusal}
 use borrow.Author.Needs.{needs}
-use Rattle.explain.proofs.said.put_refusal.Statement.{statement}
-use Rattle.explain.proofs.said.put_refusal.Tie as tie
+use Rattle.explain_listing.proofs.said.put_refusal.Statement.{statement}
+use Rattle.explain_listing.proofs.said.put_refusal.Tie as tie
 
 put-head-requires : tie.Need-put-head-requires
 put-head-requires c κs = search needs

@@ -11,9 +11,9 @@ use Rattle.explain_there.specs.There.{allowedAt}
 use Rattle.explain_said.specs.Reasons.{allowedText}
 use Rattle.explain_said.specs.Spots.{faultText}
 use Rattle.explain_said.specs.Sentences.{sentenceOf}
-use Rattle.explain.specs.Verdicts.{VerdictOn}
-use Rattle.explain.specs.declared.verdict.Verdict.{Verdict}
-use Rattle.explain.specs.declared.verdict.Verdict.the-variants as VV
+use Rattle.explain_listing.specs.Verdicts.{VerdictOn}
+use Rattle.explain_listing.specs.declared.verdict.Verdict.{Verdict}
+use Rattle.explain_listing.specs.declared.verdict.Verdict.the-variants as VV
 
 -- the sentences for a question as a line
 abbrev pub ruleLine : ℕ → Bytes

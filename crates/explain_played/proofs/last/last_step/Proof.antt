@@ -43,7 +43,14 @@ same-length-3 c =
 
 returns : tie.Need-returns Inv-loop μ-loop
 returns c =
-    never-short (c .before .before .before .before .before .before .before .before .before .before .before .before .loop .inv) (record { advances = c .before .before .before .before .before .before .before .before .advance .ensures; as-long = record { table-is = c .before .before .before .before .before .before .before .table .given; machine-is = c .before .before .before .before .before .machine .given; out-is = c .before .before .before .out .given } }) (c .before .before .before .before .before .before .before .before .before .before .before .before .before .before .before .before .before .before .pre) (c .enum-told .given .1)
+    let lent = c .before .before .before in
+    let kept = lent .before .before in
+    let read = kept .before .before in
+    let called = read .before in
+    let turn = called .before .before .before .before in
+    never-short (turn .loop .inv)
+    (record { advances = called .advance .ensures; as-long = record { table-is = read .table .given; machine-is = kept .machine .given; out-is = lent .out .given } })
+    (turn .before .before .before .before .before .before .pre) (c .enum-told .given .1)
 
 is-over-requires : tie.Need-is-over-requires Inv-loop μ-loop
 is-over-requires c κs = search needs
@@ -62,15 +69,36 @@ same-length-6 c =
 
 returns-2 : tie.Need-returns-2 Inv-loop μ-loop
 returns-2 c =
-    steps-last (c .before .before .before .before .before .before .before .before .before .before .before .before .before .before .before .loop .inv) (record { advances = c .before .before .before .before .before .before .before .before .before .before .before .advance .ensures; as-long = record { table-is = c .before .before .before .before .before .before .before .before .before .before .table .given; machine-is = c .before .before .before .before .before .before .before .before .machine .given; out-is = c .before .before .before .before .before .before .out .given } }) (c .before .before .before .answer .given .1) (sym (c .before .is-over .ensures) ∙ c .if1 .taken)
+    let lent = c .before .before .before .before .before .before in
+    let kept = lent .before .before in
+    let read = kept .before .before in
+    let called = read .before in
+    let turn = called .before .before .before .before in
+    steps-last (turn .loop .inv)
+    (record { advances = called .advance .ensures; as-long = record { table-is = read .table .given; machine-is = kept .machine .given; out-is = lent .out .given } })
+    (c .before .before .before .answer .given .1) (sym (c .before .is-over .ensures) ∙ c .if1 .taken)
 
 loop-less : tie.Need-loop-less Inv-loop μ-loop
 loop-less c =
-    fewer (c .before .before .before .before .before .before .before .before .before .before .before .before .before .before .before .loop .inv) (record { advances = c .before .before .before .before .before .before .before .before .before .before .before .advance .ensures; as-long = record { table-is = c .before .before .before .before .before .before .before .before .before .before .table .given; machine-is = c .before .before .before .before .before .before .before .before .machine .given; out-is = c .before .before .before .before .before .before .out .given } }) (c .before .before .before .answer .given .1)
+    let lent = c .before .before .before .before .before .before in
+    let kept = lent .before .before in
+    let read = kept .before .before in
+    let called = read .before in
+    let turn = called .before .before .before .before in
+    fewer (turn .loop .inv)
+    (record { advances = called .advance .ensures; as-long = record { table-is = read .table .given; machine-is = kept .machine .given; out-is = lent .out .given } })
+    (c .before .before .before .answer .given .1)
 
 loop-again : tie.Need-loop-again Inv-loop μ-loop
 loop-again c =
-    goes-on (c .before .before .before .before .before .before .before .before .before .before .before .before .before .before .before .loop .inv) (record { advances = c .before .before .before .before .before .before .before .before .before .before .before .advance .ensures; as-long = record { table-is = c .before .before .before .before .before .before .before .before .before .before .table .given; machine-is = c .before .before .before .before .before .before .before .before .machine .given; out-is = c .before .before .before .before .before .before .out .given } }) (c .before .before .before .answer .given .1) (sym (c .before .is-over .ensures) ∙ c .if1 .left)
+    let lent = c .before .before .before .before .before .before in
+    let kept = lent .before .before in
+    let read = kept .before .before in
+    let called = read .before in
+    let turn = called .before .before .before .before in
+    goes-on (turn .loop .inv)
+    (record { advances = called .advance .ensures; as-long = record { table-is = read .table .given; machine-is = kept .machine .given; out-is = lent .out .given } })
+    (c .before .before .before .answer .given .1) (sym (c .before .is-over .ensures) ∙ c .if1 .left)
 
 pub last-step-spec : {M : Type 1} → statement M
 last-step-spec =

@@ -67,7 +67,11 @@ returns c =
     let v = c .before .before .before .before .before .before .before .before .before .before .before .before .before .loop .inv in
     let p = c .before .before .before .before .before .before .before .before .before .put-if-asked .ensures in
     let q = c .before .before .put-more .ensures in
-    (all-asked _ _ _ _ v _ (c .before .before .before .before .before .before .before .before .before .before .before .before .part-end .ensures .0) (p .0) _ (c .before .before .before .before .before .seen-after .ensures .0) (c .before .before .before .before .if1 .taken) (q .0), omega (arith, still-short _ _ _ _ v _ (c .before .before .before .before .before .before .before .before .before .before .before .before .part-end .ensures .0) (p .0) _ (c .before .before .before .before .before .seen-after .ensures .0) (p .1), q .1))
+    let seen = c .before .before .before .before .before .seen-after .ensures .0 in
+    let part = c .before .before .before .before .before .before .before .before .before .before .before .before .part-end .ensures .0 in (
+      all-asked _ _ _ _ v _ part (p .0) _ seen (c .before .before .before .before .if1 .taken) (q .0),
+      omega (arith, still-short _ _ _ _ v _ part (p .0) _ seen (p .1), q .1),
+    )
 
 add-from : tie.Need-add-from Inv-loop μ-loop
 add-from c = search needs

@@ -25,6 +25,8 @@ mod flat;
 mod layout;
 mod listing;
 #[cfg(feature = "archive")]
+mod page_model;
+#[cfg(feature = "archive")]
 mod pages;
 mod peer;
 mod plain;

@@ -1,90 +1,27 @@
-//! A model of the valve book's pages (document 02, Change 1), written from that paragraph alone and by whole lists: the
-//! writes of each output, its openings, all openings sorted, rows by `format!`. And its comparison with the library.
+//! Pages of the valve book: lists at random, and the library and the benchmark's plain pass beside the model.
 
 use crate::board;
+use crate::page_model;
 use crate::plain_page;
 use crate::random::Random;
-use std::collections::HashSet;
 
 const PAGE: usize = 2_700;
-const ROWS: usize = 60;
 
 /// Three lists of writes as they are lent, and the page that is asked for.
-pub struct Asked {
-    pub moments: Vec<u64>,
-    pub outputs: Vec<u32>,
-    pub values: Vec<u32>,
-    pub page: u64,
+struct Asked {
+    moments: Vec<u64>,
+    outputs: Vec<u32>,
+    values: Vec<u32>,
+    page: u64,
 }
 
-/// "A valve is open while its value isn't 0; a write that doesn't change open or closed gives no row."
-fn openings(asked: &Asked) -> Vec<(u64, u32, Option<u64>)> {
-    let mut all = Vec::new();
-    for output in 0..16 {
-        let own = (0..asked.moments.len()).filter(|&k| asked.outputs[k] == output);
-        let mut since = None;
-        for k in own {
-            match (since, asked.values[k]) {
-                (None, value) if value != 0 => since = Some(asked.moments[k]),
-                (Some(opened), 0) => {
-                    all.push((opened, output, Some(asked.moments[k])));
-                    since = None;
-                }
-                _ => {}
-            }
-        }
-        all.extend(since.map(|opened| (opened, output, None)));
-    }
-    // "Rows go by opening moment, then by output."
-    all.sort_by_key(|&(opened, output, _)| (opened, output));
-    all
-}
-
-/// Every page there is, each as 60 rows; "no openings give one page".
-fn pages(asked: &Asked) -> Vec<Vec<String>> {
-    let rows: Vec<String> = openings(asked)
-        .into_iter()
-        .map(|(opened, output, closed)| {
-            let open_for = closed.map_or("-".repeat(20), |closed| (closed - opened).to_string());
-            format!("{output:>2} {opened:>20} {open_for:>20}")
-        })
-        .collect();
-    let heading = format!("{:>2} {:>20} {:>20}", "NR", "OPENED", "OPEN FOR");
-    let mut pages: Vec<Vec<String>> = rows.chunks(ROWS - 1).map(|part| [&[heading.clone()], part].concat()).collect();
-    if pages.is_empty() {
-        pages.push(vec![heading]);
-    }
-    pages.iter_mut().for_each(|page| page.resize(ROWS, " ".repeat(44)));
-    pages
-}
-
-/// "Question 1 turns away short memory or unequal lists, 9 a moment that falls, 11 an output of 16 or more or listed twice
-/// in a moment."
-fn refusal(asked: &Asked, memory: usize) -> Option<u32> {
-    let Asked { moments, outputs, values, .. } = asked;
-    if memory < PAGE || moments.len() != outputs.len() || moments.len() != values.len() {
-        return Some(1);
-    }
-    if moments.windows(2).any(|two| two[1] < two[0]) {
-        return Some(9);
-    }
-    let mut listed = HashSet::new();
-    let once = moments.iter().zip(outputs).all(|write| *write.1 < 16 && listed.insert(write));
-    (!once).then_some(11)
-}
-
-/// Number and pages of the result, and the memory afterwards.
-pub fn answer(asked: &Asked, before: &[u8]) -> (u32, u64, Vec<u8>) {
-    if let Some(number) = refusal(asked, before.len()) {
-        return (number, 0, before.to_vec());
-    }
-    let pages = pages(asked);
-    let blank = vec![" ".repeat(44); ROWS];
-    let there = asked.page >= 1 && asked.page <= pages.len() as u64;
-    let rows = if there { &pages[asked.page as usize - 1] } else { &blank };
-    let mut after: Vec<u8> = rows.iter().flat_map(|row| [row.as_bytes(), b"\n"].concat()).collect();
-    after.extend(&before[PAGE..]);
-    (0, pages.len() as u64, after)
+/// Number and pages of the model's result, and the memory afterwards.
+fn answer(asked: &Asked, before: &[u8]) -> (u32, u64, Vec<u8>) {
+    let Asked { moments, outputs, values, page } = asked;
+    let mut memory = before.to_vec();
+    let told = page_model::page(moments, outputs, values, *page, &mut memory);
+    assert_eq!(told.place, 0);
+    (told.number, told.pages, memory)
 }
 
 /// The moment after this one: mostly soon, at times far, up to the last of all.

@@ -1,6 +1,5 @@
 pub mod Writes
 pub mod Asking
-pub mod Places
 pub mod All
 pub mod Sorting
 pub mod Closings
@@ -8,4 +7,7 @@ pub mod SortedOpenings
 pub mod OneMore
 pub mod Listed
 pub mod InOrder
+pub mod Mask
+pub mod OnePass
+pub mod Verdicts
 pub mod Examples

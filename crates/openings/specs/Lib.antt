@@ -3,3 +3,4 @@ pub mod Openings
 pub mod Order
 pub mod Questions
 pub mod InOrder
+pub mod Verdicts

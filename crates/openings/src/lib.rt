@@ -1,16 +1,11 @@
 // The openings of a session's valves, from the lists of its writes: definitions and laws, and the questions put to the lists.
 // Document 02: "9 a moment that falls, 11 an output of 16 or more or listed twice in a moment."
-ghost use mathlib.Core.Bool.{true, cond};
 ghost use mathlib.Core.List.{List};
 ghost use mathlib.Core.Path.{_≡_};
 ghost use Prim.Native.Nat.{ℕ};
-ghost use lib.Dec.{eqb};
 ghost use lib.ListN.{length};
-ghost use Rattle.openings.specs.Writes.{writesOf};
-ghost use Rattle.openings.specs.Order.{precedes};
-ghost use Rattle.openings.specs.Questions.{noneFalls, listedOnce};
-ghost use Rattle.openings.specs.InOrder.{inOrder};
-use words::number;
+ghost use Rattle.openings.specs.Questions.{noneFalls};
+ghost use Rattle.openings.specs.Verdicts.{verdict};
 
 const OUTPUTS: u32 = 16;
 
@@ -31,77 +26,46 @@ pub fn none_falls(moments: &[u64]) -> bool
     true
 }
 
-// Where the moment of write k begins: at `from`, if it is the moment of the write before, else here.
-fn beginning(moment: u64, before: u64, from: usize, k: usize) -> usize
-    ensures { λ r. ⌜ r ≡ cond (eqb moment before) from k ⌝ }
-{
-    if moment == before {
-        return from;
-    }
-    k
+// What 9 and 11 say of lists: they pass, and stand in the order of their rows or in another; or they are refused.
+pub enum Verdict {
+    InOrder,
+    AnyOrder,
+    Refused,
 }
 
-// 11: is every output below 16, and none listed twice in a moment? `past` has for each output the place past its latest write, so an
-// output is listed in this moment already if that lies past the moment's beginning.
-pub fn listed_once(moments: &[u64], outputs: &[u32]) -> bool
-    requires { ⌜ (length (now moments) ≡ length (now outputs)) × (noneFalls (now moments) ≡ true) ⌝ }
-    ensures { λ r. ⌜ ((values : List ℕ) → length values ≡ length (now (moments .entry)) → r ≡ listedOnce (writesOf (now (moments .entry)) (now (outputs .entry)) values)) ⌝ }
-{
-    let mut past = [0usize; 16];
-    let mut from: usize = 0;
-    let mut before: u64 = 0;
-    let mut k: usize = 0;
-    while k < moments.len() {
-        let output = outputs[k];
-        if output >= OUTPUTS {
-            return false;
-        }
-        let valve = number(output);
-        let moment = moments[k];
-        from = beginning(moment, before, from, k);
-        before = moment;
-        if past[valve] > from {
-            return false;
-        }
-        k += 1;
-        past[valve] = k;
-    }
-    true
-}
-
-// "by opening moment, then by output": does the write come before the output `least` in the moment `before`?
-fn comes_before(moment: u64, output: u32, before: u64, least: u32) -> bool
-    ensures { λ r. ⌜ r ≡ precedes moment output before least ⌝ }
-{
-    if moment > before {
-        return false;
-    }
-    if moment < before {
-        return true;
-    }
-    output < least
-}
-
-// Does each write come behind the one listed before it, and is every output below 16? Such lists pass 9 and 11, and are sorted.
-pub fn in_order(moments: &[u64], outputs: &[u32]) -> bool
+// 9 and 11 in one pass: does no moment fall, is every output below 16, and none listed twice in a moment? `seen` has a bit for each
+// output listed in the moment so far. `late` gathers what stands there from a write's output on, moved down: bit 0 if the output was
+// listed before, others if a higher one was.
+pub fn put_questions(moments: &[u64], outputs: &[u32]) -> Verdict
     requires { ⌜ length (now moments) ≡ length (now outputs) ⌝ }
-    ensures { λ r. ⌜ r ≡ inOrder (now (moments .entry)) (now (outputs .entry)) ⌝ }
+    ensures { λ r. ⌜ ((values : List ℕ) → length values ≡ length (now (moments .entry)) → r ≡ verdict (now (moments .entry)) (now (outputs .entry)) values) ⌝ }
 {
+    let mut seen: u32 = 0;
+    let mut late: u32 = 0;
     let mut before: u64 = 0;
-    let mut least: u32 = 0;
     let mut k: usize = 0;
     while k < moments.len() {
         let output = outputs[k];
         if output >= OUTPUTS {
-            return false;
+            return Verdict::Refused;
         }
         let moment = moments[k];
-        if comes_before(moment, output, before, least) {
-            return false;
+        if moment != before {
+            if moment < before {
+                return Verdict::Refused;
+            }
+            seen = 0;
+            before = moment;
         }
-        before = moment;
-        least = output + 1;
+        late = late | (seen >> output);
+        seen = seen | (1 << output);
         k += 1;
     }
-    true
+    if late == 0 {
+        return Verdict::InOrder;
+    }
+    if late % 2 == 1 {
+        return Verdict::Refused;
+    }
+    Verdict::AnyOrder
 }

@@ -1,6 +1,6 @@
 -- The questions in their order, by the number that answers. Letters: a, b, c the answers to 1, 9 and 11.
-use mathlib.Core.Path.{_≡_, refl, sym, ap, _∙_}
-use mathlib.Core.Bool.{Bool, true, false, _&&_}
+use mathlib.Core.Path.{_≡_, refl, ap, _∙_}
+use mathlib.Core.Bool.{Bool, true, false, cond, _&&_}
 use mathlib.Core.List.{List, _++_}
 use Prim.Native.Nat.{ℕ, _≤_, _<_}
 use native.Mathlib.Omega.{arith}
@@ -54,15 +54,24 @@ module _ (ms os vs : List ℕ) (p : ℕ) (memory : Bytes) where
         unfolding pageCall ask
         falling h = rw (le-leb 2700 (length memory) long, eq-eqb (length ms) (length os) e, eq-eqb (length ms) (length vs) f, h)
 
-        pub moment-falls : noneFalls ms ≡ false → (r : Printed) → r ≡ refusal 9 → PrintedAs outcome memory memory r
+        moment-falls : noneFalls ms ≡ false → (r : Printed) → r ≡ refusal 9 → PrintedAs outcome memory memory r
         moment-falls h r g = refused-as 9 outcome memory r (falling h) g
 
         twice : noneFalls ms ≡ true → listedOnce (writesOf ms os vs) ≡ false → outcome ≡ refused 11
         unfolding pageCall ask
         twice h l = rw (le-leb 2700 (length memory) long, eq-eqb (length ms) (length os) e, eq-eqb (length ms) (length vs) f, h, l)
 
-        pub listed-twice : noneFalls ms ≡ true → listedOnce (writesOf ms os vs) ≡ false → (r : Printed) → r ≡ refusal 11 → PrintedAs outcome memory memory r
+        listed-twice : noneFalls ms ≡ true → listedOnce (writesOf ms os vs) ≡ false → (r : Printed) → r ≡ refusal 11 → PrintedAs outcome memory memory r
         listed-twice h l r g = refused-as 11 outcome memory r (twice h l) g
+
+        -- one of the two turns the lists away
+        pub turned-away : (noneFalls ms ≡ true → listedOnce (writesOf ms os vs) ≡ false) → (k : ℕ) → k ≡ cond (noneFalls ms) 11 9 → (r : Printed) → r ≡ refusal k →
+            PrintedAs outcome memory memory r
+        turned-away l k d r g = go (noneFalls ms) refl d
+          where
+            go : (b : Bool) → noneFalls ms ≡ b → k ≡ cond b 11 9 → PrintedAs outcome memory memory r
+            go true h i = listed-twice h (l h) r (g ∙ ap refusal i)
+            go false h i = moment-falls h r (g ∙ ap refusal i)
 
         all-pass : noneFalls ms ≡ true → listedOnce (writesOf ms os vs) ≡ true → outcome ≡ printedPage p (sortedOpenings (writesOf ms os vs))
         unfolding pageCall ask

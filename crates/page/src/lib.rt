@@ -1,6 +1,6 @@
 // A page for the valve book. Document 02: "A call writes the page asked for, counted from 1, into 2,700 bytes (no such page: rows
 // of spaces) and gives the number of pages." Any lists, any memory and any page number are taken.
-ghost use mathlib.Core.Bool.{true};
+ghost use mathlib.Core.Bool.{true, cond};
 ghost use mathlib.Core.List.{_++_};
 ghost use mathlib.Core.Path.{_≡_};
 ghost use Prim.Native.Nat.{_≤_};
@@ -11,9 +11,9 @@ ghost use Rattle.openings.specs.Questions.{noneFalls, listedOnce};
 ghost use Rattle.openings.specs.InOrder.{inOrder};
 ghost use Rattle.page.specs.Pages.{pageCount, pageBytes};
 ghost use Rattle.page.specs.Call.{firstOpening, refusal, PageFigures};
-use openings::in_order;
-use openings::listed_once;
+use openings::Verdict;
 use openings::none_falls;
+use openings::put_questions;
 use page_book::enter_writes;
 use page_rows::put_blank_rows;
 use page_rows::put_heading;
@@ -110,7 +110,29 @@ fn refused(number: u32) -> Printed
     }
 }
 
-// Questions 1, 9 and 11, each put to the whole lists before the next; then the page. Lists in order pass 9 and 11.
+// "A call that goes through has number 0" (document 01).
+fn gone_through(pages: u64) -> Printed
+    ensures { λ r. ⌜ r ≡ record { number = 0; place = 0; pages = pages } ⌝ }
+{
+    Printed {
+        number: 0,
+        place: 0,
+        pages,
+    }
+}
+
+// The question that turns lists away which fail 9 or 11: 9 comes first.
+fn turned_away(moments: &[u64]) -> u32
+    ensures { λ r. ⌜ r ≡ cond (noneFalls (now (moments .entry))) 11 9 ⌝ }
+{
+    if none_falls(moments) {
+        return 11;
+    }
+    9
+}
+
+// Questions 1, 9 and 11, each put to the whole lists before the next; then the page. 9 and 11 are put in one pass, and 9 again where one
+// of them turns the lists away.
 pub fn print_page(
     moments: &[u64],
     outputs: &[u32],
@@ -129,19 +151,17 @@ pub fn print_page(
     if moments.len() != values.len() {
         return refused(1);
     }
-    let ordered = in_order(moments, outputs);
-    if !ordered {
-        if !none_falls(moments) {
-            return refused(9);
-        }
-        if !listed_once(moments, outputs) {
-            return refused(11);
-        }
-    }
-    let pages = write_page(moments, outputs, values, ordered, page, memory);
-    Printed {
-        number: 0,
-        place: 0,
-        pages,
+    let verdict = put_questions(moments, outputs);
+    match verdict {
+        Verdict::InOrder => gone_through(write_page(moments, outputs, values, true, page, memory)),
+        Verdict::AnyOrder => gone_through(write_page(
+            moments,
+            outputs,
+            values,
+            false,
+            page,
+            memory,
+        )),
+        Verdict::Refused => refused(turned_away(moments)),
     }
 }

@@ -3,6 +3,8 @@ pub mod Moments
 pub mod Turns
 pub mod Listed
 pub mod OwnLines
+pub mod Rest
+pub mod PassedOver
 pub mod AnyOrder
 pub mod Groups
 pub mod RowList

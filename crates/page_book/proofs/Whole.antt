@@ -1,40 +1,36 @@
 -- All writes entered, from a page of rows of spaces: the page of the openings in order. Letters: ms moments, os outputs, vs values, ws writes.
-use mathlib.Core.Path.{_≡_, refl, sym, ap, ap₂, _∙_}
+use mathlib.Core.Path.{_≡_, refl, sym, ap, _∙_}
 use mathlib.Core.Bool.{true}
-use mathlib.Core.List.{List, [], _∷_, _++_, map, append-nil, append-assoc}
-use Prim.Native.Nat.{ℕ, zero, suc, _+_, _≤_, _<_}
-use native.Mathlib.Omega.{arith}
+use mathlib.Core.List.{List, [], _∷_, _++_, append-nil, append-assoc}
+use Prim.Native.Nat.{ℕ, zero, suc, _+_, _<_}
 use lib.ListN.{length, getD, replicate, getD-replicate}
 use Rattle.listing.specs.Bytes.{Bytes}
 use Rattle.openings.specs.Writes.{Write, writesOf}
 use Rattle.openings.specs.Openings.{closedAfter, latestOf, Opening, openingsAfter, openings}
 use Rattle.openings.specs.Order.{sort, writePrecedes, sortedOpenings}
-use Rattle.openings.specs.Questions.{noneFalls, listedOnce, onceAfter}
+use Rattle.openings.specs.Questions.{noneFalls, listedOnce}
 use Rattle.openings.proofs.All.{All, each}
 use Rattle.openings.proofs.All as all
-use Rattle.openings.proofs.OneMore.{passed, passed-last, after, newOpening, openings-last}
-use Rattle.openings.proofs.Listed.{first-below, rest-once}
+use Rattle.openings.proofs.OneMore.{passed, passed-last, openings-last}
 use Rattle.openings.proofs.Sorting.{sort-all}
 use Rattle.openings.proofs.SortedOpenings.{rising-passable, sorted-by-writes}
 use Rattle.page_rows.specs.Rows.{Fits, blankRow, joined}
 use Rattle.page_book.specs.Book.{Book, bookOf, entered, allEntered}
-use Rattle.page_book.proofs.Kept.{Valve, shut, Kept, one-more}
+use Rattle.page_book.proofs.OwnLines.{Low}
+use Rattle.page_book.proofs.Rest.{all-low}
+use Rattle.page_book.proofs.Kept.{shut, Kept, one-more}
 use Rattle.page_book.proofs.RowList.{rowNumber, rowsFrom, shown}
-
--- a write whose numbers have room in their columns
-abbrev Small : Write → Type 0
-Small w = (w .output < 16) × (w .moment < 18446744073709551616)
 
 -- the book has taken in these writes
 abbrev KeptOf : ℕ → Bytes → List Write → Book → Type 0
 KeptOf first tail ws b = Kept first tail (passed [] ws) (openings ws) b
 
-one-kept : (first : ℕ) (tail : Bytes) (ws : List Write) (b : Book) → KeptOf first tail ws b → (w : Write) → Small w →
+one-kept : (first : ℕ) (tail : Bytes) (ws : List Write) (b : Book) → KeptOf first tail ws b → (w : Write) → Low w →
     KeptOf first tail (ws ++ (w ∷ [])) (entered first b w)
 one-kept first tail ws b k w s =
     rw (passed-last [] ws w, openings-last [] ws w) (one-more first tail (passed [] ws) (openings ws) b k w (s .0) (s .1))
 
-all-kept : (first : ℕ) (tail : Bytes) (ws us : List Write) (b : Book) → KeptOf first tail ws b → All Small us →
+all-kept : (first : ℕ) (tail : Bytes) (ws us : List Write) (b : Book) → KeptOf first tail ws b → All Low us →
     KeptOf first tail (ws ++ us) (allEntered first b us)
 unfolding allEntered
 all-kept first tail ws [] b k a = rw (append-nil ws) k
@@ -60,16 +56,6 @@ none-kept first tail memory e = record {
 }
 
 -- ── lists that pass the questions ─────────────────────────────────────────────────────────────────
-all-small : (e : List Write) (ms os vs : List ℕ) → onceAfter e (writesOf ms os vs) ≡ true → ((k : ℕ) → getD ms k 0 < 18446744073709551616) →
-    All Small (writesOf ms os vs)
-unfolding writesOf
-all-small e [] os vs h s = all.none
-all-small e (m ∷ ms) [] vs h s = all.none
-all-small e (m ∷ ms) (o ∷ os) [] h s = all.none
-all-small e (m ∷ ms) (o ∷ os) (v ∷ vs) h s =
-    let w : Write = record { moment = m; output = o; value = v } in
-    each (first-below e w (writesOf ms os vs) h, s 0) (all-small (w ∷ e) ms os vs (rest-once e w (writesOf ms os vs) h) (λ k. s (suc k)))
-
 -- the memory and the count that are left; the numbers of the openings have room in their columns
 pub record Shows (first : ℕ) (tail : Bytes) (xs : List Opening) (b : Book) : Type 0 where
   pub rows : b .memory ≡ joined (shown first xs) ++ tail
@@ -83,5 +69,5 @@ pub book-shows : (first : ℕ) (tail memory : Bytes) (ms os vs : List ℕ) → n
 book-shows first tail memory ms os vs rises once small e =
     let ws = writesOf ms os vs in
     let k = all-kept first tail [] (sort writePrecedes ws) (bookOf memory (replicate 16 0) (replicate 16 0) 0) (none-kept first tail memory e)
-    (sort-all writePrecedes ws (all-small [] ms os vs once small)) in
+    (sort-all writePrecedes ws (all-low [] ms os vs once small)) in
     rw (sorted-by-writes ws (rising-passable 0 ms os vs rises)) (record { rows = k .rows; counted = k .counted; fit = k .fit })

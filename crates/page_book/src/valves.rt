@@ -105,7 +105,7 @@ pub fn enter_write(
 }
 
 // Does a write of this value leave the valve with this line as it is, open or closed?
-fn leaves_valve(line: u8, value: u32) -> bool
+pub fn leaves_valve(line: u8, value: u32) -> bool
     ensures { λ r. ⌜ r ≡ leavesValve line value ⌝ }
 {
     if value == 0 {

@@ -1,14 +1,17 @@
 -- What is said of a trace, and which argument is the flag.
-use mathlib.Core.Path.{_≡_, sym}
-use Prim.Native.Nat.{ℕ, _≤_}
+use mathlib.Core.Path.{_≡_, refl, sym}
+use Prim.Native.Nat.{ℕ, _<_, _≤_}
 use lib.Dec.{eqb}
 use lib.ListN.{length, getD, take}
-use mathlib.Core.Bool.{false}
-use borrow.Author.Tests.{eq-eqb, ne-eqb}
+use mathlib.Core.Bool.{true, false}
+use borrow.Author.Tests.{eq-eqb, ne-eqb, lt-ltb, le-ltb}
 use lib.Seq.{length-take-le}
 use Rattle.listing.specs.Bytes.{Bytes}
 use Rattle.explain_session.specs.Sessions.{SessionSaid, too-long, ends}
-use Rattle.explain.specs.Arguments.{isFlag}
+use Rattle.session_print.specs.Puts.{Puts}
+use Rattle.explain_listing.specs.Said.{usage}
+use Rattle.explain.specs.Arguments.{isFlag, atEnd}
+use Rattle.explain.specs.declared.arguments.Held.{Held}
 
 -- so many bytes are the first so many
 pub counted : (n : ℕ) (bytes : Bytes) → n ≤ length bytes → n ≡ length (take n bytes)
@@ -31,3 +34,17 @@ other-first word e n = rw (eq-eqb (length word) 2 e, ne-eqb (getD word 0 0) 45 n
 pub by-second : (word : Bytes) → length word ≡ 2 → getD word 0 0 ≡ 45 → eqb (getD word 1 0) 116 ≡ isFlag word
 unfolding isFlag
 by-second word e f = rw (eq-eqb (length word) 2 e, eq-eqb (getD word 0 0) 45 f)
+
+-- ── behind the last ──────────────────────────────────────────────────────
+pub trace-to-come : {before after : Bytes} {n : ℕ} (count : ℕ) (held : Held) → held .flagged ≡ true → Puts before 0 usage after n → Puts before 0 (atEnd count held) after n
+unfolding atEnd
+trace-to-come count held h p = rw h p
+
+pub no-argument : {before after : Bytes} {n : ℕ} (count : ℕ) (held : Held) → held .flagged ≡ false → count < 2 → Puts before 0 usage after n
+    → Puts before 0 (atEnd count held) after n
+unfolding atEnd
+no-argument count held h few p = rw (h, lt-ltb count 2 few) p
+
+pub all-said : (before : Bytes) (count : ℕ) (held : Held) → held .flagged ≡ false → 2 ≤ count → Puts before 0 (atEnd count held) before 0
+unfolding atEnd
+all-said before count held h some = rw (h, le-ltb count 2 some) (record { past = refl; stored = refl })

@@ -1,10 +1,11 @@
 // The arguments, one after another.
 ghost use mathlib.Core.Path.{_≡_};
-ghost use Rattle.explain.specs.Arguments.{isFlag, Goes};
+ghost use Prim.Native.Nat.{_≤_};
+ghost use Rattle.session_print.specs.Puts.{Puts};
+ghost use Rattle.explain.specs.Arguments.{isFlag, heldAfter, WordSaid, atEnd};
 use crate::traced::put_traced;
 use explain_listing::said::put_file;
 use explain_listing::said::put_usage;
-use libc::STDOUT_FILENO;
 
 // Between two arguments: the number of the listing's, 0 if there is none yet; and whether a trace comes next.
 pub struct Held {
@@ -25,56 +26,54 @@ fn is_flag(word: &[u8]) -> bool
     word[1] == b't'
 }
 
-// How to call the program.
-pub fn say_usage() {
-    let mut out = io::large_buffer();
-    let n = put_usage(&mut out);
-    io::write_all(STDOUT_FILENO, &out[..n]);
-}
-
-// What is said of a listing's file.
-fn say_listing(path: &[u8]) {
-    let mut out = io::large_buffer();
-    let n = put_file(&mut out, path);
-    io::write_all(STDOUT_FILENO, &out[..n]);
-}
-
-// What is said of a trace's file, on the listing that an argument names.
-fn say_trace(listing: usize, path: &[u8]) {
-    if listing == 0 {
-        say_usage();
-        return;
-    }
-    let mut out = io::large_buffer();
-    let mut name = io::buffer();
-    let length = os::arg(listing, &mut name);
-    let n = put_traced(&mut out, path, &name[..length]);
-    io::write_all(STDOUT_FILENO, &out[..n]);
-}
-
-// One argument.
-pub fn say_next(k: usize, held: Held) -> Held
-    ensures { λ r. ⌜ Goes k held r ⌝ }
+// What is held after argument number k, this word.
+pub fn held_after(k: usize, word: &[u8], held: Held) -> Held
+    ensures { λ r. ⌜ r ≡ heldAfter k (now (word .entry)) held ⌝ }
 {
-    let mut word = io::buffer();
-    let length = os::arg(k, &mut word);
     let listing = held.listing;
     if held.flagged {
-        say_trace(listing, &word[..length]);
         return Held {
             listing,
             flagged: false,
         };
     }
-    if is_flag(&word[..length]) {
+    if is_flag(word) {
         return Held {
             listing,
             flagged: true,
         };
     }
-    say_listing(&word[..length]);
     Held {
         listing: k,
         flagged: false,
     }
+}
+
+// What is said at a word, on the listing that an argument names; how many bytes.
+pub fn put_word(out: &mut [u8], word: &[u8], name: &[u8], held: Held) -> usize
+    ensures { λ r. ⌜ WordSaid held (now (word .entry)) (now (name .entry)) (now (out .entry)) (now (out .exit)) r × (r ≤ 50000) ⌝ }
+{
+    if held.flagged {
+        if held.listing == 0 {
+            return put_usage(out);
+        }
+        return put_traced(out, word, name);
+    }
+    if is_flag(word) {
+        return 0;
+    }
+    put_file(out, word)
+}
+
+// How to call the program, if a trace is still to come or there was no argument; how many bytes.
+pub fn put_end(out: &mut [u8], count: usize, held: Held) -> usize
+    ensures { λ r. ⌜ Puts (now (out .entry)) 0 (atEnd count held) (now (out .exit)) r × (r ≤ 2000) ⌝ }
+{
+    if held.flagged {
+        return put_usage(out);
+    }
+    if count < 2 {
+        return put_usage(out);
+    }
+    0
 }

@@ -4,8 +4,10 @@ pub mod arguments;
 pub mod traced;
 
 use crate::arguments::Held;
-use crate::arguments::say_next;
-use crate::arguments::say_usage;
+use crate::arguments::held_after;
+use crate::arguments::put_end;
+use crate::arguments::put_word;
+use libc::STDOUT_FILENO;
 
 fn main() {
     let count = os::arg_count();
@@ -15,14 +17,17 @@ fn main() {
     };
     let mut k: usize = 1;
     while k < count {
-        held = say_next(k, held);
+        let mut word = io::buffer();
+        let length = os::arg(k, &mut word);
+        let mut name = io::buffer();
+        let named = os::arg(held.listing, &mut name);
+        let mut out = io::large_buffer();
+        let n = put_word(&mut out, &word[..length], &name[..named], held);
+        io::write_all(STDOUT_FILENO, &out[..n]);
+        held = held_after(k, &word[..length], held);
         k += 1;
     }
-    if held.flagged {
-        say_usage();
-        return;
-    }
-    if count < 2 {
-        say_usage();
-    }
+    let mut out = io::large_buffer();
+    let n = put_end(&mut out, count, held);
+    io::write_all(STDOUT_FILENO, &out[..n]);
 }

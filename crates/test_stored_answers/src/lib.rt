@@ -1,17 +1,18 @@
 // The answer stored for a call: number, steps, outputs listed, 1 if a moment is due or else 0, that moment, a number and a value for each output.
 pub mod inputs;
+pub mod reports;
 
 ghost use mathlib.Core.Path.{_≡_};
 ghost use Rattle.test_cases.specs.Words.{Tells};
 ghost use Rattle.test_stored_answers.specs.Pairs.{fitting, PairsPut};
 ghost use Rattle.test_stored_answers.specs.Answers.{AnswerAt, unlisted, AnswerRight};
 use crate::inputs::read_pairs;
+use crate::reports::put_reports;
+use libc::STDOUT_FILENO;
 use test_cases::frame::moment_at;
 use test_cases::frame::past;
 use test_cases::frame::word_at;
 use test_cases::memories::same;
-use test_cases::report::say;
-use test_cases::report::say_number;
 use test_lending::machine::PATTERN;
 
 // The words of an answer before its outputs.
@@ -56,20 +57,6 @@ fn same_reports(a: Report, b: Report) -> bool
     a.due == b.due
 }
 
-fn say_figure(name: &[u8], n: u64) {
-    say(name);
-    say_number(n);
-}
-
-fn say_report(title: &[u8], r: Report) {
-    say(title);
-    say_figure(b" number ", r.number as u64);
-    say_figure(b" steps ", r.steps as u64);
-    say_figure(b" listed ", r.listed as u64);
-    say_figure(b" due ", r.due);
-    say(b"\n");
-}
-
 // Do two lists that held nothing but the pattern now begin with so many pairs of the file, and hold the pattern after them?
 fn outputs_right(s: &[u8], at: usize, listed: u32, numbers: &[u32], values: &[u32]) -> bool
     ensures { λ r. ⌜ Tells r (PairsPut (now (s .entry)) at (fitting listed unlisted unlisted) unlisted unlisted (now (numbers .entry)) (now (values .entry))) ⌝ }
@@ -90,13 +77,14 @@ pub fn answer_right(s: &[u8], at: usize, found: Report, numbers: &[u32], values:
 {
     let expected = answer_at(s, at);
     if !same_reports(expected, found) {
-        say_report(b"expected", expected);
-        say_report(b"found   ", found);
+        let mut out = io::buffer();
+        let n = put_reports(&mut out, expected, found);
+        io::write_all(STDOUT_FILENO, &out[..n]);
         return false;
     }
     let right = outputs_right(s, past(s, at, ANSWER), found.listed, numbers, values);
     if !right {
-        say(b"the output lists are not as they must be\n");
+        io::write_all(STDOUT_FILENO, b"the output lists are not as they must be\n");
     }
     right
 }

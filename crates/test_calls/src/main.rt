@@ -2,15 +2,19 @@
 // Prints each item that fails, with what was expected and what was found, and then how many lists agree.
 // "Spoil" in the file says what is wrong with the memories lent to one call.
 ghost use mathlib.Core.Path.{_≡_};
+ghost use Prim.Native.Nat.{_≤_};
+ghost use Rattle.session_print.specs.Puts.{Puts};
+ghost use Rattle.test_calls.specs.Failures.{failureLine};
 ghost use Rattle.test_calls.specs.Cases.{LoadsInto, RanItems, RanCase, RanFile};
 use call_load::load;
+use libc::STDOUT_FILENO;
+use session_print::figure::put_figure;
 use test_cases::frame::part_at;
 use test_cases::frame::past;
 use test_cases::frame::word_at;
 use test_cases::report::put_summary;
+use test_cases::report::put_text;
 use test_cases::report::read_file;
-use test_cases::report::say;
-use test_cases::report::say_number;
 use test_lending::machine::unused_memory;
 use test_stored_items::items::after_item;
 use test_stored_items::items::run_item;
@@ -23,19 +27,21 @@ fn refusals(listing: &[u8], table: &mut [u32]) -> u64
     match load(listing, table) {
         Loaded::Done => 0,
         Loaded::Refused(_, _) => {
-            say(b"a listing does not load\n");
+            io::write_all(STDOUT_FILENO, b"a listing does not load\n");
             1
         }
     }
 }
 
-// Says which item of which case fails.
-fn say_failure(name: u32, item: u64) {
-    say(b"case ");
-    say_number(name as u64);
-    say(b", item ");
-    say_number(item);
-    say(b" fails\n");
+// Which item of which case fails, as a line put into lent bytes; how many bytes.
+fn put_failure(out: &mut [u8], name: u32, item: u64) -> usize
+    ensures { λ r. ⌜ Puts (now (out .entry)) 0 (failureLine name item) (now (out .exit)) r × (r ≤ 60) ⌝ }
+{
+    let a = put_text(out, 0, b"case ");
+    let b = put_figure(out, a, name as u64);
+    let c = put_text(out, b, b", item ");
+    let d = put_figure(out, c, item);
+    put_text(out, d, b" fails\n")
 }
 
 // How far a list of items has been run: the place after it, and how many failed.
@@ -63,7 +69,9 @@ fn run_items(
     let mut failed: u64 = 0;
     while done < items {
         if !run_item(s, at, table, machine, kept) {
-            say_failure(name, done);
+            let mut line = io::buffer();
+            let n = put_failure(&mut line, name, done);
+            io::write_all(STDOUT_FILENO, &line[..n]);
             failed += 1;
         }
         at = after_item(s, at);
@@ -127,5 +135,5 @@ fn main() {
     let tally = run_file(&file[..length]);
     let mut line = io::buffer();
     let n = put_summary(&mut line, b"calls: ", tally.cases, tally.failed);
-    say(&line[..n]);
+    io::write_all(STDOUT_FILENO, &line[..n]);
 }

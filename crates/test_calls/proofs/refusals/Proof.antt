@@ -12,11 +12,11 @@ enum-told c = search needs
 enum-told-2 : tie.Need-enum-told-2
 enum-told-2 c = search needs
 
-slice-aggregate-say : tie.Need-slice-aggregate-say
-slice-aggregate-say c = search needs
+slice-aggregate-write-all : tie.Need-slice-aggregate-write-all
+slice-aggregate-write-all c = search needs
 
-say-requires : tie.Need-say-requires
-say-requires c κs = search needs
+write-all-requires : tie.Need-write-all-requires
+write-all-requires c κs = search needs
 
 same-length : tie.Need-same-length
 same-length c = search needs
@@ -40,8 +40,8 @@ refusals-spec =
     load-requires
     enum-told
     enum-told-2
-    slice-aggregate-say
-    say-requires
+    slice-aggregate-write-all
+    write-all-requires
     same-length
     returns
     same-length-2

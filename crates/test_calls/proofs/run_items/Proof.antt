@@ -1,10 +1,13 @@
-use mathlib.Core.Path.{_≡_, refl, ap, _∙_}
+-- `test_calls::run_items` meets its contract.
+use mathlib.Core.Path.{_≡_, refl, sym, ap, _∙_}
 use mathlib.Core.Logic.{⊎-elim}
 use native.Mathlib.Omega.{arith}
 use Prim.Native.Nat.{_-_, _≤_}
 use lib.ListN.{length}
 use borrow.Author.Tests.{not-true, not-false}
 use Rattle.test_calls.proofs.Turning.{Rest, begun, told-of, one-agrees, one-fails, ended, ended-place}
+use lib.Seq.{length-take-le}
+use borrow.Author.Needs.{needs}
 use Rattle.test_calls.proofs.run_items.Statement.{statement}
 use Rattle.test_calls.proofs.run_items.Tie as tie
 
@@ -24,9 +27,24 @@ run-item-requires : tie.Need-run-item-requires Inv-loop μ-loop
 run-item-requires c κs =
     tt
 
-say-failure-requires : tie.Need-say-failure-requires Inv-loop μ-loop
-say-failure-requires c κs =
-    tt
+buffer-requires : tie.Need-buffer-requires Inv-loop μ-loop
+buffer-requires c κs = search needs
+
+slice-aggregate-put-failure : tie.Need-slice-aggregate-put-failure Inv-loop μ-loop
+slice-aggregate-put-failure c = search needs
+
+put-failure-requires : tie.Need-put-failure-requires Inv-loop μ-loop
+put-failure-requires c κs = search needs
+
+array-share-prefix-line : tie.Need-array-share-prefix-line Inv-loop μ-loop
+array-share-prefix-line c = search needs
+
+slice-aggregate-write-all : tie.Need-slice-aggregate-write-all Inv-loop μ-loop
+slice-aggregate-write-all c =
+    sym (length-take-le _ _ (search needs))
+
+write-all-requires : tie.Need-write-all-requires Inv-loop μ-loop
+write-all-requires c κs = search needs
 
 add-failed : tie.Need-add-failed Inv-loop μ-loop
 add-failed c =
@@ -87,7 +105,12 @@ run-items-spec =
     μ-loop
     loop-holds
     run-item-requires
-    say-failure-requires
+    buffer-requires
+    slice-aggregate-put-failure
+    put-failure-requires
+    array-share-prefix-line
+    slice-aggregate-write-all
+    write-all-requires
     add-failed
     after-item-requires
     add-done

@@ -35,14 +35,6 @@ fn piece() -> [u8; 1100]
     [0; 1100]
 }
 
-// How to call the program.
-fn explain() {
-    io::write_all(
-        STDERR_FILENO,
-        b"usage: session LISTING TRACE\nLISTING and TRACE are files that can be read.\n",
-    );
-}
-
 // What was read of a file: whether it could be opened, and how many bytes were put into the lent ones.
 struct Taken {
     is_read: bool,
@@ -60,7 +52,6 @@ fn read_argument(i: usize, text: &mut [u8]) -> Taken
             STDERR_FILENO,
             b"session: two file names are wanted, the listing's and the trace's\n",
         );
-        explain();
         return Taken {
             is_read: false,
             count: 0,
@@ -69,7 +60,6 @@ fn read_argument(i: usize, text: &mut [u8]) -> Taken
     let fd = os::open_read(&path[..length]);
     if fd < 0 {
         os::fail(&path[..length]);
-        explain();
         return Taken {
             is_read: false,
             count: 0,
@@ -81,7 +71,6 @@ fn read_argument(i: usize, text: &mut [u8]) -> Taken
     let is_read = libc::read(fd, &mut next) >= 0;
     if !is_read {
         os::fail(&path[..length]);
-        explain();
     }
     libc::close(fd);
     Taken { is_read, count }

@@ -4,11 +4,11 @@ ghost use Prim.Native.Nat.{min};
 ghost use lib.ListN.{length, take};
 ghost use Rattle.test_cases.specs.Words.{Tells};
 ghost use Rattle.test_lending.specs.Memories.{StoppedForm, MachineRight, unusedMemory};
+use libc::STDOUT_FILENO;
 use test_cases::memories::all_are;
 use test_cases::memories::all_from;
 use test_cases::memories::copy;
 use test_cases::memories::same;
-use test_cases::report::say;
 
 // The word that lists and memories are filled with before they are lent, and the length of the memories asked for.
 pub const PATTERN: u32 = 2779096485;
@@ -66,7 +66,7 @@ pub fn machine_right(machine: &[u32], before: &[u32], number: u32) -> bool
 {
     let right = is_right(machine, before, number);
     if !right {
-        say(b"the machine is not as it must be\n");
+        io::write_all(STDOUT_FILENO, b"the machine is not as it must be\n");
     }
     right
 }

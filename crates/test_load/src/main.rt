@@ -9,6 +9,7 @@ ghost use Rattle.test_load.specs.Files.{RanFile, RanSome, RanShort};
 use crate::figures::Figures;
 use crate::figures::load_figures;
 use crate::figures::same_figures;
+use libc::STDOUT_FILENO;
 use table::CELL_END;
 use table::TABLE_WORDS;
 use test_cases::frame::part_at;
@@ -20,8 +21,6 @@ use test_cases::memories::fill;
 use test_cases::memories::same_to;
 use test_cases::report::put_summary;
 use test_cases::report::read_file;
-use test_cases::report::say;
-use test_cases::report::say_number;
 
 // The word that a table is filled with before it is lent.
 const PATTERN: u32 = 2779096485;
@@ -64,17 +63,17 @@ fn agree(name: u32, expected: Figures, found: Figures) -> bool
 {
     let same = same_figures(expected, found);
     if !same {
-        say(b"case ");
-        say_number(name as u64);
-        say(b": expected ");
-        say_number(expected.number as u64);
-        say(b" at ");
-        say_number(expected.place);
-        say(b", found ");
-        say_number(found.number as u64);
-        say(b" at ");
-        say_number(found.place);
-        say(b"\n");
+        io::write_all(STDOUT_FILENO, b"case ");
+        io::print_decimal(STDOUT_FILENO, name as u64);
+        io::write_all(STDOUT_FILENO, b": expected ");
+        io::print_decimal(STDOUT_FILENO, expected.number as u64);
+        io::write_all(STDOUT_FILENO, b" at ");
+        io::print_decimal(STDOUT_FILENO, expected.place);
+        io::write_all(STDOUT_FILENO, b", found ");
+        io::print_decimal(STDOUT_FILENO, found.number as u64);
+        io::write_all(STDOUT_FILENO, b" at ");
+        io::print_decimal(STDOUT_FILENO, found.place);
+        io::write_all(STDOUT_FILENO, b"\n");
     }
     same
 }
@@ -121,9 +120,9 @@ fn tables_right(name: u32, table: &[u32], other: &[u32], number: u32) -> bool
 {
     let right = as_left(table, other, number);
     if !right {
-        say(b"case ");
-        say_number(name as u64);
-        say(b": a table is not as it must be\n");
+        io::write_all(STDOUT_FILENO, b"case ");
+        io::print_decimal(STDOUT_FILENO, name as u64);
+        io::write_all(STDOUT_FILENO, b": a table is not as it must be\n");
     }
     right
 }
@@ -230,5 +229,5 @@ fn main() {
     let failed = short + many.failed + long.failed;
     let mut line = io::buffer();
     let n = put_summary(&mut line, b"load: ", cases, failed);
-    say(&line[..n]);
+    io::write_all(STDOUT_FILENO, &line[..n]);
 }

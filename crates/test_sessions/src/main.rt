@@ -12,14 +12,13 @@ ghost use Rattle.session_replay.specs.Ending.{AsLong};
 ghost use Rattle.session_replay.specs.Phases.{memories};
 ghost use Rattle.test_sessions.specs.Cases.{CaseAt, Inside, Agrees, Ran};
 use crate::playing::plays;
+use libc::STDOUT_FILENO;
 use table::TABLE_WORDS;
 use test_cases::frame::part_at;
 use test_cases::frame::past;
 use test_cases::frame::word_at;
 use test_cases::report::put_summary;
 use test_cases::report::read_file;
-use test_cases::report::say;
-use test_cases::report::say_number;
 
 // A case of the file: its name, where listing, trace and print begin and end. The next case follows the print.
 pub struct Case {
@@ -72,9 +71,9 @@ fn run_case(s: &[u8], case: Case, table: &mut [u32], machine: &mut [u32], out: &
         out,
     );
     if !right {
-        say(b"session ");
-        say_number(case.name as u64);
-        say(b" fails\n");
+        io::write_all(STDOUT_FILENO, b"session ");
+        io::print_decimal(STDOUT_FILENO, case.name as u64);
+        io::write_all(STDOUT_FILENO, b" fails\n");
     }
     right
 }
@@ -133,5 +132,5 @@ fn main() {
     let tally = run_file(&file[..length], &mut table, &mut machine, &mut out);
     let mut line = io::buffer();
     let n = put_summary(&mut line, b"sessions: ", tally.cases, tally.failed);
-    say(&line[..n]);
+    io::write_all(STDOUT_FILENO, &line[..n]);
 }

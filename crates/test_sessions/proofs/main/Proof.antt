@@ -60,11 +60,11 @@ put-summary-requires c κs = search needs
 array-share-prefix-line : tie.Need-array-share-prefix-line
 array-share-prefix-line c = search needs
 
-slice-aggregate-say : tie.Need-slice-aggregate-say
-slice-aggregate-say c = search needs
+slice-aggregate-write-all : tie.Need-slice-aggregate-write-all
+slice-aggregate-write-all c = search needs
 
-say-requires : tie.Need-say-requires
-say-requires c κs = search needs
+write-all-requires : tie.Need-write-all-requires
+write-all-requires c κs = search needs
 
 returns : tie.Need-returns
 returns c = search needs
@@ -91,6 +91,6 @@ main-spec =
     slice-aggregate-put-summary-2
     put-summary-requires
     array-share-prefix-line
-    slice-aggregate-say
-    say-requires
+    slice-aggregate-write-all
+    write-all-requires
     returns)

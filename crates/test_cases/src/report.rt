@@ -1,21 +1,12 @@
-// Lines of a test program's report, to standard output.
+// Texts of a test program's report, put into lent bytes; and the bytes of a file.
 ghost use mathlib.Core.Path.{_≡_};
 ghost use Prim.Native.Nat.{_+_, _≤_};
 ghost use lib.ListN.{length};
 ghost use Rattle.io.specs.Counts.{Counts};
 ghost use Rattle.session_print.specs.Puts.{Puts};
 ghost use Rattle.test_cases.specs.Summaries.{summary};
-use libc::STDOUT_FILENO;
 use session_print::figure::put_byte;
 use session_print::figure::put_figure;
-
-pub fn say(text: &[u8]) {
-    io::write_all(STDOUT_FILENO, text);
-}
-
-pub fn say_number(n: u64) {
-    io::print_decimal(STDOUT_FILENO, n);
-}
 
 // A text put into lent bytes at a place; the place past it.
 pub fn put_text(out: &mut [u8], at: usize, text: &[u8]) -> usize

@@ -15,6 +15,21 @@ abbrev μ-loop : tie.MeasureT-loop
 μ-loop file moments₀ outputs₀ values₀ memory₀ out₀ read count at₀ done₀ moments outputs values memory out at done =
     count - done
 
+text-requires : tie.Need-text-requires Inv-loop μ-loop
+text-requires c κs = search needs
+
+moment-list-requires : tie.Need-moment-list-requires Inv-loop μ-loop
+moment-list-requires c κs = search needs
+
+word-list-requires : tie.Need-word-list-requires Inv-loop μ-loop
+word-list-requires c κs = search needs
+
+word-list-requires-2 : tie.Need-word-list-requires-2 Inv-loop μ-loop
+word-list-requires-2 c κs = search needs
+
+page-memory-requires : tie.Need-page-memory-requires Inv-loop μ-loop
+page-memory-requires c κs = search needs
+
 buffer-requires : tie.Need-buffer-requires Inv-loop μ-loop
 buffer-requires c κs = search needs
 
@@ -125,6 +140,11 @@ main-spec =
     (tie.spec
     Inv-loop
     μ-loop
+    text-requires
+    moment-list-requires
+    word-list-requires
+    word-list-requires-2
+    page-memory-requires
     buffer-requires
     slice-aggregate-read-file
     slice-aggregate-read-file-2

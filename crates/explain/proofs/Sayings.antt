@@ -36,7 +36,8 @@ unfolding isFlag
 by-second word e f = rw (eq-eqb (length word) 2 e, eq-eqb (getD word 0 0) 45 f)
 
 -- ── behind the last ──────────────────────────────────────────────────────
-pub trace-to-come : {before after : Bytes} {n : ℕ} (count : ℕ) (held : Held) → held .flagged ≡ true → Puts before 0 usage after n → Puts before 0 (atEnd count held) after n
+pub trace-to-come : {before after : Bytes} {n : ℕ} (count : ℕ) (held : Held) → held .flagged ≡ true → Puts before 0 usage after n
+    → Puts before 0 (atEnd count held) after n
 unfolding atEnd
 trace-to-come count held h p = rw h p
 

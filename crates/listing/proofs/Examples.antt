@@ -104,6 +104,8 @@ cases =
     ∷ "P\t0\t0\nR\t-\t1\nS\t0\t@#1\nE\n" gives 2 at 3
     ∷ "P\t0\t0\nR\t-\t1\nS\t0\t-1\nE\n" gives 2 at 3
     ∷ "P\t0\t0\nR\t-\t1\nS\t0\t#1 +1\nE\n" gives 2 at 3
+    ∷ "P\t0\t0\nR\t-\t1\nS\t0\t0 0 //\nE\n" gives 2 at 3
+    ∷ "P\t0\t0\nR\t-\t1\nS\t0\t0 0 %%\nE\n" gives 2 at 3
     ∷ "P\t0\t0\nR\t-\t1\nS\t-0\t#1\nE\n" gives 2 at 3
     -- question 2: an expression leaves one value and never holds more than 8
     ∷ "P\t0\t0\nR\t-\t1\nS\t0\t\nE\n" gives 2 at 3
@@ -114,11 +116,16 @@ cases =
     ∷ "P\t0\t0\nR\t-\t1\nS\t0\t0 - 0\nE\n" gives 2 at 3
     ∷ "P\t0\t0\nR\t-\t1\nS\t0\t0 * 0\nE\n" gives 2 at 3
     ∷ "P\t0\t0\nR\t-\t1\nS\t0\t0 < 0\nE\n" gives 2 at 3
+    ∷ "P\t0\t0\nR\t-\t1\nS\t0\t/ 0\nE\n" gives 2 at 3
+    ∷ "P\t0\t0\nR\t-\t1\nS\t0\t0 /\nE\n" gives 2 at 3
+    ∷ "P\t0\t0\nR\t-\t1\nS\t0\t0 % 0\nE\n" gives 2 at 3
+    ∷ "P\t0\t0\nR\t-\t1\nS\t0\t0 0 0 0 0 0 0 0 0 / / / / % % % %\nE\n" gives 2 at 3
     ∷ "P\t0\t0\nR\t-\t1\nS\t0\t#1 #1 #1 #1 #1 #1 #1 #1 #1 + + + + + + + +\nE\n" gives 2 at 3
     ∷ "P\t0\t0\nR\t-\t1\nS\t0\t@0 @0 @0 @0 @0 @0 @0 @0 @0 - - - - - - - -\nE\n" gives 2 at 3
     ∷ "P\t0\t0\nR\t-\t1\nS\t0\t0 0 0 0 0 0 0 0 + 0 0 + + + + + + + +\nE\n" gives 2 at 3
     ∷ "P\t0\t0\nR\t-\t1\nS\t0\t0 0 0 0 0 0 0 0 0 + + + + + + + +\nE\n" gives 2 at 3
     ∷ "P\t0\t0\nR\t-\t1\nS\t0\t0 0 0 0 0 0 0 0 + + + + + + +\nE\n" gives 0 at 0
+    ∷ "P\t0\t0\nR\t-\t1\nS\t0\t0 0 0 0 0 0 0 0 / / / % % % %\nE\n" gives 0 at 0
     -- question 2: 1 to 4 names, 1 to 8 children
     ∷ "P\t0\t0\nR\t-\t1\nW\nE\n" gives 2 at 3
     ∷ "P\t0\t0\nR\t-\t1\nW\t0 0 0 0 0\nE\n" gives 2 at 3
@@ -176,6 +183,7 @@ cases =
     ∷ "P\t0\t0\nR\t-\t0\nE\n" gives 0 at 0
     ∷ "P\t1\t0\nR\tr\t1\nW\t0 0\nF\t1 0 0\t1 0 1\t0 1\nE\nE\nR\trv\t0\nG\t0\nR\tvvv\t0\nE\n" gives 0 at 0
     ∷ "P\t0\t1\nR\tr\t0\nS\t0\t#-2147483648 #2147483647 - @0 *\nE\n" gives 0 at 0
+    ∷ "P\t1\t1\nR\trr\t0\nS\t1\t0 1 /\nS\t0\t#7 #-2 %\nE\n" gives 0 at 0
     ∷ []
 
 -- ── longer texts ─────────────────────────────────────────────────────────────────

@@ -14,7 +14,7 @@ use Rattle.listing.specs.Expressions.{bind, when, each, alone, halfRange
 use Rattle.listing.specs.Form.{Field, nextField, noneLeft, onePiece, oneTo, readNumber, readKind, readKinds, mostNamesAwaited, readNames, readCall, readLetter}
 use Rattle.listing.specs.Text.{signedFigure, pieceText, kindText, kindsText, figureField, expressionField, callField}
 use Rattle.listing.specs.WellFormed.{pieceHasForm, expressionHasForm}
-use Rattle.listing.specs.Listing.{Piece, literal, valueOf, writtenMark, plus, minus, times, less, Expression, Call, Kind, byReference, byValue}
+use Rattle.listing.specs.Listing.{Piece, literal, valueOf, writtenMark, plus, minus, times, less, divide, remainder, Expression, Call, Kind, byReference, byValue}
 use Rattle.listing.proofs.Tests.{no-reading, and-left, and-right}
 use Rattle.listing.proofs.Figures.{figure-readFigure}
 
@@ -127,8 +127,11 @@ piece-back (byte ∷ rest) p e =
     ⊎-elim (λ h. operator-back byte 43 rest plus p refl refl h) (λ e.
     ⊎-elim (λ h. operator-back byte 45 rest minus p refl refl h) (λ e.
     ⊎-elim (λ h. operator-back byte 42 rest times p refl refl h) (λ e.
-    ⊎-elim (λ h. operator-back byte 60 rest less p refl refl h) (λ e. valued e)
-    (chosen byte 60 _ _ p e)) (chosen byte 42 _ _ p e)) (chosen byte 45 _ _ p e)) (chosen byte 43 _ _ p e)) (chosen byte 64 _ _ p e)) (chosen byte 35 _ _ p e)
+    ⊎-elim (λ h. operator-back byte 60 rest less p refl refl h) (λ e.
+    ⊎-elim (λ h. operator-back byte 47 rest divide p refl refl h) (λ e.
+    ⊎-elim (λ h. operator-back byte 37 rest remainder p refl refl h) (λ e. valued e)
+    (chosen byte 37 _ _ p e)) (chosen byte 47 _ _ p e)) (chosen byte 60 _ _ p e)) (chosen byte 42 _ _ p e)) (chosen byte 45 _ _ p e))
+    (chosen byte 43 _ _ p e)) (chosen byte 64 _ _ p e)) (chosen byte 35 _ _ p e)
   where
     marked : (byte ≡ 64) × (bind (readFigure rest) (λ n. some (writtenMark n)) ≡ some p) → PieceBack (byte ∷ rest) p
     marked h =

@@ -17,7 +17,7 @@ use Rattle.listing.specs.Text.{signedFigure, pieceText, kindText, kindsT
 use Rattle.listing.specs.Limits.{bytesOn, nameLimit, routineLimit, instructionLimit, callPieces, instructionPieces}
 use Rattle.listing.specs.Questions.{pieceIsThere, argumentCount, callIsThere, isThere}
 use Rattle.listing.specs.WellFormed.{pieceHasForm, expressionHasForm, instructionHasForm}
-use Rattle.listing.specs.Listing.{Piece, literal, valueOf, writtenMark, plus, minus, times, less, Expression, Call, Instruction, assign, schedule, branch, jump, wait, fork, end, Kind, opens, ports, instruction, Routine}
+use Rattle.listing.specs.Listing.{Piece, literal, valueOf, writtenMark, plus, minus, times, less, divide, remainder, Expression, Call, Instruction, assign, schedule, branch, jump, wait, fork, end, Kind, opens, ports, instruction, Routine}
 use Rattle.listing.proofs.Tests.{no-test, and-left, and-right, all-head, all-tail}
 
 -- ── figures ──────────────────────────────────────────────────────────────────────
@@ -137,6 +137,10 @@ module _ (names : ℕ) (few : names ≤ nameLimit) where
       operator-cost held times e refl (expression-cost (held - 1) e (all-tail pieceHasForm times e f) (all-tail (pieceIsThere names) times e t)) h
   expression-cost held (less ∷ e) f t h =
       operator-cost held less e refl (expression-cost (held - 1) e (all-tail pieceHasForm less e f) (all-tail (pieceIsThere names) less e t)) h
+  expression-cost held (divide ∷ e) f t h =
+      operator-cost held divide e refl (expression-cost (held - 1) e (all-tail pieceHasForm divide e f) (all-tail (pieceIsThere names) divide e t)) h
+  expression-cost held (remainder ∷ e) f t h =
+      operator-cost held remainder e refl (expression-cost (held - 1) e (all-tail pieceHasForm remainder e f) (all-tail (pieceIsThere names) remainder e t)) h
 
   -- an expression's field, with the byte before it
   expression-size : (e : Expression) → expressionHasForm e ≡ true → all (pieceIsThere names) e ≡ true

@@ -13,7 +13,7 @@ use Rattle.listing.specs.Expressions.{each, alone, halfRange, wordRange,
 use Rattle.listing.specs.Form.{nextField, noneLeft, onePiece, readKind, readKinds, readNames, readCall, readLetter, readByLetter, readRecord, mayStandOn, readLine}
 use Rattle.listing.specs.Text.{signedFigure, pieceText, kindText, kindsText, expressionField, callField, instructionFields, lineFields, lineText}
 use Rattle.listing.specs.WellFormed.{pieceHasForm, expressionHasForm, instructionHasForm, lineHasForm}
-use Rattle.listing.specs.Listing.{Piece, literal, valueOf, writtenMark, plus, minus, times, less, Expression, Call, assign, schedule, branch, jump, wait, fork, end, Kind, byReference, byValue, Line, ports, opens, instruction}
+use Rattle.listing.specs.Listing.{Piece, literal, valueOf, writtenMark, plus, minus, times, less, divide, remainder, Expression, Call, assign, schedule, branch, jump, wait, fork, end, Kind, byReference, byValue, Line, ports, opens, instruction}
 use Rattle.listing.proofs.Tests.{and-left, and-right, all-head, all-tail}
 use Rattle.listing.proofs.Figures.{readFigure-figure}
 use Rattle.listing.proofs.Separators.{figure-begins, line-fields-back}
@@ -58,6 +58,8 @@ readPiece-pieceText (valueOf n) h =
       below 45 (omega arith),
       below 42 (omega arith),
       above 60 (omega arith),
+      below 47 (omega arith),
+      below 37 (omega arith),
       read,
     )
 readPiece-pieceText (writtenMark n) h = rw (readFigure-figure n)
@@ -65,6 +67,8 @@ readPiece-pieceText plus h = refl
 readPiece-pieceText minus h = refl
 readPiece-pieceText times h = refl
 readPiece-pieceText less h = refl
+readPiece-pieceText divide h = refl
+readPiece-pieceText remainder h = refl
 
 -- ── fields ───────────────────────────────────────────────────────────────────────
 each-map : {A B : Type 0} (read : A → Option B) (text : B → A) → ((b : B) → read (text b) ≡ some b) → (bs : List B) → each read (map text bs) ≡ some bs

@@ -11,7 +11,7 @@ use Rattle.listing.specs.Expressions.{halfRange, wordRange, leavesOneFro
 use Rattle.listing.specs.Form.{Field, fieldsOf, oneTo, mostNamesAwaited}
 use Rattle.listing.specs.Text.{signedFigure, pieceText, kindText, kindsText, letterField, figureField, expressionField, callField, instructionFields, lineFields, joinFields, lineText}
 use Rattle.listing.specs.WellFormed.{expressionHasForm, instructionHasForm, lineHasForm}
-use Rattle.listing.specs.Listing.{Piece, literal, valueOf, writtenMark, plus, minus, times, less, Expression, Call, Instruction, assign, schedule, branch, jump, wait, fork, end, Kind, byReference, byValue, Line, ports, opens, instruction}
+use Rattle.listing.specs.Listing.{Piece, literal, valueOf, writtenMark, plus, minus, times, less, divide, remainder, Expression, Call, Instruction, assign, schedule, branch, jump, wait, fork, end, Kind, byReference, byValue, Line, ports, opens, instruction}
 use Rattle.listing.proofs.Tests.{no-test, and-left, and-right, all-head, all-tail}
 use Rattle.listing.proofs.Figures.{digit, figure-leads, figure-zero}
 use Rattle.listing.proofs.Splits.{Free, free, freer, All, none-left, also, split-join}
@@ -70,6 +70,8 @@ piece-visible plus = put 43 (omega arith) (omega arith) nothing
 piece-visible minus = put 45 (omega arith) (omega arith) nothing
 piece-visible times = put 42 (omega arith) (omega arith) nothing
 piece-visible less = put 60 (omega arith) (omega arith) nothing
+piece-visible divide = put 47 (omega arith) (omega arith) nothing
+piece-visible remainder = put 37 (omega arith) (omega arith) nothing
 
 kind-visible : (kind : Kind) → (space < kindText kind) × (kindText kind < 127)
 unfolding kindText

@@ -6,7 +6,7 @@ use Prim.Native.Nat.{ℕ, suc, _-_}
 use Prim.Native.Char.{code}
 use lib.Dec.{eqb, ltb, leb}
 use Rattle.listing.specs.Bytes.{Bytes, readFigure}
-use Rattle.listing.specs.Listing.{Piece, literal, valueOf, writtenMark, plus, minus, times, less, Expression}
+use Rattle.listing.specs.Listing.{Piece, literal, valueOf, writtenMark, plus, minus, times, less, divide, remainder, Expression}
 
 -- ── readings that may fail ───────────────────────────────────────────────────────
 -- what was read, handed on
@@ -46,7 +46,7 @@ readLiteral (byte ∷ rest) =
     (bind (readFigure rest) (λ n. when (leb 1 n && leb n halfRange) (literal (wordRange - n))))
     (bind (readFigure (byte ∷ rest)) (λ n. when (ltb n halfRange) (literal n)))
 
--- "the pieces `#v` .., `n` (a name's value), `@n` .., `+ - * <`"
+-- "the pieces `#v` .., `n` (a name's value), `@n` .., `+ - * <`"; document 02: "Expressions gain `/` and `%`"
 unfoldable pub readPiece : Bytes → Option Piece
 readPiece [] = none
 readPiece (byte ∷ rest) =
@@ -56,7 +56,9 @@ readPiece (byte ∷ rest) =
     (cond (eqb byte (code "-")) (alone rest minus)
     (cond (eqb byte (code "*")) (alone rest times)
     (cond (eqb byte (code "<")) (alone rest less)
-    (bind (readFigure (byte ∷ rest)) (λ n. some (valueOf n))))))))
+    (cond (eqb byte (code "/")) (alone rest divide)
+    (cond (eqb byte (code "%")) (alone rest remainder)
+    (bind (readFigure (byte ∷ rest)) (λ n. some (valueOf n))))))))))
 
 -- ── "It leaves one value and never holds more than 8; both belong to its form." ──
 abbrev pub mostValuesHeld : ℕ
@@ -74,6 +76,8 @@ effectOf plus = joins
 effectOf minus = joins
 effectOf times = joins
 effectOf less = joins
+effectOf divide = joins
+effectOf remainder = joins
 
 -- if so many are held, is there room for one more, are there two to take?
 unfoldable pub mayCome : ℕ → Effect → Bool

@@ -4,10 +4,11 @@ use mathlib.Core.List.{List, [], _∷_, _++_, map}
 use Prim.Native.Nat.{ℕ, _+_}
 use lib.ListN.{length}
 
--- "the pieces `#v` (a signed 32-bit literal), `n` (a name's value), `@n` (1 if it was written in this instant, else 0), `+ - * <`"
+-- "the pieces `#v` (a signed 32-bit literal), `n` (a name's value), `@n` (1 if it was written in this instant, else 0), `+ - * <`";
+-- document 02: "Expressions gain `/` and `%`"
 pub data Piece : Type 0 where
   literal valueOf writtenMark : ℕ → Piece
-  plus minus times less : Piece
+  plus minus times less divide remainder : Piece
 
 -- "An expression is postfix, of the pieces .."
 abbrev pub Expression : Type 0

@@ -8,7 +8,7 @@ use lib.Dec.{eqb, ltb}
 use lib.ListN.{length, getD}
 use Rattle.listing.specs.Lists.{all, isEmpty, allButLast, lastOr, isSome, present, firstNo}
 use Rattle.listing.specs.Bytes.{Bytes, lineFeed, split}
-use Rattle.listing.specs.Listing.{Piece, literal, valueOf, writtenMark, plus, minus, times, less, Call, Instruction, assign, schedule, branch, jump, wait, fork, end, Kind, byReference, byValue, Line, Routine, Listing, nameCount, listingOf}
+use Rattle.listing.specs.Listing.{Piece, literal, valueOf, writtenMark, plus, minus, times, less, divide, remainder, Call, Instruction, assign, schedule, branch, jump, wait, fork, end, Kind, byReference, byValue, Line, Routine, Listing, nameCount, listingOf}
 use Rattle.listing.specs.Form.{readLine}
 use Rattle.listing.specs.Limits.{limitAnswers}
 
@@ -58,6 +58,8 @@ pieceIsThere names plus = true
 pieceIsThere names minus = true
 pieceIsThere names times = true
 pieceIsThere names less = true
+pieceIsThere names divide = true
+pieceIsThere names remainder = true
 
 -- the arguments that a routine takes
 unfoldable pub argumentCount : List Routine → ℕ → ℕ

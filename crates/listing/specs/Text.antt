@@ -7,7 +7,7 @@ use lib.Dec.{ltb}
 use Rattle.listing.specs.Bytes.{Bytes, tab, space, lineFeed, join, figure}
 use Rattle.listing.specs.Expressions.{halfRange, wordRange}
 use Rattle.listing.specs.Form.{Field}
-use Rattle.listing.specs.Listing.{Piece, literal, valueOf, writtenMark, plus, minus, times, less, Expression, Call, Instruction, assign, schedule, branch, jump, wait, fork, end, Kind, byReference, byValue, Line, ports, opens, instruction, Listing, linesOf}
+use Rattle.listing.specs.Listing.{Piece, literal, valueOf, writtenMark, plus, minus, times, less, divide, remainder, Expression, Call, Instruction, assign, schedule, branch, jump, wait, fork, end, Kind, byReference, byValue, Line, ports, opens, instruction, Listing, linesOf}
 
 -- ── pieces ───────────────────────────────────────────────────────────────────────
 -- a word as a signed figure: the words from 2 ^ 31 on are the negative values
@@ -22,6 +22,8 @@ pieceText plus = code "+" ∷ []
 pieceText minus = code "-" ∷ []
 pieceText times = code "*" ∷ []
 pieceText less = code "<" ∷ []
+pieceText divide = code "/" ∷ []
+pieceText remainder = code "%" ∷ []
 
 unfoldable pub kindText : Kind → ℕ
 kindText byReference = code "r"

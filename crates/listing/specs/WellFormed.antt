@@ -5,7 +5,7 @@ use Prim.Native.Nat.{ℕ}
 use lib.Dec.{ltb, leb}
 use lib.ListN.{length}
 use Rattle.listing.specs.Lists.{all, total, allYes}
-use Rattle.listing.specs.Listing.{Piece, literal, valueOf, writtenMark, plus, minus, times, less, Expression, Instruction, assign, schedule, branch, jump, wait, fork, end, Line, ports, opens, instruction, Routine, Listing, nameCount}
+use Rattle.listing.specs.Listing.{Piece, literal, valueOf, writtenMark, plus, minus, times, less, divide, remainder, Expression, Instruction, assign, schedule, branch, jump, wait, fork, end, Line, ports, opens, instruction, Routine, Listing, nameCount}
 use Rattle.listing.specs.Expressions.{wordRange, leavesOne}
 use Rattle.listing.specs.Form.{oneTo, mostNamesAwaited, mostChildren}
 use Rattle.listing.specs.Text.{textOf}
@@ -22,6 +22,8 @@ pieceHasForm plus = true
 pieceHasForm minus = true
 pieceHasForm times = true
 pieceHasForm less = true
+pieceHasForm divide = true
+pieceHasForm remainder = true
 
 -- "It leaves one value and never holds more than 8"
 abbrev pub expressionHasForm : Expression → Bool

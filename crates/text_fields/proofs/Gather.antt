@@ -49,6 +49,8 @@ effect-read L.Piece.plus = refl
 effect-read L.Piece.minus = refl
 effect-read L.Piece.times = refl
 effect-read L.Piece.less = refl
+effect-read L.Piece.divide = refl
+effect-read L.Piece.remainder = refl
 
 held-read : (n : ℕ) (p : L.Piece) → heldAfter n (effectIn (asPiece (some p))) ≡ heldBy n (effectOf p)
 held-read n p = ap (heldAfter n) (effect-read p) ∙ after-effect n (effectOf p)
@@ -94,6 +96,8 @@ there-by names h L.Piece.plus = refl
 there-by names h L.Piece.minus = refl
 there-by names h L.Piece.times = refl
 there-by names h L.Piece.less = refl
+there-by names h L.Piece.divide = refl
+there-by names h L.Piece.remainder = refl
 
 and-assoc : (a b c : Bool) → ((a && b) && c) ≡ (a && (b && c))
 and-assoc true b c = refl

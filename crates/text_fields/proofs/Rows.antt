@@ -90,42 +90,43 @@ module _ (rest : List ℕ) where
   unfolding readPiece
   said-less = rw (no-digit-first 60 rest refl) (no-figure (alone-no-value rest L.Piece.less refl))
 
+  said-divide : Said (47 ∷ rest) (readFigure (47 ∷ rest))
+  unfolding readPiece
+  said-divide = rw (no-digit-first 47 rest refl) (no-figure (alone-no-value rest L.Piece.divide refl))
+
+  said-remainder : Said (37 ∷ rest) (readFigure (37 ∷ rest))
+  unfolding readPiece
+  said-remainder = rw (no-digit-first 37 rest refl) (no-figure (alone-no-value rest L.Piece.remainder refl))
+
 said-none : Said [] (readFigure [])
 unfolding readPiece readFigure isFigure
 said-none = no-figure refl
 
+module _ (byte : ℕ) (rest : List ℕ) where
+  -- if this is what reading the piece comes to
+  abbrev From : Option L.Piece → Type 0
+  From o = readPiece (byte ∷ rest) ≡ o → Said (byte ∷ rest) (readFigure (byte ∷ rest))
+
+  -- a choice by the first byte
+  chosen : (c : ℕ) (x y : Option L.Piece) → Said (c ∷ rest) (readFigure (c ∷ rest)) → From y → From (cond (eqb byte c) x y)
+  chosen c x y here on e = go (eqb byte c) refl
+    where
+      go : (t : Bool) → eqb byte c ≡ t → Said (byte ∷ rest) (readFigure (byte ∷ rest))
+      go true f = rw (eqb-true byte c f) here
+      go false f = on (e ∙ rw f)
+
+  said-value : (o : Option ℕ) → readPiece (byte ∷ rest) ≡ bind o (λ n. some (L.Piece.valueOf n)) → Said (byte ∷ rest) o
+  said-value none e = no-figure (ap (λ (o : Option L.Piece). isValue (asPiece o)) e)
+  said-value (some n) e = said (ap asPiece e)
+
 pub said-of : (w : List ℕ) → Said w (readFigure w)
 unfolding readPiece
 said-of [] = said-none
-said-of (byte ∷ rest) = go1 (eqb byte 35) refl
-  where
-    last : (o : Option ℕ) → readPiece (byte ∷ rest) ≡ bind o (λ n. some (L.Piece.valueOf n)) → Said (byte ∷ rest) o
-    last none e = no-figure (ap (λ (o : Option L.Piece). isValue (asPiece o)) e)
-    last (some n) e = said (ap asPiece e)
-
-    go6 : (t : Bool) → eqb byte 60 ≡ t → eqb byte 35 ≡ false → eqb byte 64 ≡ false → eqb byte 43 ≡ false → eqb byte 45 ≡ false → eqb byte 42 ≡ false → Said (byte ∷ rest) (readFigure (byte ∷ rest))
-    go6 true f a b c d e = rw (eqb-true byte 60 f) (said-less rest)
-    go6 false f a b c d e = last (readFigure (byte ∷ rest)) (rw (a, b, c, d, e, f))
-
-    go5 : (t : Bool) → eqb byte 42 ≡ t → eqb byte 35 ≡ false → eqb byte 64 ≡ false → eqb byte 43 ≡ false → eqb byte 45 ≡ false → Said (byte ∷ rest) (readFigure (byte ∷ rest))
-    go5 true e a b c d = rw (eqb-true byte 42 e) (said-times rest)
-    go5 false e a b c d = go6 (eqb byte 60) refl a b c d e
-
-    go4 : (t : Bool) → eqb byte 45 ≡ t → eqb byte 35 ≡ false → eqb byte 64 ≡ false → eqb byte 43 ≡ false → Said (byte ∷ rest) (readFigure (byte ∷ rest))
-    go4 true d a b c = rw (eqb-true byte 45 d) (said-minus rest)
-    go4 false d a b c = go5 (eqb byte 42) refl a b c d
-
-    go3 : (t : Bool) → eqb byte 43 ≡ t → eqb byte 35 ≡ false → eqb byte 64 ≡ false → Said (byte ∷ rest) (readFigure (byte ∷ rest))
-    go3 true c a b = rw (eqb-true byte 43 c) (said-plus rest)
-    go3 false c a b = go4 (eqb byte 45) refl a b c
-
-    go2 : (t : Bool) → eqb byte 64 ≡ t → eqb byte 35 ≡ false → Said (byte ∷ rest) (readFigure (byte ∷ rest))
-    go2 true b a = rw (eqb-true byte 64 b) (said-mark rest)
-    go2 false b a = go3 (eqb byte 43) refl a b
-
-    go1 : (t : Bool) → eqb byte 35 ≡ t → Said (byte ∷ rest) (readFigure (byte ∷ rest))
-    go1 true a = rw (eqb-true byte 35 a) (said-literal rest)
-    go1 false a = go2 (eqb byte 64) refl a
+said-of (byte ∷ rest) =
+    chosen byte rest 35 _ _ (said-literal rest) (chosen byte rest 64 _ _ (said-mark rest) (
+    chosen byte rest 43 _ _ (said-plus rest) (chosen byte rest 45 _ _ (said-minus rest) (
+    chosen byte rest 42 _ _ (said-times rest) (chosen byte rest 60 _ _ (said-less rest) (
+    chosen byte rest 47 _ _ (said-divide rest) (chosen byte rest 37 _ _ (said-remainder rest) (said-value byte rest (readFigure (byte ∷ rest)))))))))) refl
 
 -- ── a row ────────────────────────────────────────────────────────────────────────
 and-none : (a b : Bool) → b ≡ false → (a && b) ≡ false

@@ -35,6 +35,8 @@ isThereBy names PV.Plus = true
 isThereBy names PV.Minus = true
 isThereBy names PV.Times = true
 isThereBy names PV.Less = true
+isThereBy names PV.Divide = true
+isThereBy names PV.Remainder = true
 isThereBy names PV.Bad = true
 
 abbrev pub isValue : Piece → Bool
@@ -45,6 +47,8 @@ isValue PV.Plus = false
 isValue PV.Minus = false
 isValue PV.Times = false
 isValue PV.Less = false
+isValue PV.Divide = false
+isValue PV.Remainder = false
 isValue PV.Bad = false
 
 abbrev pub valueIn : Piece → ℕ
@@ -55,6 +59,8 @@ valueIn PV.Plus = 0
 valueIn PV.Minus = 0
 valueIn PV.Times = 0
 valueIn PV.Less = 0
+valueIn PV.Divide = 0
+valueIn PV.Remainder = 0
 valueIn PV.Bad = 0
 
 -- nothing gathered yet

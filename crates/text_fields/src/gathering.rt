@@ -34,6 +34,8 @@ pub fn is_there(p: Piece, names: u8) -> bool
         Piece::Minus => true,
         Piece::Times => true,
         Piece::Less => true,
+        Piece::Divide => true,
+        Piece::Remainder => true,
         Piece::Bad => true,
     }
 }
@@ -49,6 +51,8 @@ fn is_value(p: Piece) -> bool
         Piece::Minus => false,
         Piece::Times => false,
         Piece::Less => false,
+        Piece::Divide => false,
+        Piece::Remainder => false,
         Piece::Bad => false,
     }
 }
@@ -64,6 +68,8 @@ fn value_in(p: Piece) -> u64
         Piece::Minus => 0,
         Piece::Times => 0,
         Piece::Less => 0,
+        Piece::Divide => 0,
+        Piece::Remainder => 0,
         Piece::Bad => 0,
     }
 }

@@ -123,9 +123,21 @@ module _ (s : List ℕ) (from to : ℕ) (inside : (from ≤ to) × (to ≤ lengt
   unfolding readPiece
   piece-less e = rw (first, e) (alone-of L.Piece.less)
 
-  pub piece-value : (getD s from 0 ≡ 35 → ⊥) → (getD s from 0 ≡ 64 → ⊥) → (getD s from 0 ≡ 43 → ⊥) → (getD s from 0 ≡ 45 → ⊥) → (getD s from 0 ≡ 42 → ⊥) → (getD s from 0 ≡ 60 → ⊥)
+  pub piece-divide : getD s from 0 ≡ 47 → pieceAnswer (slice from to s) ≡ ifAlone (from + 1) to PV.Divide
+  unfolding readPiece
+  piece-divide e = rw (first, e) (alone-of L.Piece.divide)
+
+  pub piece-remainder : getD s from 0 ≡ 37 → pieceAnswer (slice from to s) ≡ ifAlone (from + 1) to PV.Remainder
+  unfolding readPiece
+  piece-remainder e = rw (first, e) (alone-of L.Piece.remainder)
+
+  abbrev Not : ℕ → Type 0
+  Not byte = getD s from 0 ≡ byte → ⊥
+
+  pub piece-value : Not 35 → Not 64 → Not 43 → Not 45 → Not 42 → Not 60 → Not 47 → Not 37
       → pieceAnswer (slice from to s) ≡ valuing (figureAnswer (slice from to s))
   unfolding readPiece
-  piece-value a b c d e f =
-      rw (first, ne-eqb (getD s from 0) 35 a, ne-eqb (getD s from 0) 64 b, ne-eqb (getD s from 0) 43 c, ne-eqb (getD s from 0) 45 d, ne-eqb (getD s from 0) 42 e, ne-eqb (getD s from 0) 60 f)
+  piece-value a b c d e f g h =
+      let no : (byte : ℕ) → Not byte → eqb (getD s from 0) byte ≡ false = ne-eqb (getD s from 0) in
+      rw (first, no 35 a, no 64 b, no 43 c, no 45 d, no 42 e, no 60 f, no 47 g, no 37 h)
       (valuing-of (readFigure (getD s from 0 ∷ slice (from + 1) to s)))

@@ -35,6 +35,8 @@ asPiece (some L.Piece.plus) = PV.Plus
 asPiece (some L.Piece.minus) = PV.Minus
 asPiece (some L.Piece.times) = PV.Times
 asPiece (some L.Piece.less) = PV.Less
+asPiece (some L.Piece.divide) = PV.Divide
+asPiece (some L.Piece.remainder) = PV.Remainder
 
 abbrev pub pieceAnswer : Bytes → Piece
 pieceAnswer piece = asPiece (readPiece piece)
@@ -48,6 +50,8 @@ effectIn PV.Plus = EV.Joins
 effectIn PV.Minus = EV.Joins
 effectIn PV.Times = EV.Joins
 effectIn PV.Less = EV.Joins
+effectIn PV.Divide = EV.Joins
+effectIn PV.Remainder = EV.Joins
 effectIn PV.Bad = EV.Unknown
 
 -- a piece, if nothing is left of its text

@@ -1,4 +1,5 @@
 // Pieces of an expression. Document 01: "the pieces `#v` (a signed 32-bit literal), `n` (a name's value), `@n` .., `+ - * <`."
+// Document 02: "Expressions gain `/` and `%`".
 ghost use mathlib.Core.Path.{_≡_};
 ghost use mathlib.Core.Bool.{_&&_};
 ghost use Prim.Native.Nat.{_≤_};
@@ -19,6 +20,8 @@ pub enum Piece {
     Minus,
     Times,
     Less,
+    Divide,
+    Remainder,
     Bad,
 }
 
@@ -34,6 +37,8 @@ pub fn effect_of(p: Piece) -> Effect
         Piece::Minus => Effect::Joins,
         Piece::Times => Effect::Joins,
         Piece::Less => Effect::Joins,
+        Piece::Divide => Effect::Joins,
+        Piece::Remainder => Effect::Joins,
         Piece::Bad => Effect::Unknown,
     }
 }
@@ -119,6 +124,8 @@ pub fn piece_of(s: &[u8], from: usize, to: usize) -> Piece
         b'-' => if_alone(from + 1, to, Piece::Minus),
         b'*' => if_alone(from + 1, to, Piece::Times),
         b'<' => if_alone(from + 1, to, Piece::Less),
+        b'/' => if_alone(from + 1, to, Piece::Divide),
+        b'%' => if_alone(from + 1, to, Piece::Remainder),
         _ => {
             let Figure::Value(n) = figure_of(s, from, to) else {
                 return Piece::Bad;

@@ -63,6 +63,18 @@ add-if-alone-4 c = search needs
 if-alone-requires-4 : tie.Need-if-alone-requires-4
 if-alone-requires-4 c κs = search needs
 
+add-if-alone-5 : tie.Need-add-if-alone-5
+add-if-alone-5 c = search needs
+
+if-alone-requires-5 : tie.Need-if-alone-requires-5
+if-alone-requires-5 c κs = search needs
+
+add-if-alone-6 : tie.Need-add-if-alone-6
+add-if-alone-6 c = search needs
+
+if-alone-requires-6 : tie.Need-if-alone-requires-6
+if-alone-requires-6 c κs = search needs
+
 figure-of-requires-2 : tie.Need-figure-of-requires-2
 figure-of-requires-2 c κs = search needs
 
@@ -76,7 +88,7 @@ returns-3 : tie.Need-returns-3
 returns-3 c =
     let past = c .before .before .before .before .before in
     let r = c .before .before .before .match .rest in
-    sym (pieces.piece-value _ _ _ (past .before .before .pre) (past .if1 .left) (r .0 .0 .0 .0 .0 .1) (r .0 .0 .0 .0 .1) (r .0 .0 .0 .1) (r .0 .0 .1) (r .0 .1) (r .1) ∙ rw (← c .before .before .figure-of2 .ensures, c .enum-told2 .given .1))
+    sym (pieces.piece-value _ _ _ (past .before .before .pre) (past .if1 .left) (r .0 .0 .0 .0 .0 .0 .0 .1) (r .0 .0 .0 .0 .0 .0 .1) (r .0 .0 .0 .0 .0 .1) (r .0 .0 .0 .0 .1) (r .0 .0 .0 .1) (r .0 .0 .1) (r .0 .1) (r .1) ∙ rw (← c .before .before .figure-of2 .ensures, c .enum-told2 .given .1))
 
 returns-4 : tie.Need-returns-4
 returns-4 c =
@@ -105,9 +117,17 @@ returns-9 c =
 
 returns-10 : tie.Need-returns-10
 returns-10 c =
+    c .if-alone5 .ensures ∙ sym (pieces.piece-divide _ _ _ (c .before .before .before .before .before .pre) (c .before .before .before .if1 .left) (c .before .match .keys7))
+
+returns-11 : tie.Need-returns-11
+returns-11 c =
+    c .if-alone6 .ensures ∙ sym (pieces.piece-remainder _ _ _ (c .before .before .before .before .before .pre) (c .before .before .before .if1 .left) (c .before .match .keys8))
+
+returns-12 : tie.Need-returns-12
+returns-12 c =
     let past = c .before .before .before .before .before .before in
     let r = c .before .before .before .before .match .rest in
-    sym (pieces.piece-value _ _ _ (past .before .before .pre) (past .if1 .left) (r .0 .0 .0 .0 .0 .1) (r .0 .0 .0 .0 .1) (r .0 .0 .0 .1) (r .0 .0 .1) (r .0 .1) (r .1) ∙ rw (← c .before .before .before .figure-of2 .ensures, c .before .n2 .given .1))
+    sym (pieces.piece-value _ _ _ (past .before .before .pre) (past .if1 .left) (r .0 .0 .0 .0 .0 .0 .0 .1) (r .0 .0 .0 .0 .0 .0 .1) (r .0 .0 .0 .0 .0 .1) (r .0 .0 .0 .0 .1) (r .0 .0 .0 .1) (r .0 .0 .1) (r .0 .1) (r .1) ∙ rw (← c .before .before .before .figure-of2 .ensures, c .before .n2 .given .1))
 
 pub piece-of-spec : {M : Type 1} → statement M
 piece-of-spec =
@@ -130,6 +150,10 @@ piece-of-spec =
     if-alone-requires-3
     add-if-alone-4
     if-alone-requires-4
+    add-if-alone-5
+    if-alone-requires-5
+    add-if-alone-6
+    if-alone-requires-6
     figure-of-requires-2
     enum-known-n-2
     enum-told-2
@@ -140,4 +164,6 @@ piece-of-spec =
     returns-7
     returns-8
     returns-9
-    returns-10)
+    returns-10
+    returns-11
+    returns-12)

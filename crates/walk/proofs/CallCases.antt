@@ -60,7 +60,7 @@ figures =
     comparedNumber (compared true) gives 0 ∷ comparedNumber (compared false) gives 0 ∷ comparedNumber (notCompared 7) gives 7 ∷
     comparedPlace (compared true) gives 0 ∷ comparedPlace (notCompared 7) gives 0 ∷
     bit (comparedAlike (compared true)) gives 1 ∷ bit (comparedAlike (compared false)) gives 0 ∷ bit (comparedAlike (notCompared 7)) gives 0 ∷
-    bit (isStop 12) gives 0 ∷ bit (isStop 13) gives 1 ∷ bit (isStop 17) gives 1 ∷ bit (isStop 18) gives 0 ∷ []
+    bit (isStop 12) gives 0 ∷ bit (isStop 13) gives 1 ∷ bit (isStop 18) gives 1 ∷ bit (isStop 19) gives 0 ∷ []
 
 pub figures-are-as-stated : givenIn figures ≡ expectedIn figures
 unfolding callsQuoted givenIn expectedIn Comparison.comparedNumber Comparison.comparedPlace Comparison.comparedAlike

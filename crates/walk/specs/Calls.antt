@@ -23,9 +23,9 @@ outputPlaces = 16
 abbrev pub Words32 : List ℕ → Type 0
 Words32 words = (k : ℕ) → getD words k 0 < 4294967296
 
--- The numbers that stop a machine: 13 to 17.
+-- The numbers that stop a machine: 13 to 17, and 18 of document 02.
 unfoldable pub isStop : ℕ → Bool
-isStop k = leb 13 k && leb k 17
+isStop k = leb 13 k && leb k 18
 
 -- What a machine memory that passes question 7 stands for: the stopped form with its number, or a state of the walk.
 pub data Machine : Type 0 where

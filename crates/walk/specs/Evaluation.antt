@@ -7,6 +7,7 @@ use Rattle.listing.specs.Bytes as Bytes
 use Rattle.listing.specs.Text as Text
 use Rattle.listing.specs.Load.{Loading, refused, loaded}
 use Rattle.listing.specs.Evaluation.{load}
+use Rattle.words_division.specs.Division as Division
 use Rattle.walk.specs.State as State
 use Rattle.walk.specs.Memory as Memory
 use Rattle.walk.specs.Walk as Walk
@@ -48,10 +49,11 @@ unfolding load seen allSeen seenOn
     State.noVariable State.newVariable State.writtenTo State.inputTo State.scheduledOn State.unmarkedOf State.madeIfDue State.dueWrite
     State.madeDue State._⊕_ State._>>=_ State.liveInNode
     Memory.variableAt Memory.writeAt Memory.inputAt Memory.scheduleAt Memory.addressOf Memory.addressesOf Memory.anyWritten
-    Memory.operate Memory.evaluatePiece Memory.evaluatePieces Memory.top Memory.evaluateBy Memory.evaluate Memory.consecutive
+    Memory.operate Memory.top Division.signedQuotient Division.signedRemainder Memory.divideBy
+    Memory.evaluatePiece Memory.evaluatePieces Memory.evaluateBy Memory.evaluate Memory.consecutive
     Memory.bindNames Memory.ownVariables
     Walk.noRoutine Walk.routineAt Walk.instructionAt Walk.newRoutine Walk.newRoutines Walk.childCount Walk.enter Walk.sleep Walk.leave
-    Walk.inTurn Walk.begin Walk.join Walk.asking Walk.branchPlace Walk.move Walk.carryOut Walk.execute Walk.step Walk.run
+    Walk.inTurn Walk.begin Walk.join Walk.asking Walk.withValue Walk.branchPlace Walk.move Walk.carryOut Walk.execute Walk.step Walk.run
     Walk.passedWait Walk.wake Walk.resume Walk.visit
     Instant.dueWrites Instant.applyInputs Instant.unmarked Instant.earlierOf Instant.earlier Instant.dueOf Instant.dueOfVariables
     Instant.nextDue Instant.listedIf Instant.writtenFrom Instant.writtenOutputs Instant.finish Instant.environmentSize

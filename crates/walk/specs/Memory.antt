@@ -1,10 +1,14 @@
 -- Reading and writing variables, the binding of names, and the value of an expression.
-use mathlib.Core.Bool.{Bool, false, _||_}
+use mathlib.Core.Bool.{Bool, false, cond, _||_}
 use mathlib.Core.List.{List, [], _∷_, _++_}
+use mathlib.Core.Option.{Option, none, some}
 use Prim.Native.Nat.{ℕ, zero, suc}
+use lib.Dec.{eqb}
 use lib.ListN.{length, getD, set, replicate}
 use Rattle.words.specs.Words.{bit, wrappingAdd, wrappingSubtract, wrappingMultiply, signedLess}
-use Rattle.listing.specs.Listing.{Piece, literal, valueOf, writtenMark, plus, minus, times, less, Kind, byReference, byValue}
+use Rattle.words_division.specs.Division.{signedQuotient, signedRemainder}
+use Rattle.listing.specs.Expressions.{bind}
+use Rattle.listing.specs.Listing.{Piece, literal, valueOf, writtenMark, plus, minus, times, less, divide, remainder, Kind, byReference, byValue}
 use Rattle.walk.specs.State.{Variable, noVariable, newVariable, writtenTo, inputTo, scheduledOn}
 
 -- The variable at an address; past the last one there is none.
@@ -50,30 +54,36 @@ operate f [] = []
 operate f (y ∷ []) = []
 operate f (y ∷ (x ∷ held)) = f x y ∷ held
 
--- "`#v` (a signed 32-bit literal), `n` (a name's value), `@n` (1 if it was written in this instant, else 0), `+ - * <`";
--- `now` is the moment of the instant, `name` says what each name stands for.
-unfoldable pub evaluatePiece : ℕ → (ℕ → Variable) → Piece → List ℕ → List ℕ
-evaluatePiece now name (literal v) held = v ∷ held
-evaluatePiece now name (valueOf n) held = (name n) .value ∷ held
-evaluatePiece now name (writtenMark n) held = bit ((name n) .written) ∷ held
-evaluatePiece now name plus held = operate wrappingAdd held
-evaluatePiece now name minus held = operate wrappingSubtract held
-evaluatePiece now name times held = operate wrappingMultiply held
-evaluatePiece now name less held = operate (λ x y. bit (signedLess x y)) held
-
-unfoldable pub evaluatePieces : ℕ → (ℕ → Variable) → List Piece → List ℕ → List ℕ
-evaluatePieces now name [] held = held
-evaluatePieces now name (p ∷ ps) held = evaluatePieces now name ps (evaluatePiece now name p held)
-
 unfoldable pub top : List ℕ → ℕ
 top [] = 0
 top (x ∷ held) = x
 
--- "It leaves one value."
-unfoldable pub evaluateBy : ℕ → (ℕ → Variable) → List Piece → ℕ
-evaluateBy now name e = top (evaluatePieces now name e [])
+-- Document 02: "Evaluating can now fail": it does where a divisor, the value pushed last, is 0.
+unfoldable pub divideBy : (ℕ → ℕ → ℕ) → List ℕ → Option (List ℕ)
+divideBy f held = cond (eqb (top held) 0) none (some (operate f held))
 
-unfoldable pub evaluate : ℕ → List Variable → List ℕ → List Piece → ℕ
+-- "`#v` (a signed 32-bit literal), `n` (a name's value), `@n` (1 if it was written in this instant, else 0), `+ - * <`";
+-- document 02: "Expressions gain `/` and `%`". `now` is the moment of the instant, `name` says what each name stands for.
+unfoldable pub evaluatePiece : ℕ → (ℕ → Variable) → Piece → List ℕ → Option (List ℕ)
+evaluatePiece now name (literal v) held = some (v ∷ held)
+evaluatePiece now name (valueOf n) held = some ((name n) .value ∷ held)
+evaluatePiece now name (writtenMark n) held = some (bit ((name n) .written) ∷ held)
+evaluatePiece now name plus held = some (operate wrappingAdd held)
+evaluatePiece now name minus held = some (operate wrappingSubtract held)
+evaluatePiece now name times held = some (operate wrappingMultiply held)
+evaluatePiece now name less held = some (operate (λ x y. bit (signedLess x y)) held)
+evaluatePiece now name divide held = divideBy signedQuotient held
+evaluatePiece now name remainder held = divideBy signedRemainder held
+
+unfoldable pub evaluatePieces : ℕ → (ℕ → Variable) → List Piece → List ℕ → Option (List ℕ)
+evaluatePieces now name [] held = some held
+evaluatePieces now name (p ∷ ps) held = bind (evaluatePiece now name p held) (evaluatePieces now name ps)
+
+-- "It leaves one value.": that value, or none if the evaluation fails.
+unfoldable pub evaluateBy : ℕ → (ℕ → Variable) → List Piece → Option ℕ
+evaluateBy now name e = bind (evaluatePieces now name e []) (λ held. some (top held))
+
+unfoldable pub evaluate : ℕ → List Variable → List ℕ → List Piece → Option ℕ
 evaluate now memory names e = evaluateBy now (namedIn memory names) e
 
 -- ── names: "Names in a routine are its arguments, then its locals, numbered from 0." ──────────────

@@ -1,6 +1,7 @@
 -- The walk of one instant, rules 2 to 4 of document 01: the visit from main, and a routine's run.
 use mathlib.Core.Bool.{Bool, true, false}
 use mathlib.Core.List.{List, [], _∷_, _++_}
+use mathlib.Core.Option.{Option, none, some}
 use Prim.Native.Nat.{ℕ, zero, suc, _+_, _-_}
 use lib.Dec.{eqb, ltb, leb}
 use lib.ListN.{length, getD, take, drop}
@@ -71,6 +72,12 @@ unfoldable pub asking : ℕ → Bool → Move → Move
 asking k true m = m
 asking k false m = stops k
 
+-- Document 02: "Evaluating can now fail, and every instruction with an expression says so." "18: is every divisor other than 0?":
+-- the move with the expression's value, if it has one.
+unfoldable pub withValue : Option ℕ → (ℕ → Move) → Move
+withValue none m = stops 18
+withValue (some v) m = m v
+
 -- "`U|e|k` goes to instruction k if e is 0."
 unfoldable pub branchPlace : Bool → ℕ → ℕ → ℕ
 branchPlace true k after = k
@@ -79,13 +86,16 @@ branchPlace false k after = after
 -- `now` is the instant's moment, `live` the number of live routines, `memory` the variables in reach.
 module _ (now : ℕ) where
   unfoldable pub move : Instruction → Frame → ℕ → List Variable → Move
-  move (assign n e) me live memory = goesTo (suc (me .place)) (writeAt now memory (addressOf (me .names) n) (evaluate now memory (me .names) e))
+  -- 18 is "asked at `S` and `U` after 13, and at `A` before 16, delay first."
+  move (assign n e) me live memory =
+      withValue (evaluate now memory (me .names) e) (λ v. goesTo (suc (me .place)) (writeAt now memory (addressOf (me .names) n) v))
   -- "16 At `A`: is the delay at least 1? 17 At `A`: is the due moment below 2 to the 64?"
   move (schedule n d e) me live memory =
-      let delay = evaluate now memory (me .names) d in
+      withValue (evaluate now memory (me .names) d) (λ delay. withValue (evaluate now memory (me .names) e) (λ v.
       asking 16 (isPositive delay) (asking 17 (ltb (now + delay) momentRange)
-      (goesTo (suc (me .place)) (scheduleAt memory (addressOf (me .names) n) (now + delay) (evaluate now memory (me .names) e))))
-  move (branch e k) me live memory = goesTo (branchPlace (eqb (evaluate now memory (me .names) e) 0) k (suc (me .place))) memory
+      (goesTo (suc (me .place)) (scheduleAt memory (addressOf (me .names) n) (now + delay) v)))))
+  move (branch e k) me live memory =
+      withValue (evaluate now memory (me .names) e) (λ v. goesTo (branchPlace (eqb v 0) k (suc (me .place))) memory)
   move (jump k) me live memory = goesTo k memory
   -- "A wait reached now sleeps, even if its name was written earlier in this instant."
   move (wait ns) me live memory = sleeps

@@ -4,7 +4,7 @@ use mathlib.Core.List.{List, [], _∷_, _++_, append-assoc}
 use Prim.Native.Nat.{ℕ, _+_, _*_, _≤_}
 use native.Mathlib.Omega.{arith}
 use lib.ListN.{length, length-append, length-replicate}
-use Rattle.listing.specs.Listing.{Piece, literal, valueOf, writtenMark, plus, minus, times, less, Call, Instruction, assign, schedule, branch, jump, wait, fork, end, Routine}
+use Rattle.listing.specs.Listing.{Piece, literal, valueOf, writtenMark, plus, minus, times, less, divide, remainder, Call, Instruction, assign, schedule, branch, jump, wait, fork, end, Routine}
 use Rattle.table.specs.Areas.{wordsOfEach, pieceWords, nameWords, callWords, cellWords, entryWords, allCells, allEntries, routineWords, allRoutines, padded}
 
 pub piece-two : (p : Piece) → length (pieceWords p) ≡ 2
@@ -16,6 +16,8 @@ piece-two plus = refl
 piece-two minus = refl
 piece-two times = refl
 piece-two less = refl
+piece-two divide = refl
+piece-two remainder = refl
 
 pub name-two : (n : ℕ) → length (nameWords n) ≡ 2
 unfolding nameWords

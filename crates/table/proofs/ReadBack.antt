@@ -5,7 +5,7 @@ use Prim.Native.Nat.{ℕ, _+_, _*_, _-_, _≤_, _/_, _%_}
 use native.Mathlib.Omega.{arith}
 use lib.ListN.{length, getD, drop, replicate}
 use lib.Seq.{getD-drop, drop-drop, drop-at}
-use Rattle.listing.specs.Listing.{Piece, literal, valueOf, writtenMark, plus, minus, times, less, Call, Instruction, assign, schedule, branch, jump, wait, fork, end, Kind, byReference, byValue, Routine, Listing}
+use Rattle.listing.specs.Listing.{Piece, literal, valueOf, writtenMark, plus, minus, times, less, divide, remainder, Call, Instruction, assign, schedule, branch, jump, wait, fork, end, Kind, byReference, byValue, Routine, Listing}
 use Rattle.table.specs.Areas.{wordsOfEach, pieceWords, nameWords, callWords, cellWords, entryWords, allCells, allEntries, kindBits, routineWords, allRoutines, allCode, padded, headerWords, laidOut, tableWords}
 use Rattle.table.specs.Decode.{word, pieceOf, pieceAt, nameAt, cellsAt, callAt, afterCall, callsAt, instructionOf, instructionAtEntry, codeAtEntry, kindsOfBits, routineAtEntry, routinesAtEntry, tableListing}
 use Rattle.table.proofs.Lengths.{piece-two, name-two, each-two, call-length, entry-five, routine-five, entries-append, cells-append, entries-length, routines-length, pad-length}
@@ -40,6 +40,8 @@ piece-at w plus a r e = rw (word-at w a 0 _ e)
 piece-at w minus a r e = rw (word-at w a 0 _ e)
 piece-at w times a r e = rw (word-at w a 0 _ e)
 piece-at w less a r e = rw (word-at w a 0 _ e)
+piece-at w divide a r e = rw (word-at w a 0 _ e)
+piece-at w remainder a r e = rw (word-at w a 0 _ e)
 
 pub name-at : (w : List ℕ) (n a : ℕ) (r : List ℕ) → drop a w ≡ nameWords n ++ r → nameAt w a ≡ n
 unfolding nameAt nameWords

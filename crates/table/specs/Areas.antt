@@ -4,7 +4,7 @@ use mathlib.Core.List.{List, [], _∷_, _++_}
 use mathlib.Core.Path.{_≡_}
 use Prim.Native.Nat.{ℕ, _+_, _*_, _-_, _≤_}
 use lib.ListN.{length, replicate}
-use Rattle.listing.specs.Listing.{Piece, literal, valueOf, writtenMark, plus, minus, times, less, Call, Instruction, assign, schedule, branch, jump, wait, fork, end, Kind, byReference, byValue, Routine, Listing}
+use Rattle.listing.specs.Listing.{Piece, literal, valueOf, writtenMark, plus, minus, times, less, divide, remainder, Call, Instruction, assign, schedule, branch, jump, wait, fork, end, Kind, byReference, byValue, Routine, Listing}
 
 -- the word addresses at which the areas begin, the end of the cells of 4,096 pieces, and the end
 abbrev pub routineArea : ℕ
@@ -45,6 +45,8 @@ pieceWords plus = 3 ∷ (0 ∷ [])
 pieceWords minus = 4 ∷ (0 ∷ [])
 pieceWords times = 5 ∷ (0 ∷ [])
 pieceWords less = 6 ∷ (0 ∷ [])
+pieceWords divide = 7 ∷ (0 ∷ [])
+pieceWords remainder = 8 ∷ (0 ∷ [])
 
 unfoldable pub nameWords : ℕ → List ℕ
 nameWords n = 0 ∷ (n ∷ [])

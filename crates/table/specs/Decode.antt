@@ -1,11 +1,11 @@
 -- The listing that a table's words stand for, each part read by its address.
 -- Every list of words decodes to some listing; question 6 asks whether the words are that listing's table.
-use mathlib.Core.Bool.{Bool, cond, _||_}
+use mathlib.Core.Bool.{Bool, cond, _&&_}
 use mathlib.Core.List.{List, [], _∷_}
 use Prim.Native.Nat.{ℕ, zero, suc, _+_, _*_, _/_, _%_}
-use lib.Dec.{eqb}
+use lib.Dec.{eqb, leb}
 use lib.ListN.{getD}
-use Rattle.listing.specs.Listing.{Piece, literal, valueOf, writtenMark, plus, minus, times, less, Call, Instruction, assign, schedule, branch, jump, wait, fork, end, Kind, byReference, byValue, Routine, Listing}
+use Rattle.listing.specs.Listing.{Piece, literal, valueOf, writtenMark, plus, minus, times, less, divide, remainder, Call, Instruction, assign, schedule, branch, jump, wait, fork, end, Kind, byReference, byValue, Routine, Listing}
 use Rattle.table.specs.Areas.{routineArea, entryArea}
 
 abbrev pub word : List ℕ → ℕ → ℕ
@@ -19,11 +19,12 @@ noPiece = literal 0
 unfoldable pub pieceOf : ℕ → ℕ → Piece
 pieceOf kind value =
     cond (eqb kind 0) (literal value) (cond (eqb kind 1) (valueOf value) (cond (eqb kind 2) (writtenMark value)
-    (cond (eqb kind 3) plus (cond (eqb kind 4) minus (cond (eqb kind 5) times (cond (eqb kind 6) less noPiece))))))
+    (cond (eqb kind 3) plus (cond (eqb kind 4) minus (cond (eqb kind 5) times (cond (eqb kind 6) less
+    (cond (eqb kind 7) divide (cond (eqb kind 8) remainder noPiece))))))))
 
--- is it a sign's number?
+-- is it a sign's number? They are 3 to 8.
 abbrev pub isSign : ℕ → Bool
-isSign kind = eqb kind 3 || (eqb kind 4 || (eqb kind 5 || eqb kind 6))
+isSign kind = leb 3 kind && leb kind 8
 
 unfoldable pub pieceAt : List ℕ → ℕ → Piece
 pieceAt w a = pieceOf (word w (a + 0)) (word w (a + 1))

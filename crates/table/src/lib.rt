@@ -75,3 +75,7 @@ pub const MINUS: u32 = 4;
 pub const TIMES: u32 = 5;
 
 pub const LESS: u32 = 6;
+
+pub const DIVIDE: u32 = 7;
+
+pub const REMAINDER: u32 = 8;

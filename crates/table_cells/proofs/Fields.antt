@@ -130,6 +130,8 @@ module _ (names : ℕ) (h : names ≤ wordRange) where
   piece-cell L.Piece.minus e = refl
   piece-cell L.Piece.times e = refl
   piece-cell L.Piece.less e = refl
+  piece-cell L.Piece.divide e = refl
+  piece-cell L.Piece.remainder e = refl
 
   pub pieces-cells : (ws : Field) (x : L.Expression) → each readPiece ws ≡ some x → all (pieceIsThere names) x ≡ true → cellsOf 1 ws ≡ wordsOfEach pieceWords x
   unfolding cellsOf wordsOfEach all

@@ -27,6 +27,8 @@ cellKind PV.Plus plain = 3
 cellKind PV.Minus plain = 4
 cellKind PV.Times plain = 5
 cellKind PV.Less plain = 6
+cellKind PV.Divide plain = 7
+cellKind PV.Remainder plain = 8
 cellKind PV.Bad plain = 0
 
 abbrev pub cellValue : Piece → ℕ
@@ -37,6 +39,8 @@ cellValue PV.Plus = 0
 cellValue PV.Minus = 0
 cellValue PV.Times = 0
 cellValue PV.Less = 0
+cellValue PV.Divide = 0
+cellValue PV.Remainder = 0
 cellValue PV.Bad = 0
 
 -- the cells of a field's pieces; a plain figure is a cell of kind `plain`

@@ -1,4 +1,4 @@
-// The cells of a field: for each piece its kind and its value. Document 01's pieces; a name in a row of names has kind `plain`.
+// The cells of a field: for each piece its kind and its value. The pieces of documents 01 and 02; a name in a row of names has kind `plain`.
 ghost use mathlib.Core.Path.{_≡_};
 ghost use Prim.Native.Nat.{_+_, _*_, _≤_};
 ghost use lib.ListN.{length, set};
@@ -6,10 +6,12 @@ ghost use Rattle.text_place.specs.Texts.{Within};
 ghost use Rattle.table_cells.specs.Cells.{lowWord, cellKind, cellValue, WritesCells};
 use crate::put::put;
 use table::CELL_WORDS;
+use table::DIVIDE;
 use table::LESS;
 use table::LITERAL;
 use table::MINUS;
 use table::PLUS;
+use table::REMAINDER;
 use table::TIMES;
 use table::WRITTEN_MARK;
 use text_piece::Piece;
@@ -44,6 +46,8 @@ fn cell_kind(p: Piece, plain: u32) -> u32
         Piece::Minus => MINUS,
         Piece::Times => TIMES,
         Piece::Less => LESS,
+        Piece::Divide => DIVIDE,
+        Piece::Remainder => REMAINDER,
         Piece::Bad => 0,
     }
 }
@@ -59,6 +63,8 @@ fn cell_value(p: Piece) -> u32
         Piece::Minus => 0,
         Piece::Times => 0,
         Piece::Less => 0,
+        Piece::Divide => 0,
+        Piece::Remainder => 0,
         Piece::Bad => 0,
     }
 }

@@ -8,7 +8,7 @@ use lib.Dec.{eqb, ltb, leb}
 use lib.ListN.{getD}
 use borrow.Author.Tests.{eqb-true, ne-eqb, le-leb}
 use Rattle.listing.specs.Lists.{all}
-use Rattle.listing.specs.Listing.{Piece, literal, valueOf, writtenMark, plus, minus, times, less}
+use Rattle.listing.specs.Listing.{Piece, literal, valueOf, writtenMark, plus, minus, times, less, divide, remainder}
 use Rattle.listing.specs.Expressions.{effectOf, mayCome, heldWith, leavesOneFrom}
 use Rattle.listing.specs.Questions.{pieceIsThere}
 use Rattle.listing.proofs.Effects.{held-most}
@@ -35,7 +35,7 @@ named-is P k h a b = go (eqb k 1) refl (eqb k 2) refl h
 
 pub sign-joins : (kind : ℕ) → isSign kind ≡ true → EV.Joins ≡ effectBy kind
 unfolding effectBy pieceOf effectOf
-sign-joins k h = sign-is (λ n. EV.Joins ≡ effectBy n) k h refl refl refl refl
+sign-joins k h = sign-is (λ n. EV.Joins ≡ effectBy n) k h refl refl refl refl refl refl
 
 pub other-adds : (kind : ℕ) → isSign kind ≡ false → EV.Adds ≡ effectBy kind
 unfolding effectBy effectOf
@@ -53,7 +53,7 @@ literal-test names v = rw (same-number v)
 
 pub sign-test : (names kind value : ℕ) → isSign kind ≡ true → eqb value 0 ≡ pieceTest names kind value
 unfolding pieceTest pieceOf pieceIsThere pieceWords
-sign-test names k v h = sign-is (λ n. eqb v 0 ≡ pieceTest names n v) k h refl refl refl refl
+sign-test names k v h = sign-is (λ n. eqb v 0 ≡ pieceTest names n v) k h refl refl refl refl refl refl
 
 pub named-test : (names kind value : ℕ) → isNamed kind ≡ true → ltb value names ≡ pieceTest names kind value
 unfolding pieceTest pieceOf pieceIsThere pieceWords
@@ -87,6 +87,8 @@ same-pair w a plus = rw (and-yes (eqb (word w (a + 1)) 0))
 same-pair w a minus = rw (and-yes (eqb (word w (a + 1)) 0))
 same-pair w a times = rw (and-yes (eqb (word w (a + 1)) 0))
 same-pair w a less = rw (and-yes (eqb (word w (a + 1)) 0))
+same-pair w a divide = rw (and-yes (eqb (word w (a + 1)) 0))
+same-pair w a remainder = rw (and-yes (eqb (word w (a + 1)) 0))
 
 -- what is held after the cell at a, by its two words
 pub held-by-words : (w : List ℕ) (names held a : ℕ) → heldPast w names held a ≡ cond (pieceTest names (word w (a + 0)) (word w (a + 1))) (heldAfter held (effectBy (word w (a + 0)))) 9

@@ -8,13 +8,13 @@ use lib.Dec.{eqb, ltb, leb}
 use lib.ListN.{length, length-append}
 use borrow.Author.Tests.{eq-eqb, ne-eqb, lt-ltb, eqb-true, ltb-true}
 use Rattle.listing.specs.Lists.{all}
-use Rattle.listing.specs.Listing.{Piece, literal, valueOf, writtenMark, plus, minus, times, less, Instruction, assign, schedule, branch, jump, wait, fork, end}
+use Rattle.listing.specs.Listing.{Piece, Instruction, assign, schedule, branch, jump, wait, fork, end}
 use Rattle.listing.specs.Expressions.{leavesOneFrom}
 use Rattle.listing.specs.Form.{oneTo}
 use Rattle.listing.specs.Questions.{pieceIsThere, callIsThere, isThere}
 use Rattle.listing.specs.WellFormed.{pieceHasForm, instructionHasForm}
 use Rattle.table.specs.Areas.{wordsOfEach, pieceWords, nameWords, callWords, cellWords, entryWords}
-use Rattle.table.specs.Decode.{word, noPiece, pieceOf, pieceAt, nameAt, cellsAt, piecesAt, namesAt, callsAt, instructionOf, instructionAtEntry}
+use Rattle.table.specs.Decode.{word, pieceOf, pieceAt, nameAt, cellsAt, piecesAt, namesAt, callsAt, instructionOf, instructionAtEntry}
 use Rattle.table.proofs.Lengths.{piece-two, name-two, each-two}
 use Rattle.table.proofs.Reach.{cells-count, calls-count}
 use Rattle.table.proofs.Tests.{and-no, and-yes, same-answer}
@@ -23,22 +23,18 @@ use Rattle.table_check_cells.proofs.Words.{same-split, same-number}
 use Rattle.table_check_cells.proofs.Cells.{cond-cond}
 
 -- ── a literal is a word ──────────────────────────────────────────────────────────
+either-has-form : (t : Bool) (p q : Piece) → pieceHasForm p ≡ true → pieceHasForm q ≡ true → pieceHasForm (cond t p q) ≡ true
+either-has-form true p q f g = f
+either-has-form false p q f g = g
+
 piece-has-form : (w : List ℕ) → Words w → (a : ℕ) → pieceHasForm (pieceAt w a) ≡ true
 unfolding pieceAt pieceOf pieceHasForm
 piece-has-form w small a =
     let k = word w (a + 0) in
-    go (word w (a + 1)) (small (a + 1)) (eqb k 0) (eqb k 1) (eqb k 2) (eqb k 3) (eqb k 4) (eqb k 5) (eqb k 6)
-  where
-    go : (v : ℕ) → v < 4294967296 → (a b c d e f g : Bool) →
-        pieceHasForm (cond a (literal v) (cond b (valueOf v) (cond c (writtenMark v) (cond d plus (cond e minus (cond f times (cond g less noPiece))))))) ≡ true
-    go v h true b c d e f g = lt-ltb v 4294967296 h
-    go v h false true c d e f g = refl
-    go v h false false true d e f g = refl
-    go v h false false false true e f g = refl
-    go v h false false false false true f g = refl
-    go v h false false false false false true g = refl
-    go v h false false false false false false true = refl
-    go v h false false false false false false false = refl
+    let word-literal = lt-ltb (word w (a + 1)) 4294967296 (small (a + 1)) in
+    either-has-form (eqb k 0) _ _ word-literal (either-has-form (eqb k 1) _ _ refl (either-has-form (eqb k 2) _ _ refl (
+    either-has-form (eqb k 3) _ _ refl (either-has-form (eqb k 4) _ _ refl (either-has-form (eqb k 5) _ _ refl (
+    either-has-form (eqb k 6) _ _ refl (either-has-form (eqb k 7) _ _ refl (either-has-form (eqb k 8) _ _ refl refl))))))))
 
 pieces-have-form : (w : List ℕ) → Words w → (n a : ℕ) → all pieceHasForm (piecesAt w a n) ≡ true
 unfolding cellsAt all

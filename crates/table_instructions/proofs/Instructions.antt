@@ -16,6 +16,7 @@ use Rattle.listing.specs.Form.{Field, nextField, noneLeft, readNumber, readName
 use Rattle.listing.specs.Questions.{pieceIsThere, isThere}
 use Rattle.listing.specs.Listing as L
 use Rattle.table.specs.Areas.{wordsOfEach, pieceWords, nameWords, cellWords, entryWords}
+use Rattle.table.proofs.Lengths.{piece-two}
 use Rattle.text_place.specs.Texts.{fieldsLeft, fieldPieces, Within}
 use Rattle.text_place.specs.declared.place.Place.{Place}
 use Rattle.text_jumps.specs.Records.{endNext}
@@ -60,16 +61,6 @@ writes-of o end e a before after r g h = go (h (g .line) (g .reads))
         }
 
 -- ── fields ───────────────────────────────────────────────────────────────────────
-piece-two : (p : L.Piece) → length (pieceWords p) ≡ 2
-unfolding pieceWords
-piece-two (L.Piece.literal v) = refl
-piece-two (L.Piece.valueOf n) = refl
-piece-two (L.Piece.writtenMark n) = refl
-piece-two L.Piece.plus = refl
-piece-two L.Piece.minus = refl
-piece-two L.Piece.times = refl
-piece-two L.Piece.less = refl
-
 pub name-two : (n : ℕ) → length (nameWords n) ≡ 2
 unfolding nameWords
 name-two n = refl

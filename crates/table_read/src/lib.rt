@@ -18,17 +18,15 @@ use table::FIRST_ENTRY;
 use table::INPUTS;
 use table::KIND;
 use table::KIND_BITS;
-use table::LESS;
 use table::LOCALS;
-use table::MINUS;
 use table::OPERAND;
 use table::OUTPUTS;
 use table::PLUS;
+use table::REMAINDER;
 use table::ROUTINE_WORDS;
 use table::ROUTINES;
 use table::SECOND_COUNT;
 use table::SIZE;
-use table::TIMES;
 use words::number;
 
 // The number of environment variables: the inputs and the outputs.
@@ -155,15 +153,9 @@ pub fn name_at(t: &[u32], a: usize) -> usize
     number(t[a + 1])
 }
 
-// Is it the kind of a sign?
+// Is it the kind of a sign? The signs' kinds stand in a row, from `+` to `%`.
 pub fn is_sign(kind: u32) -> bool
     ensures { λ r. ⌜ r ≡ isSign kind ⌝ }
 {
-    match kind {
-        PLUS => true,
-        MINUS => true,
-        TIMES => true,
-        LESS => true,
-        _ => false,
-    }
+    PLUS <= kind && kind <= REMAINDER
 }

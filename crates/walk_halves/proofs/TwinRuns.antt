@@ -4,6 +4,7 @@
 use mathlib.Core.Path.{_≡_, refl, sym, _∙_}
 use mathlib.Core.Bool.{Bool, true, false}
 use mathlib.Core.List.{List, _++_}
+use mathlib.Core.Option.{Option, none, some}
 use Prim.Native.Nat.{ℕ, zero, suc, _+_, _≤_}
 use native.Mathlib.Omega.{arith}
 use lib.ListN.{length, length-append, length-set}
@@ -11,7 +12,7 @@ use Rattle.words.specs.Words.{isPositive}
 use Rattle.listing.specs.Listing.{Listing, Piece, Call, Instruction, assign, schedule, branch, jump, wait, fork, end}
 use Rattle.walk.specs.State.{Variable, Node, node, Forest, empty, more, Frame, frame, goTo, next, Running, Turn, Result, withLeft}
 use Rattle.walk.specs.Memory.{writeAt, scheduleAt, addressOf, evaluate}
-use Rattle.walk.specs.Walk.{routineAt, instructionAt, instructionOf, newRoutine, newRoutines, enter, Runner, begin, Move, goesTo, sleeps, forks, ends, stops, asking, move, carryOut, execute, step, run, passedWait, wake, resume, visit, visitForest}
+use Rattle.walk.specs.Walk.{routineAt, instructionAt, instructionOf, newRoutine, newRoutines, enter, Runner, begin, Move, goesTo, sleeps, forks, ends, stops, asking, withValue, move, carryOut, execute, step, run, passedWait, wake, resume, visit, visitForest}
 use Rattle.walk.specs.Instant.{dueOfVariables, dueOfNode, dueOfForest}
 use Rattle.walk_halves.proofs.Due.{NotBefore, nothing-due, neither-before}
 use Rattle.walk_halves.proofs.Reach.{Zone, append-alike, evaluate-same, anyWritten-same, write-alike, schedule-alike, named-same, own-later, bound-leads, addresses-in, kept-refl, kept-then, write-keeps, schedule-keeps, append-keeps}
@@ -135,17 +136,23 @@ module _ (zone : Zone) (code : Code) (now : ℕ) where
       same-value : (e : List Piece) → evaluate now (s .memory) (me .names) e ≡ evaluate now (s′ .memory) (me .names) e
       same-value e = evaluate-same zone now (s .memory) (s′ .memory) (me .names) (p .alike) (p .leads) e
 
+      valued-paired : (r : Option ℕ) (m m′ : ℕ → Move) → ((v : ℕ) → Paired (m v) (m′ v)) → Paired (withValue r m) (withValue r m′)
+      unfolding withValue
+      valued-paired none m m′ h = first-stops
+      valued-paired (some v) m m′ h = h v
+
       move-paired : (i : Instruction) → instructionOf model me ≡ i →
           Paired (move now i me (s .live) (s .memory)) (move now i me (s′ .live) (s′ .memory))
       unfolding move writeAt
       move-paired (assign n e) i =
+          rw (same-value e) (valued-paired _ _ _ λ v.
           both-go (length-set (s .memory) _ _)
-          (write-keeps zone now (s .memory) (addressOf (me .names) n) (evaluate now (s .memory) (me .names) e) (p .leads .to n))
-          (write-alike zone now (s .memory) (s′ .memory) (addressOf (me .names) n) _ _ (p .leads .to n) (p .alike) (same-value e))
+          (write-keeps zone now (s .memory) (addressOf (me .names) n) v (p .leads .to n))
+          (write-alike zone now (s .memory) (s′ .memory) (addressOf (me .names) n) _ _ (p .leads .to n) (p .alike) refl))
       move-paired (schedule n d e) i =
-          rw (same-value d, same-value e) (schedule-paired (suc (me .place)) (addressOf (me .names) n) (evaluate now (s′ .memory) (me .names) d)
-          (evaluate now (s′ .memory) (me .names) e) _ refl _ (p .leads .to n))
-      move-paired (branch e k) i = rw (same-value e) (both-go refl (kept-refl zone) (p .alike))
+          rw (same-value d, same-value e) (valued-paired _ _ _ λ delay. valued-paired _ _ _ λ v.
+          schedule-paired (suc (me .place)) (addressOf (me .names) n) delay v _ refl _ (p .leads .to n))
+      move-paired (branch e k) i = rw (same-value e) (valued-paired _ _ _ λ v. both-go refl (kept-refl zone) (p .alike))
       move-paired (jump k) i = both-go refl (kept-refl zone) (p .alike)
       move-paired (wait ns) i = both-sleep i
       move-paired (fork cs) i = asking-paired 14 _ _ _ _ (asking-paired 15 _ _ _ _ (both-fork i))

@@ -5,13 +5,14 @@
 use mathlib.Core.Path.{_≡_, refl}
 use mathlib.Core.Bool.{Bool, true, false}
 use mathlib.Core.List.{List}
+use mathlib.Core.Option.{Option, none, some}
 use Prim.Native.Nat.{ℕ, zero, suc, _≤_, _<_}
 use lib.Dec.{leb}
 use borrow.Author.Tests.{leb-true}
 use native.Mathlib.Omega.{arith}
 use Rattle.listing.specs.Listing.{Listing, Call, Instruction, assign, schedule, branch, jump, wait, fork, end}
 use Rattle.walk.specs.State.{Variable, Node, node, Forest, empty, more, State, Running, Turn, Result, stop, ok, _>>=_, Frame, goTo, next}
-use Rattle.walk.specs.Walk.{newRoutines, sleep, leave, Runner, inTurn, begin, join, Move, goesTo, sleeps, forks, ends, stops, asking, move, carryOut, execute, step, run, wake, resume, visit, visitForest, instructionOf}
+use Rattle.walk.specs.Walk.{newRoutines, sleep, leave, Runner, inTurn, begin, join, Move, goesTo, sleeps, forks, ends, stops, asking, withValue, move, carryOut, execute, step, run, wake, resume, visit, visitForest, instructionOf}
 use Rattle.walk.specs.Instant.{Write, finish, start, instant}
 use Rattle.walk.specs.Question7.{Asleep, waits, joins, LiveChildren, no-more, ended, lives, IsState}
 use Rattle.walk_laws.proofs.Booleans.{and-left, and-right}
@@ -29,7 +30,7 @@ stop-is-not-0 k e = let low : 13 ≤ k = leb-true 13 k (and-left (leb 13 k) _ e)
 
 pub stop-is-word : (k : ℕ) → isStop k ≡ true → k < 4294967296
 unfolding isStop
-stop-is-word k e = let most : k ≤ 17 = leb-true k 17 (and-right (leb 13 k) _ e) in omega arith
+stop-is-word k e = let most : k ≤ 18 = leb-true k 18 (and-right (leb 13 k) _ e) in omega arith
 
 then-answers : {A B : Type 0} {x : Result A} (f : A → Result B) → Answered x → ((a : A) → Answered (f a)) → Answered (x >>= f)
 unfolding _>>=_
@@ -74,12 +75,17 @@ unfolding asking
 asking-asked k e true m h = h
 asking-asked k e false m h = asked k e
 
+with-value-asked : (r : Option ℕ) (m : ℕ → Move) → ((v : ℕ) → Asked (m v)) → Asked (withValue r m)
+unfolding withValue isStop
+with-value-asked none m h = asked 18 refl
+with-value-asked (some v) m h = h v
+
 move-asked : (now : ℕ) (i : Instruction) (me : Frame) (live : ℕ) (memory : List Variable) → Asked (move now i me live memory)
 unfolding move isStop
-move-asked now (assign n e) me live memory = goes-on
+move-asked now (assign n e) me live memory = with-value-asked _ _ (λ v. goes-on)
 move-asked now (schedule n d e) me live memory =
-    asking-asked 16 refl _ _ (asking-asked 17 refl _ _ goes-on)
-move-asked now (branch e k) me live memory = goes-on
+    with-value-asked _ _ (λ delay. with-value-asked _ _ (λ v. asking-asked 16 refl _ _ (asking-asked 17 refl _ _ goes-on)))
+move-asked now (branch e k) me live memory = with-value-asked _ _ (λ v. goes-on)
 move-asked now (jump k) me live memory = goes-on
 move-asked now (wait ns) me live memory = falls-asleep
 move-asked now (fork cs) me live memory =

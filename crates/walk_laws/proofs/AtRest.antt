@@ -2,23 +2,28 @@
 -- moment: at rest (question 7), but for the mark of this instant. Memory stays steady under writes, schedules and the binding
 -- of new routines, as long as words are written; the value of an expression whose literals are words is a word.
 -- Letters: now the present moment, xs variables, a an address, v a value, names a routine's names, held the values held.
-use mathlib.Core.Path.{_≡_, refl, ap}
-use mathlib.Core.Bool.{Bool, true, false, _&&_}
+use mathlib.Core.Path.{_≡_, refl, sym, ap}
+use mathlib.Core.Bool.{Bool, true, false, cond, _&&_}
 use mathlib.Core.List.{List, [], _∷_, _++_}
-use Prim.Native.Nat.{ℕ, zero, suc, _+_, _*_, _-_, _<_}
-use lib.Dec.{ltb}
+use mathlib.Core.Option.{Option, none, some}
+use Prim.Native.Nat.{ℕ, zero, suc, _+_, _*_, _-_, _≤_, _<_}
+use lib.Dec.{eqb, ltb}
 use lib.ListN.{length, getD, take, drop, set, replicate, length-replicate}
 use borrow.Author.Tests.{lt-ltb, ltb-true}
 use native.Mathlib.Omega.{arith}
 use native.Mathlib.Nat.{mod-lt}
 use Rattle.words.specs.Words.{bit, wrappingAdd, wrappingSubtract, wrappingMultiply, signedLess}
-use Rattle.listing.specs.Listing.{Listing, Instruction, assign, schedule, branch, jump, wait, fork, end, Piece, literal, valueOf, writtenMark, plus, minus, times, less, Kind, byReference, byValue}
+use Rattle.words_division.specs.Division.{signedQuotient, signedRemainder}
+use Rattle.words_division.proofs.Words.{quotient-is-word, remainder-is-word}
+use Rattle.listing.specs.Expressions.{bind}
+use Rattle.listing.specs.Listing.{Listing, Instruction, assign, schedule, branch, jump, wait, fork, end, Piece, literal, valueOf, writtenMark, plus, minus, times, less, divide, remainder, Kind, byReference, byValue}
 use Rattle.walk.specs.State.{Variable, noVariable, newVariable, unmarkedOf, writtenTo, scheduledOn, inputTo}
-use Rattle.walk.specs.Memory.{variableAt, writeAt, scheduleAt, addressOf, operate, evaluatePiece, evaluatePieces, top, evaluate, ownVariables, inputAt, namedIn, evaluateBy}
+use Rattle.walk.specs.Memory.{variableAt, writeAt, scheduleAt, addressOf, operate, divideBy, evaluatePiece, evaluatePieces, top, evaluate, ownVariables, inputAt, namedIn, evaluateBy}
 use Rattle.walk.specs.Walk.{instructionAt}
 use Rattle.walk.specs.Instant.{unmarked}
 use Rattle.walk.specs.Question7.{dueAfter, atRest, allAtRest, ownedCount}
 use Rattle.walk_laws.proofs.Booleans.{and-left, and-right}
+use Rattle.walk_laws.proofs.Failing.{some-is-not-none, some-once}
 
 unfoldable pub steady : ℕ → Variable → Bool
 steady now x = ltb (x .value) 4294967296 && dueAfter now (x .waiting)
@@ -137,6 +142,8 @@ pieceInWords plus = true
 pieceInWords minus = true
 pieceInWords times = true
 pieceInWords less = true
+pieceInWords divide = true
+pieceInWords remainder = true
 
 unfoldable pub expressionInWords : List Piece → Bool
 expressionInWords [] = true
@@ -170,9 +177,22 @@ operate-holds-words f h _ no-word = no-word
 operate-holds-words f h _ (word l no-word) = no-word
 operate-holds-words f h _ (word l (word m rest)) = word (h _ _) rest
 
+-- What is left, if anything is, holds words.
+unfoldable WordsIf : Option (List ℕ) → Type 0
+WordsIf none = 0 ≤ 0
+WordsIf (some held) = Words held
+
+divide-holds-words : (f : ℕ → ℕ → ℕ) → ((x y : ℕ) → f x y < 4294967296) → (held : List ℕ) → Words held → WordsIf (divideBy f held)
+unfolding divideBy WordsIf
+divide-holds-words f h held rest = go (eqb (top held) 0)
+  where
+    go : (b : Bool) → WordsIf (cond b none (some (operate f held)))
+    go true = omega arith
+    go false = operate-holds-words f h held rest
+
 module _ (now : ℕ) (name : ℕ → Variable) (words : (n : ℕ) → (name n) .value < 4294967296) where
-  piece-holds-words : (p : Piece) (held : List ℕ) → pieceInWords p ≡ true → Words held → Words (evaluatePiece now name p held)
-  unfolding evaluatePiece pieceInWords
+  piece-holds-words : (p : Piece) (held : List ℕ) → pieceInWords p ≡ true → Words held → WordsIf (evaluatePiece now name p held)
+  unfolding evaluatePiece pieceInWords WordsIf
   piece-holds-words (literal v) held l rest = word (ltb-true _ _ l) rest
   piece-holds-words (valueOf n) held l rest = word (words n) rest
   piece-holds-words (writtenMark n) held l rest = word (bit-is-word ((name n) .written)) rest
@@ -180,12 +200,19 @@ module _ (now : ℕ) (name : ℕ → Variable) (words : (n : ℕ) → (name n) .
   piece-holds-words minus held l rest = operate-holds-words wrappingSubtract (λ x y. mod-lt (x + (4294967296 - y)) (omega arith)) held rest
   piece-holds-words times held l rest = operate-holds-words wrappingMultiply (λ x y. mod-lt (x * y) (omega arith)) held rest
   piece-holds-words less held l rest = operate-holds-words (λ x y. bit (signedLess x y)) (λ x y. bit-is-word (signedLess x y)) held rest
+  piece-holds-words divide held l rest = divide-holds-words signedQuotient quotient-is-word held rest
+  piece-holds-words remainder held l rest = divide-holds-words signedRemainder remainder-is-word held rest
 
-  pieces-hold-words : (e : List Piece) (held : List ℕ) → expressionInWords e ≡ true → Words held → Words (evaluatePieces now name e held)
-  unfolding evaluatePieces expressionInWords
+  pieces-hold-words : (e : List Piece) (held : List ℕ) → expressionInWords e ≡ true → Words held → WordsIf (evaluatePieces now name e held)
+  unfolding evaluatePieces expressionInWords WordsIf
   pieces-hold-words [] held l rest = rest
   pieces-hold-words (p ∷ ps) held l rest =
-      pieces-hold-words ps _ (and-right (pieceInWords p) _ l) (piece-holds-words p held (and-left (pieceInWords p) _ l) rest)
+      go (λ left h. pieces-hold-words ps left (and-right (pieceInWords p) _ l) h) (evaluatePiece now name p held) (piece-holds-words p held (and-left (pieceInWords p) _ l) rest)
+    where
+      go : ((left : List ℕ) → Words left → WordsIf (evaluatePieces now name ps left)) → (r : Option (List ℕ)) → WordsIf r →
+          WordsIf (bind r (evaluatePieces now name ps))
+      go others none h = h
+      go others (some left) h = others left h
 
 top-is-word : (held : List ℕ) → Words held → top held < 4294967296
 unfolding top
@@ -193,7 +220,11 @@ top-is-word _ no-word = omega arith
 top-is-word _ (word l rest) = l
 
 pub evaluate-gives-word : (now : ℕ) (xs : List Variable) (names : List ℕ) (e : List Piece) → allSteady now xs ≡ true → expressionInWords e ≡ true →
-    evaluate now xs names e < 4294967296
-unfolding evaluate evaluateBy
-evaluate-gives-word now xs names e h l =
-    top-is-word _ (pieces-hold-words now (namedIn xs names) (λ n. value-is-word now xs (addressOf names n) h) e [] l no-word)
+    (v : ℕ) → evaluate now xs names e ≡ some v → v < 4294967296
+unfolding evaluate evaluateBy WordsIf
+evaluate-gives-word now xs names e h l v given =
+    go (evaluatePieces now (namedIn xs names) e []) (pieces-hold-words now (namedIn xs names) (λ n. value-is-word now xs (addressOf names n) h) e [] l no-word) given
+  where
+    go : (r : Option (List ℕ)) → WordsIf r → bind r (λ held. some (top held)) ≡ some v → v < 4294967296
+    go none w g = some-is-not-none (sym g)
+    go (some held) w g = let same : top held ≡ v = some-once g in let small = top-is-word held w in omega arith

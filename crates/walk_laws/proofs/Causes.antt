@@ -17,7 +17,7 @@ use Rattle.walk_laws.specs.Causes.{StateCause, InstantCause, StartCause}
 use Rattle.walk_laws.specs.Causes as Causes
 use Rattle.walk_laws.proofs.StopCauses.{start-stops-exactly-if, instant-stops-exactly-if}
 
--- ── from a state: 9 to 17 ─────────────────────────────────────────────────────────────────────────
+-- ── from a state: 9 to 18 ─────────────────────────────────────────────────────────────────────────
 module _ (l : Listing) (s : State) (isState : IsState l s) (t : ℕ) (inputs : List Write) (allowance : ℕ) where
   state-has-a-cause : StateCause l s t inputs allowance (instantFrom l s t inputs allowance)
   unfolding instantFrom ask answered
@@ -100,7 +100,7 @@ module _ (layout : Layout) (table machine : List ℕ) (t : ℕ) (inNumbers inVal
         InstantCause layout table machine t inNumbers inValues outNumbers outValues allowance o
     instant-exactly-if o = (λ e. subst Cause e has-a-cause, cause-decides)
 
--- ── the start: 1, 6, 12, 13 to 17 ─────────────────────────────────────────────────────────────────
+-- ── the start: 1, 6, 12, 13 to 18 ─────────────────────────────────────────────────────────────────
 module _ (layout : Layout) (table machine outNumbers outValues : List ℕ) (allowance : ℕ) where
   abbrev CauseAtStart : Outcome → Type 0
   CauseAtStart = StartCause layout table machine outNumbers outValues allowance

@@ -5,6 +5,7 @@
 use mathlib.Core.Path.{_≡_, refl, ap, _∙_}
 use mathlib.Core.Bool.{Bool, true, false}
 use mathlib.Core.List.{List, [], _∷_}
+use mathlib.Core.Option.{Option, none, some}
 use Prim.Native.Nat.{ℕ, zero, suc, _+_, _-_, _<_, _≤_, min}
 use lib.Dec.{ltb, leb}
 use lib.ListN.{length, take, drop, length-set, length-append, length-take, length-drop}
@@ -14,8 +15,8 @@ use Rattle.words.specs.Words.{isPositive}
 use Rattle.words.specs.Moments.{momentRange}
 use Rattle.listing.specs.Listing.{Listing, Call, Instruction, assign, schedule, branch, jump, wait, fork, end}
 use Rattle.walk.specs.State.{Variable, Node, Forest, empty, more, _⊕_, Running, Turn, Result, _>>=_, withMemory, Frame, frame}
-use Rattle.walk.specs.Memory.{writeAt, scheduleAt, addressOf, evaluate, ownVariables, namedIn}
-use Rattle.walk.specs.Walk.{routineAt, instructionAt, newRoutine, newRoutines, childCount, enter, sleep, leave, Runner, inTurn, begin, join, Move, goesTo, sleeps, forks, ends, stops, asking, move, carryOut, execute, step, run, passedWait, wake, resume, visit, visitForest}
+use Rattle.walk.specs.Memory.{writeAt, scheduleAt, addressOf, ownVariables, namedIn}
+use Rattle.walk.specs.Walk.{routineAt, instructionAt, newRoutine, newRoutines, childCount, enter, sleep, leave, Runner, inTurn, begin, join, Move, goesTo, sleeps, forks, ends, stops, asking, withValue, move, carryOut, execute, step, run, passedWait, wake, resume, visit, visitForest}
 use Rattle.walk.specs.Question7.{ownedBy, boundNames, MadeBy, Asleep, waits, joins, LiveChildren, no-more, ended, lives, someAlive}
 use Rattle.walk_laws.proofs.Booleans.{and-left, and-right}
 use Rattle.walk_laws.proofs.Results.{IfOk, stopped, answered, then-if-ok, weaken-if-ok}
@@ -174,16 +175,23 @@ module _ (listing : Listing) (now : ℕ) where
           let one : 1 ≤ d = leb-true _ _ (and-left (leb 1 d) _ p) in
           goes-on (length-set (s .memory) a _) (schedule-steady now (s .memory) a (now + d) v (h .steadied) (omega arith) (ltb-true _ _ q) l)
 
+      valued-orderly : (r : Option ℕ) (m : ℕ → Move) → ((v : ℕ) → r ≡ some v → Orderly (m v)) → Orderly (withValue r m)
+      unfolding withValue
+      valued-orderly none m h = is-stopped
+      valued-orderly (some v) m h = h v refl
+
       move-orderly : (i : Instruction) → instructionInWords i ≡ true → instructionAt listing (c .callee) place ≡ i →
           Orderly (move now i (calledBy listing level base callerNames c place) (s .live) (s .memory))
       unfolding move instructionInWords writeAt
       move-orderly (assign n e) l i =
-          goes-on (length-set (s .memory) _ _) (write-steady now (s .memory) _ _ (h .steadied) (evaluate-gives-word now (s .memory) _ e (h .steadied) l))
+          valued-orderly _ _ λ v g.
+          goes-on (length-set (s .memory) _ _) (write-steady now (s .memory) _ _ (h .steadied) (evaluate-gives-word now (s .memory) _ e (h .steadied) l v g))
       move-orderly (schedule n d e) l i =
           let names = boundNames listing base callerNames c in
-          schedule-orderly (suc place) (addressOf names n) (evaluate now (s .memory) names d) (evaluate now (s .memory) names e) _ _ refl refl
-          (evaluate-gives-word now (s .memory) names e (h .steadied) (and-right (expressionInWords d) _ l))
-      move-orderly (branch e k) l i = goes-on refl (h .steadied)
+          valued-orderly _ _ λ delay f. valued-orderly _ _ λ v g.
+          schedule-orderly (suc place) (addressOf names n) delay v _ _ refl refl
+          (evaluate-gives-word now (s .memory) names e (h .steadied) (and-right (expressionInWords d) _ l) v g)
+      move-orderly (branch e k) l i = valued-orderly _ _ λ v g. goes-on refl (h .steadied)
       move-orderly (jump k) l i = goes-on refl (h .steadied)
       move-orderly (wait ns) l i = falls-asleep i
       move-orderly (fork cs) l i = fork-orderly cs _ _ i refl refl

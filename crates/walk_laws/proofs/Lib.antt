@@ -1,4 +1,5 @@
 pub mod Booleans
+pub mod Failing
 pub mod Results
 pub mod Steps
 pub mod Bound

@@ -6,7 +6,7 @@ use Prim.Native.Nat.{ℕ, zero, suc}
 use lib.ListN.{getD}
 use borrow.Author.Tests.{lt-ltb}
 use Rattle.listing.specs.Lists.{all}
-use Rattle.listing.specs.Listing.{Piece, literal, valueOf, writtenMark, plus, minus, times, less, Instruction, assign, schedule, branch, jump, wait, fork, end, Routine, Listing}
+use Rattle.listing.specs.Listing.{Piece, literal, valueOf, writtenMark, plus, minus, times, less, divide, remainder, Instruction, assign, schedule, branch, jump, wait, fork, end, Routine, Listing}
 use Rattle.listing.specs.Expressions.{leavesOne}
 use Rattle.listing.specs.WellFormed.{pieceHasForm, expressionHasForm, instructionHasForm, hasForm}
 use Rattle.listing.proofs.Tests.{and-left, and-right, all-head, all-tail}
@@ -24,6 +24,8 @@ piece-in-words plus h = refl
 piece-in-words minus h = refl
 piece-in-words times h = refl
 piece-in-words less h = refl
+piece-in-words divide h = refl
+piece-in-words remainder h = refl
 
 pieces-in-words : (ps : List Piece) → all pieceHasForm ps ≡ true → expressionInWords ps ≡ true
 unfolding expressionInWords

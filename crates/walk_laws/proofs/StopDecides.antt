@@ -2,15 +2,17 @@
 -- Letters as in the walk: `me` is the routine's frame, s what is running, k a question's number, i an instruction, n a node.
 use mathlib.Core.Path.{_≡_, refl, _∙_}
 use mathlib.Core.List.{List}
+use mathlib.Core.Option.{none}
 use Prim.Native.Nat.{ℕ, suc, _+_, _≤_}
 use lib.ListN.{length}
 use borrow.Author.Tests.{le-ltb, le-leb, lt-leb}
 use Rattle.words.specs.Moments.{momentRange}
-use Rattle.listing.specs.Listing.{Listing, Call, Instruction}
+use Rattle.listing.specs.Listing.{Listing, Piece, Call, Instruction}
 use Rattle.walk.specs.State.{Node, Forest, empty, Running, Turn, Result, stop, ok, _>>=_, Frame, next, frame, goTo, withMemory, Variable}
-use Rattle.walk.specs.Memory.{evaluate}
-use Rattle.walk.specs.Walk.{instructionOf, newRoutines, goesTo, asking, move, Runner, inTurn, begin, join, carryOut, execute, run, passedWait, wake, resume, visit, visitForest}
-use Rattle.walk_laws.specs.Stops.{FirstNo, no-step, no-room, too-deep, no-delay, too-late, stepTaken, forked, fullRun, Forks, RunReaches, here, onward, in-child, after-children, NewReach, first, later, VisitReaches, in-children, woken, joined, ForestReaches, first-visited, later-visited}
+use Rattle.walk.specs.Memory.{namedIn, evaluate}
+use Rattle.walk.specs.Walk.{instructionOf, newRoutines, goesTo, asking, withValue, move, Runner, inTurn, begin, join, carryOut, execute, run, passedWait, wake, resume, visit, visitForest}
+use Rattle.walk_laws.specs.Stops.{DividesByZero, FirstNo, no-step, no-room, too-deep, zero-in-value, zero-in-condition, zero-in-delay, zero-in-later-value, no-delay, too-late, stepTaken, forked, fullRun, Forks, RunReaches, here, onward, in-child, after-children, NewReach, first, later, VisitReaches, in-children, woken, joined, ForestReaches, first-visited, later-visited}
+use Rattle.walk_laws.proofs.Failing.{fails-exactly-if}
 use Rattle.walk_laws.proofs.FullRun.{full-without-steps, full-takes-step}
 
 pub then-stop : {A B : Type 0} {k : ℕ} (x : Result A) (f : A → Result B) → x ≡ stop k → (x >>= f) ≡ stop k
@@ -23,15 +25,23 @@ then-goes-on x f e = rw e
 
 module _ (listing : Listing) (now k : ℕ) where
   -- ── one instruction ─────────────────────────────────────────────────────────────────────────────
+  by-zero-none : (me : Frame) (s : Running) (e : List Piece) → DividesByZero now me s e → evaluate now (s .memory) (me .names) e ≡ none
+  unfolding evaluate
+  by-zero-none me s e z = fails-exactly-if now (namedIn (s .memory) (me .names)) e .1 z
+
   first-no-stops : (number : ℕ) (me : Frame) (s : Running) (i : Instruction) → FirstNo now number me s i →
       instructionOf listing me ≡ i → fullRun listing now me s ≡ stop number
-  unfolding execute move asking carryOut
+  unfolding execute move asking withValue carryOut
   first-no-stops _ me s _ (no-step e) at = full-without-steps listing now me s e
   first-no-stops _ me s _ (no-room {cs = cs} l m) at = full-takes-step listing now me s l ∙ rw (at, lt-leb _ 64 m)
   first-no-stops _ me s _ (too-deep l m d) at = full-takes-step listing now me s l ∙ rw (at, le-leb _ 64 m, lt-leb _ 9 d)
-  first-no-stops _ me s _ (no-delay l d) at = full-takes-step listing now me s l ∙ rw (at, d)
-  first-no-stops _ me s _ (too-late {d = d} l p m) at =
-      full-takes-step listing now me s l ∙ rw (at, p, le-ltb (now + evaluate now (s .memory) (me .names) d) momentRange m)
+  first-no-stops _ me s _ (zero-in-value {e = e} l z) at = full-takes-step listing now me s l ∙ rw (at, by-zero-none me s e z)
+  first-no-stops _ me s _ (zero-in-condition {e = e} l z) at = full-takes-step listing now me s l ∙ rw (at, by-zero-none me s e z)
+  first-no-stops _ me s _ (zero-in-delay {d = d} l z) at = full-takes-step listing now me s l ∙ rw (at, by-zero-none me s d z)
+  first-no-stops _ me s _ (zero-in-later-value {e = e} l h z) at = full-takes-step listing now me s l ∙ rw (at, h, by-zero-none me s e z)
+  first-no-stops _ me s _ (no-delay l h v d) at = full-takes-step listing now me s l ∙ rw (at, h, v, d)
+  first-no-stops _ me s _ (too-late {delay = delay} l h v p m) at =
+      full-takes-step listing now me s l ∙ rw (at, h, v, p, le-ltb (now + delay) momentRange m)
 
   leads-on : (me : Frame) (s : Running) (to : ℕ) (memory : List Variable) → 1 ≤ s .left →
       move now (instructionOf listing me) me (s .live) (s .memory) ≡ goesTo to memory →

@@ -4,8 +4,9 @@
 use mathlib.Core.Path.{_≡_, refl, sym, _∙_}
 use mathlib.Core.Bool.{Bool, true, false}
 use mathlib.Core.List.{List}
+use mathlib.Core.Option.{Option, none, some}
 use Prim.Native.Nat.{ℕ, zero, suc, _+_, _≤_}
-use lib.Dec.{ltb, leb}
+use lib.Dec.{eqb, ltb, leb}
 use lib.ListN.{length}
 use borrow.Author.Tests.{ltb-false, leb-true, leb-false}
 use native.Mathlib.Nat.{le-refl, le-trans}
@@ -15,10 +16,11 @@ use Rattle.words.specs.Words.{isPositive}
 use Rattle.words.specs.Moments.{momentRange}
 use Rattle.listing.specs.Listing.{Listing, Piece, Call, Instruction, assign, schedule, branch, jump, wait, fork, end}
 use Rattle.walk.specs.State.{Variable, Node, node, Forest, empty, more, _⊕_, Running, Turn, Result, stop, ok, _>>=_, withMemory, Frame, goTo, next, frame}
-use Rattle.walk.specs.Memory.{anyWritten, evaluate}
-use Rattle.walk.specs.Walk.{instructionAt, instructionOf, newRoutines, childCount, enter, sleep, leave, goesTo, forks, asking, move, inTurn, begin, join, carryOut, execute, run, passedWait, wake, resume, visit, visitForest}
-use Rattle.walk_laws.specs.Stops.{FirstNo, no-step, no-room, too-deep, no-delay, too-late, stepTaken, forked, fullRun, Forks, RunReaches, here, onward, in-child, after-children, NewReach, first, later, VisitReaches, in-children, woken, joined, ForestReaches, first-visited, later-visited}
+use Rattle.walk.specs.Memory.{writeAt, scheduleAt, addressOf, anyWritten, namedIn, evaluate}
+use Rattle.walk.specs.Walk.{branchPlace, instructionAt, instructionOf, newRoutines, childCount, enter, sleep, leave, goesTo, forks, asking, withValue, move, inTurn, begin, join, carryOut, execute, run, passedWait, wake, resume, visit, visitForest}
+use Rattle.walk_laws.specs.Stops.{DividesByZero, FirstNo, no-step, no-room, too-deep, zero-in-value, zero-in-condition, zero-in-delay, zero-in-later-value, no-delay, too-late, stepTaken, forked, fullRun, Forks, RunReaches, here, onward, in-child, after-children, NewReach, first, later, VisitReaches, in-children, woken, joined, ForestReaches, first-visited, later-visited}
 use Rattle.walk_laws.proofs.Steps.{inTurn-within, begin-within}
+use Rattle.walk_laws.proofs.Failing.{fails-exactly-if}
 use Rattle.walk_laws.proofs.FullRun.{left-by, full-frugal, full-without-steps, full-takes-step}
 
 -- ── outcomes ──────────────────────────────────────────────────────────────────────────────────────
@@ -116,24 +118,53 @@ module _ (listing : Listing) (now k : ℕ) where
       fork-caused cs i true true x y e =
           children-caused cs (record { at = i; step = step; room = leb-true _ 64 x; shallow = leb-true (me .level) 9 y }) e
 
-      schedule-caused : (n : ℕ) (d e : List Piece) → instructionOf listing me ≡ schedule n d e → (positive fits : Bool) →
-          isPositive (evaluate now (s .memory) (me .names) d) ≡ positive → ltb (now + evaluate now (s .memory) (me .names) d) momentRange ≡ fits →
-          (memory : List Variable) →
+      none-by-zero : (e : List Piece) → evaluate now (s .memory) (me .names) e ≡ none → DividesByZero now me s e
+      unfolding evaluate
+      none-by-zero e z = fails-exactly-if now (namedIn (s .memory) (me .names)) e .0 z
+
+      -- `S` and `U`: 18 is asked of one expression.
+      one-caused : (i : Instruction) (e : List Piece) (leads : ℕ → ℕ) (leaves : ℕ → List Variable) → instructionOf listing me ≡ i →
+          (DividesByZero now me s e → FirstNo now 18 me s i) → (r : Option ℕ) → evaluate now (s .memory) (me .names) e ≡ r →
+          move now i me (s .live) (s .memory) ≡ withValue r (λ v. goesTo (leads v) (leaves v)) →
+          carryOut listing now (fullRun listing now) (withValue r (λ v. goesTo (leads v) (leaves v))) me (stepTaken s) ≡ stop k → Reaches me s
+      unfolding withValue carryOut
+      one-caused i e leads leaves at cause none x m g = stops-here me s 18 i at (cause (none-by-zero e x)) g
+      one-caused i e leads leaves at cause (some v) x m g = goes-on (leads v) (leaves v) (rw at m) g
+
+      asked-caused : (n : ℕ) (d e : List Piece) (delay v : ℕ) → evaluate now (s .memory) (me .names) d ≡ some delay →
+          evaluate now (s .memory) (me .names) e ≡ some v → instructionOf listing me ≡ schedule n d e → (positive fits : Bool) →
+          isPositive delay ≡ positive → ltb (now + delay) momentRange ≡ fits → (memory : List Variable) →
           move now (schedule n d e) me (s .live) (s .memory) ≡ asking 16 positive (asking 17 fits (goesTo (suc (me .place)) memory)) →
           carryOut listing now (fullRun listing now) (asking 16 positive (asking 17 fits (goesTo (suc (me .place)) memory))) me (stepTaken s) ≡ stop k →
           Reaches me s
       unfolding asking carryOut
-      schedule-caused n d e i false fits x y memory m g = stops-here me s 16 (schedule n d e) i (no-delay step x) g
-      schedule-caused n d e i true false x y memory m g =
-          stops-here me s 17 (schedule n d e) i (too-late step x (ltb-false _ momentRange y)) g
-      schedule-caused n d e i true true x y memory m g = goes-on (suc (me .place)) memory (rw i m) g
+      asked-caused n d e delay v h u i false fits x y memory m g = stops-here me s 16 (schedule n d e) i (no-delay step h u x) g
+      asked-caused n d e delay v h u i true false x y memory m g =
+          stops-here me s 17 (schedule n d e) i (too-late step h u x (ltb-false _ momentRange y)) g
+      asked-caused n d e delay v h u i true true x y memory m g = goes-on (suc (me .place)) memory (rw i m) g
+
+      schedule-caused : (n : ℕ) (d e : List Piece) → instructionOf listing me ≡ schedule n d e → (q r : Option ℕ) →
+          evaluate now (s .memory) (me .names) d ≡ q → evaluate now (s .memory) (me .names) e ≡ r →
+          move now (schedule n d e) me (s .live) (s .memory) ≡ withValue q (λ delay. withValue r (λ v.
+          asking 16 (isPositive delay) (asking 17 (ltb (now + delay) momentRange)
+          (goesTo (suc (me .place)) (scheduleAt (s .memory) (addressOf (me .names) n) (now + delay) v))))) →
+          carryOut listing now (fullRun listing now) (withValue q (λ delay. withValue r (λ v.
+          asking 16 (isPositive delay) (asking 17 (ltb (now + delay) momentRange)
+          (goesTo (suc (me .place)) (scheduleAt (s .memory) (addressOf (me .names) n) (now + delay) v)))))) me (stepTaken s) ≡ stop k →
+          Reaches me s
+      unfolding withValue carryOut
+      schedule-caused n d e i none r x y m g = stops-here me s 18 (schedule n d e) i (zero-in-delay step (none-by-zero d x)) g
+      schedule-caused n d e i (some delay) none x y m g = stops-here me s 18 (schedule n d e) i (zero-in-later-value step x (none-by-zero e y)) g
+      schedule-caused n d e i (some delay) (some v) x y m g = asked-caused n d e delay v x y i _ _ refl refl _ m g
 
       execute-caused : (i : Instruction) → instructionOf listing me ≡ i →
           execute listing now (fullRun listing now) i me (stepTaken s) ≡ stop k → Reaches me s
       unfolding execute move carryOut sleep leave
-      execute-caused (assign n e) i g = goes-on _ _ (rw i) g
-      execute-caused (schedule n d e) i g = schedule-caused n d e i _ _ refl refl _ refl g
-      execute-caused (branch e to) i g = goes-on _ _ (rw i) g
+      execute-caused (assign n e) i g =
+          one-caused (assign n e) e (λ v. suc (me .place)) (λ v. writeAt now (s .memory) (addressOf (me .names) n) v) i (zero-in-value step) _ refl refl g
+      execute-caused (schedule n d e) i g = schedule-caused n d e i _ _ refl refl refl g
+      execute-caused (branch e to) i g =
+          one-caused (branch e to) e (λ v. branchPlace (eqb v 0) to (suc (me .place))) (λ v. s .memory) i (zero-in-condition step) _ refl refl g
       execute-caused (jump to) i g = goes-on _ _ (rw i) g
       execute-caused (wait ns) i g = ok-is-not-stop g
       execute-caused (fork cs) i g = fork-caused cs i _ _ refl refl g

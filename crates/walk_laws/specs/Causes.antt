@@ -14,7 +14,7 @@ use Rattle.walk.specs.Calls.{Layout, Machine, halted, running, memoryWords, fir
 use Rattle.walk.specs.Comparison.{Compared, notCompared, compared, alike}
 use Rattle.walk_laws.specs.Stops.{StartStops, InstantStops}
 
--- ── an instant from a state: 9 to 12, then 13 to 17 ───────────────────────────────────────────────
+-- ── an instant from a state: 9 to 12, then 13 to 18 ───────────────────────────────────────────────
 module _ (l : Listing) (s : State) (t : ℕ) (inputs : List Write) (allowance : ℕ) where
   pub data StateCause : Outcome → Type 0 where
     not-after : ltb (s .now) t ≡ false → StateCause (refused 9)
@@ -22,7 +22,7 @@ module _ (l : Listing) (s : State) (t : ℕ) (inputs : List Write) (allowance : 
     not-rising : ltb (s .now) t ≡ true → dueBefore (nextDue s) t ≡ false → inputsRise (l .inputs) 0 inputs ≡ false → StateCause (refused 11)
     not-allowed : ltb (s .now) t ≡ true → dueBefore (nextDue s) t ≡ false → inputsRise (l .inputs) 0 inputs ≡ true → allowed allowance ≡ false →
         StateCause (refused 12)
-    -- 13 to 17, each by its own cause (Stops)
+    -- 13 to 18, each by its own cause (Stops)
     stops : {k : ℕ} → ltb (s .now) t ≡ true → dueBefore (nextDue s) t ≡ false → inputsRise (l .inputs) 0 inputs ≡ true → allowed allowance ≡ true →
         InstantStops l s t inputs allowance k → StateCause (stopped k)
     goes-through : {d : Done} → ltb (s .now) t ≡ true → dueBefore (nextDue s) t ≡ false → inputsRise (l .inputs) 0 inputs ≡ true →
@@ -43,7 +43,7 @@ module _ (layout : Layout) (table machine : List ℕ) (t : ℕ) (inNumbers inVal
     from-state : {l : Listing} {s : State} {o : Outcome} → long ≡ true → layout .readTable (firstWords table) ≡ some l →
         layout .readMachine l (firstWords machine) ≡ some (running s) → StateCause l s t (inputsOf inNumbers inValues) allowance o → InstantCause o
 
--- ── the start: 1, 6, 12, then 13 to 17 ────────────────────────────────────────────────────────────
+-- ── the start: 1, 6, 12, then 13 to 18 ────────────────────────────────────────────────────────────
 module _ (layout : Layout) (table machine outNumbers outValues : List ℕ) (allowance : ℕ) where
   abbrev longAtStart : Bool
   longAtStart = startLongEnough table machine outNumbers outValues

@@ -1,3 +1,4 @@
+pub mod Division
 pub mod Stops
 pub mod Causes
 pub mod TraceText

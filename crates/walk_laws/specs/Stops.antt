@@ -1,20 +1,26 @@
--- Why an instant stops: the instructions that the walk reaches, and the questions 13 to 17 that are put before each of them.
+-- Why an instant stops: the instructions that the walk reaches, and the questions 13 to 18 that are put before each of them.
 -- What a part of the instant did that is over is told by the walk's own functions.
 -- Letters as in the walk: `me` is the routine's frame, s what is running, k a question's number, cs child fields.
 use mathlib.Core.Path.{_≡_}
 use mathlib.Core.Bool.{true, false}
-use mathlib.Core.List.{List}
+use mathlib.Core.List.{List, []}
+use mathlib.Core.Option.{some}
 use Prim.Native.Nat.{ℕ, suc, _+_, _-_, _≤_, _<_}
 use lib.ListN.{length}
 use Rattle.words.specs.Words.{isPositive}
 use Rattle.words.specs.Moments.{momentRange}
-use Rattle.listing.specs.Listing.{Listing, Piece, Call, Instruction, schedule, wait, fork}
+use Rattle.listing.specs.Listing.{Listing, Piece, Call, Instruction, assign, schedule, branch, wait, fork}
 use Rattle.walk.specs.State.{Variable, Node, node, Forest, empty, more, State, Running, Turn, ok, withLeft, withLive, Frame, goTo, next, frame, withMemory}
-use Rattle.walk.specs.Memory.{anyWritten, evaluate}
+use Rattle.walk.specs.Memory.{anyWritten, namedIn, evaluate}
 use Rattle.walk.specs.Walk.{instructionAt, instructionOf, newRoutines, childCount, enter, goesTo, move, Runner, inTurn, begin, run, passedWait, visit, visitForest}
 use Rattle.walk.specs.Instant.{dueInForest, Write, newMain, atStart, atInstant}
+use Rattle.walk_laws.specs.Division.{MeetsZero}
 
 -- ── "before each instruction, the first no stops the machine" ─────────────────────────────────────
+-- Some divisor met in an expression of the routine `me` is 0.
+abbrev pub DividesByZero : ℕ → Frame → Running → List Piece → Type 0
+DividesByZero now me s e = MeetsZero now (namedIn (s .memory) (me .names)) [] e
+
 -- `FirstNo now k me s i`: at instruction i, reached at moment `now` by the routine `me`, question k is the first whose answer is no.
 -- (`live` is the true number of live routines: specs LiveCount.)
 pub data FirstNo (now : ℕ) : ℕ → Frame → Running → Instruction → Type 0 where
@@ -24,13 +30,20 @@ pub data FirstNo (now : ℕ) : ℕ → Frame → Running → Instruction → Typ
   no-room : {me : Frame} {s : Running} {cs : List Call} → 1 ≤ s .left → 64 < s .live + childCount cs → FirstNo now 14 me s (fork cs)
   -- "15 At `F`: is this routine's level at most 9?"
   too-deep : {me : Frame} {s : Running} {cs : List Call} → 1 ≤ s .left → s .live + childCount cs ≤ 64 → 9 < me .level → FirstNo now 15 me s (fork cs)
+  -- "18: is every divisor other than 0? Asked at `S` and `U` after 13, and at `A` before 16, delay first."
+  zero-in-value : {me : Frame} {s : Running} {n : ℕ} {e : List Piece} → 1 ≤ s .left → DividesByZero now me s e → FirstNo now 18 me s (assign n e)
+  zero-in-condition : {me : Frame} {s : Running} {e : List Piece} {k : ℕ} → 1 ≤ s .left → DividesByZero now me s e → FirstNo now 18 me s (branch e k)
+  zero-in-delay : {me : Frame} {s : Running} {n : ℕ} {d e : List Piece} → 1 ≤ s .left → DividesByZero now me s d → FirstNo now 18 me s (schedule n d e)
+  zero-in-later-value : {me : Frame} {s : Running} {n delay : ℕ} {d e : List Piece} → 1 ≤ s .left → evaluate now (s .memory) (me .names) d ≡ some delay →
+      DividesByZero now me s e → FirstNo now 18 me s (schedule n d e)
   -- "16 At `A`: is the delay at least 1?"
-  no-delay : {me : Frame} {s : Running} {n : ℕ} {d e : List Piece} → 1 ≤ s .left →
-      isPositive (evaluate now (s .memory) (me .names) d) ≡ false → FirstNo now 16 me s (schedule n d e)
+  no-delay : {me : Frame} {s : Running} {n delay v : ℕ} {d e : List Piece} → 1 ≤ s .left →
+      evaluate now (s .memory) (me .names) d ≡ some delay → evaluate now (s .memory) (me .names) e ≡ some v →
+      isPositive delay ≡ false → FirstNo now 16 me s (schedule n d e)
   -- "17 At `A`: is the due moment below 2 to the 64?"
-  too-late : {me : Frame} {s : Running} {n : ℕ} {d e : List Piece} → 1 ≤ s .left →
-      isPositive (evaluate now (s .memory) (me .names) d) ≡ true → momentRange ≤ now + evaluate now (s .memory) (me .names) d →
-      FirstNo now 17 me s (schedule n d e)
+  too-late : {me : Frame} {s : Running} {n delay v : ℕ} {d e : List Piece} → 1 ≤ s .left →
+      evaluate now (s .memory) (me .names) d ≡ some delay → evaluate now (s .memory) (me .names) e ≡ some v →
+      isPositive delay ≡ true → momentRange ≤ now + delay → FirstNo now 17 me s (schedule n d e)
 
 -- ── the instructions reached ──────────────────────────────────────────────────────────────────────
 -- "each instruction reached counts one"

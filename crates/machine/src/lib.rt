@@ -8,6 +8,10 @@ pub const PRESENT: usize = 1;
 pub const LIVE: usize = 3;
 
 pub const UNUSED: usize = 4;
+// The numbers that stop a machine, the first word of the stopped form: 13 to 17, and 18 of document 02.
+pub const FIRST_STOP: u32 = 13;
+
+pub const LAST_STOP: u32 = 18;
 // The slots of the live routines in walking order.
 pub const ORDER: usize = 64;
 

@@ -4,6 +4,8 @@ use machine::BLOCK_WORDS;
 use machine::BLOCKS;
 use machine::ENVIRONMENT;
 use machine::ENVIRONMENT_AT;
+use machine::FIRST_STOP;
+use machine::LAST_STOP;
 use machine::LIVE;
 use machine::ORDER;
 use machine::ORDER_WORDS;
@@ -110,10 +112,10 @@ pub fn stopped_words(m: &[u32]) -> bool
     ensures { λ b. ⌜ b ≡ stoppedWords (now (m .entry)) ⌝ }
 {
     let k = m[0];
-    if k < 13 {
+    if k < FIRST_STOP {
         return false;
     }
-    if 17 < k {
+    if LAST_STOP < k {
         return false;
     }
     zero_from(m, 1, 12287)

@@ -3,6 +3,7 @@
 use mathlib.Core.Path.{_≡_, refl, sym, ap, _∙_, fun-ext}
 use mathlib.Core.Bool.{true}
 use mathlib.Core.List.{List, _∷_}
+use mathlib.Core.Option.{some}
 use Prim.Native.Nat.{ℕ, suc, _≤_, _+_}
 use native.Mathlib.Nat.{le-refl, le-trans}
 use lib.ListN.{length, take, drop}
@@ -10,7 +11,7 @@ use lib.Dec.{leb}
 use Rattle.listing.specs.Listing.{Call, Listing, Piece, assign, fork, wait}
 use Rattle.walk.specs.Memory.{addressOf, evaluate, writeAt}
 use Rattle.walk.specs.State.{Forest, Node, Result, Running, Turn, Variable, _>>=_, _⊕_, empty, more, node, ok, stop, frame}
-use Rattle.walk.specs.Walk.{begin, childCount, enter, asking, move, carryOut, execute, inTurn, instructionAt, newRoutines, resume, run, sleep, step, visit, visitForest}
+use Rattle.walk.specs.Walk.{begin, childCount, enter, asking, withValue, move, carryOut, execute, inTurn, instructionAt, newRoutines, resume, run, sleep, step, visit, visitForest}
 use Rattle.walk_laws.proofs.Steps.{Within, stopped, leaves, inTurn-within, begin-within, run-within}
 use Rattle.walk_laws.proofs.Bound.{run-same, then-same, begin-same, join-same}
 use Rattle.engine_rows.proofs.Quiet.{QuietNode, quiet-node}
@@ -84,16 +85,16 @@ module _ (listing : Listing) (now : ℕ) where
 
   -- one instruction
   pub rest-S : (level r place : ℕ) (ns : List ℕ) (b n : ℕ) (e : List Piece) (ts : List Task) (d : Forest) (ds : List Forest) (m : List Variable)
-      (k l woken : ℕ) → instructionAt listing r place ≡ assign n e →
+      (k l woken given : ℕ) → instructionAt listing r place ≡ assign n e → evaluate now m ns e ≡ some given →
       rest listing now (goes (frame level r place ns b) ∷ ts) d ds (runningWith m (suc k) l woken) ≡ rest listing now
       (goes (frame level r (suc place) ns b) ∷ ts) d ds (record {
-        memory = writeAt now m (addressOf ns n) (evaluate now m ns e);
+        memory = writeAt now m (addressOf ns n) given;
         left = k;
         live = l;
         woken = woken;
       })
-  unfolding rest run step execute move carryOut
-  rest-S level r place ns b n e ts d ds m k l woken h = rw h
+  unfolding rest run step execute move withValue carryOut
+  rest-S level r place ns b n e ts d ds m k l woken given h x = rw (h, x)
 
   pub rest-W : (level r place : ℕ) (ns : List ℕ) (b : ℕ) (ws : List ℕ) (ts : List Task) (d : Forest) (ds : List Forest) (m : List Variable)
       (k l woken : ℕ) → instructionAt listing r place ≡ wait ws →

@@ -3,6 +3,7 @@
 use mathlib.Core.Path.{_≡_, refl, sym, ap, ap₂, _∙_}
 use mathlib.Core.Bool.{true, false, _||_}
 use mathlib.Core.List.{List, [], _∷_, _++_}
+use mathlib.Core.Option.{some}
 use Prim.Native.Nat.{ℕ, suc, _+_, _≤_, _<_}
 use native.Mathlib.Omega.{arith}
 use native.Mathlib.Decide.{ℕ-discrete, decLt}
@@ -122,12 +123,13 @@ module _ (listing : Listing) (now : ℕ) (triggers : Owner → List ℕ) (hi : �
     evaluates e = evaluateBy-same (named σ environment ((σ me) .bindings)) m ns reads now e
 
     -- a test: the engine's own value decides
-    pub runs-U : (e : List Piece) (k : ℕ) → instructionAt listing ((f .self) .routine) ((f .self) .place) ≡ branch e k →
-        let place = branchPlace (eqb (evaluateBy now (named σ environment ((σ me) .bindings)) e) 0) k (suc ((f .self) .place)) in
+    pub runs-U : (e : List Piece) (k given : ℕ) → instructionAt listing ((f .self) .routine) ((f .self) .place) ≡ branch e k →
+        evaluateBy now (named σ environment ((σ me) .bindings)) e ≡ some given →
+        let place = branchPlace (eqb given 0) k (suc ((f .self) .place)) in
         Runs listing now triggers hi (withRow σ me (atPlace (σ me) place)) environment q j l woken
         (focus (placed (f .self) place) (f .done) (f .todo)) fs whole
     unfolding focus placed readyUp
-    runs-U e k i =
+    runs-U e k given i evaluated =
         record {
           held = head-change 0 hi nil (atPlace (σ me) place) 0 (placed (f .self) place) refl (ap (λ y. atPlace y place) (head-of (R .held) .row) ∙
               atPlace-of false (pathOf environment fs) (length (memoryOf environment fs)) 0 (f .self) place) (R .range) (R .held);
@@ -139,32 +141,30 @@ module _ (listing : Listing) (now : ℕ) (triggers : Owner → List ℕ) (hi : �
           rests = R .rests;
           paused = R .paused;
           begun = refl;
-          same = R .same ∙ move-U listing now environment j l woken f fs e k (eqb (evaluateBy now (named σ environment ((σ me) .bindings)) e) 0) i
-              (ap (λ z. eqb z 0) (sym (evaluates e)));
+          same = R .same ∙ move-U listing now environment j l woken f fs e k given (eqb given 0) i (sym (evaluates e) ∙ evaluated) refl;
         }
       where
         place : ℕ
-        place = branchPlace (eqb (evaluateBy now (named σ environment ((σ me) .bindings)) e) 0) k (suc ((f .self) .place))
+        place = branchPlace (eqb given 0) k (suc ((f .self) .place))
 
         c : Calmer σ (withRow σ me (atPlace (σ me) place))
         c = calmer-withRow σ me (atPlace (σ me) place) (atPlace-asleep (σ me) place)
 
     module _ (n : ℕ) (d e : List Piece) (i : instructionAt listing ((f .self) .routine) ((f .self) .place) ≡ schedule n d e) (isName : n < length ns)
+        (waiting given : ℕ) (delayed : evaluateBy now (named σ environment ((σ me) .bindings)) d ≡ some waiting)
+        (evaluated : evaluateBy now (named σ environment ((σ me) .bindings)) e ≡ some given)
       where
         abbrev target : Owner
         target = ownerOf ((σ me) .bindings) n
 
-        abbrev waiting : ℕ
-        waiting = evaluateBy now (named σ environment ((σ me) .bindings)) d
-
         abbrev put-in : Variable
-        put-in = scheduledOn (variableOf σ environment target) (now + waiting) (evaluateBy now (named σ environment ((σ me) .bindings)) e)
+        put-in = scheduledOn (variableOf σ environment target) (now + waiting) given
 
         abbrev a : ℕ
         a = addressOf ns n
 
         abbrev v : Variable
-        v = scheduledOn (variableAt m a) (now + evaluate now m ns d) (evaluate now m ns e)
+        v = scheduledOn (variableAt m a) (now + waiting) given
 
         abbrev rows-A : Rows
         rows-A = withRow (rowsWith σ target put-in) me (atPlace (rowsWith σ target put-in me) (suc ((f .self) .place)))
@@ -184,8 +184,7 @@ module _ (listing : Listing) (now : ℕ) (triggers : Owner → List ℕ) (hi : �
 
         v-is : put-in ≡ v
         unfolding named
-        v-is = ap₂ (λ o t. scheduledOn o (now + t) (evaluateBy now (named σ environment ((σ me) .bindings)) e)) (reads n) (evaluates d) ∙
-            ap (scheduledOn (variableAt m a) (now + evaluate now m ns d)) (evaluates e)
+        v-is = ap (λ o. scheduledOn o (now + waiting) given) (reads n)
 
         held₁ : HeldUp (rowsWith σ target put-in) (set environment a v) 0 (g ∷ fs′)
         unfolding setUp focus
@@ -218,6 +217,5 @@ module _ (listing : Listing) (now : ℕ) (triggers : Owner → List ℕ) (hi : �
           rests = R .rests;
           paused = paused-set listing environment fs a v (R .paused);
           begun = refl;
-          same = R .same ∙ move-A listing now environment j l woken f fs n d e i (ap isPositive (sym (evaluates d)) ∙
-              p) (ap (λ z. ltb (now + z) 18446744073709551616) (sym (evaluates d)) ∙ t);
+          same = R .same ∙ move-A listing now environment j l woken f fs n d e waiting given i (sym (evaluates d) ∙ delayed) (sym (evaluates e) ∙ evaluated) p t;
         })

@@ -20,7 +20,7 @@ use Rattle.engine_rows.proofs.Kept.{Known}
 use Rattle.engine_rows.proofs.Begin.{Brief, brief-nil, brief-put, begin-idle}
 use Rattle.engine_rows.proofs.Steady.{TableFits, Above, Steady, steady-nil, steady-put}
 use Rattle.engine_rows.proofs.Outcomes.{Goal, Sound, AsWalk, idle-as-walk}
-use Rattle.engine_rows.proofs.Loop.{run-meets}
+use Rattle.engine_rows.proofs.Running.{run-meets}
 
 pub steady-brief : (listing : Listing) {u : Above} {level c : ℕ} {t : Tree} → Steady listing u level c t → Brief listing c t
 steady-brief listing steady-nil = brief-nil

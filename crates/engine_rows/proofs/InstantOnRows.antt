@@ -30,7 +30,7 @@ use Rattle.engine_rows.proofs.Taking.{used-ext}
 use Rattle.engine_rows.proofs.TriggerLists.{triggers-made}
 use Rattle.engine_rows.proofs.Begin.{brief-nil, readyOf-is-ready}
 use Rattle.engine_rows.proofs.Instant.{visit-meets}
-use Rattle.engine_rows.proofs.Loop.{run-meets}
+use Rattle.engine_rows.proofs.Running.{run-meets}
 use Rattle.engine_rows.proofs.Changing.{changed, due-rows, changed-due, due-live, unmarked-live, due-length, inputs-length, changed-slots, changed-range, changed-rests, changed-steady, changed-held, changed-used, changed-asleep}
 use Rattle.engine_rows.proofs.Holds.{Holds, steady-single, holds-live, holds-due, unmarkedState, unmarked-holds, next-due-unmarked}
 pub use Rattle.engine_rows.specs.Holds.{Agrees, SameOutcome, same-stop, same-done}

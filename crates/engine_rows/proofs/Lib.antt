@@ -24,6 +24,7 @@ pub mod Steady
 pub mod Taking
 pub mod Outcomes
 pub mod Loop
+pub mod Running
 pub mod TriggerLists
 pub mod Begin
 pub mod Instant

@@ -11,7 +11,7 @@ use Rattle.walk.specs.Instant.{dueWrites, applyInputs, unmarked, environmentSiz
 use Rattle.engine_rows.specs.Rows.{freeRow, noRows, chooseRow, withRow, withOwn, atPlace, withChildren, variableOf, rowsWith, environmentWith, ownerOf, named}
 use Rattle.engine_rows.specs.Ready.{insertAt, insert, insertAll, insertIf}
 use Rattle.engine_rows.specs.Triggers.{sameOwner, awaited, awaitedBy, consIf, triggered, listNames, listIf, triggersBelow, triggersOf, anyNamedWritten, wakesNow, readyBelow, readyOf}
-use Rattle.engine_rows.specs.Engine.{RowsResult, halts, ends, firstPlace, countIf, nextReady, orHalt, joinRows, endRows, freeElse, freeSlot, ownBindings, childBindings, callerAt, childRow, rowsWithChild, rowsWithNew, newSlots, forkRows, executeRows, runRows}
+use Rattle.engine_rows.specs.Engine.{RowsResult, halts, ends, firstPlace, countIf, nextReady, orHalt, valueOrHalt, joinRows, endRows, freeElse, freeSlot, ownBindings, childBindings, callerAt, childRow, rowsWithChild, rowsWithNew, newSlots, forkRows, executeRows, runRows}
 use Rattle.engine_rows.specs.Beginning.{ownIf, dueInRows, unmarkedRows, environmentBindings, instantOnRows, environmentCaller, mainRow, newEnvironment, startOnRows}
 use Rattle.engine_rows.specs.Records.{isWait, callsOf, noCall, chooseSlot, seen, callsAt, filledRow, filledAt, filledRows}
 use Rattle.engine_rows.specs.Order.{orderKey, beforeElse, insertInOrder, orderIf, orderBelow, walkingOrder}
@@ -45,7 +45,7 @@ pressed : seenOf (pressedAfter (startOnRows listingB 7 100)) ≡
     ended (record { value = 3; written = true; waiting = idle } ∷ record { value = 7; written = true; waiting = idle } ∷ []) 5 0 2
 unfolding seenOf pressedAfter startOnRows newEnvironment mainRow environmentCaller environmentBindings runRows executeRows forkRows
     rowsWithNew newSlots rowsWithChild callerAt childRow childBindings ownVariables ownBindings freeSlot freeElse forkBits nextReady
-    orHalt firstPlace countIf withRow chooseRow withChildren atPlace withOwn noRows freeRow named ownerOf variableOf variableAt
+    orHalt valueOrHalt firstPlace countIf withRow chooseRow withChildren atPlace withOwn noRows freeRow named ownerOf variableOf variableAt
     instructionAt routineAt noRoutine childCount environmentSize mainCall listingB noVariable newVariable instantOnRows dueInRows
     unmarkedRows ownIf filledRows filledAt filledRow seen chooseSlot callsAt callsOf noCall isWait walkingOrder orderBelow orderIf
     insertInOrder beforeElse orderKey applyInputs inputAt inputTo dueWrites madeDue dueWrite madeIfDue unmarkedOf unmarked triggersOf

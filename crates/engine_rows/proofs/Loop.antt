@@ -1,9 +1,10 @@
--- The whole claim for a run: the engine on rows ends as the walk ends, by induction on the steps left.
+-- One instruction of a run: if the rest of the run on rows ends as the walk ends, so does the run from here.
 -- Letters as in Place and Held.
 use mathlib.Core.Path.{_≡_, refl, sym, ap, subst, _∙_}
 use mathlib.Core.Bool.{Bool, true, false}
 use mathlib.Core.List.{List, _∷_, _++_}
-use Prim.Native.Nat.{ℕ, zero, suc, _+_, _*_, _-_, _^_, _≤_, _<_}
+use mathlib.Core.Option.{Option, none, some}
+use Prim.Native.Nat.{ℕ, suc, _+_, _*_, _-_, _^_, _≤_, _<_}
 use native.Mathlib.Omega.{arith}
 use lib.Dec.{ltb, eqb, leb}
 use lib.ListN.{length, set, length-append, length-set}
@@ -13,7 +14,7 @@ use Rattle.listing.specs.Listing.{Call, Instruction, Listing, Piece, assign, br
 use Rattle.walk.specs.Memory.{addressOf, evaluate, variableAt, evaluateBy}
 use Rattle.walk.specs.State.{Result, Turn, Variable, writtenTo, scheduledOn}
 use Rattle.walk.specs.Walk.{childCount, instructionAt, branchPlace}
-use Rattle.engine_rows.specs.Engine.{RowsRunner, callerAt, RowsResult, endRows, executeRows, forkRows, newSlots, nextReady, orHalt, runRows}
+use Rattle.engine_rows.specs.Engine.{RowsRunner, callerAt, RowsResult, endRows, executeRows, forkRows, newSlots, nextReady, orHalt, valueOrHalt}
 use Rattle.engine_rows.specs.Ready.{insertAll}
 use Rattle.engine_rows.specs.Rows.{Owner, Rows, atPlace, environmentWith, freeRow, named, ownerOf, rowsWith, variableOf, withChildren, withRow}
 use Rattle.engine_rows.specs.Triggers.{triggered}
@@ -22,7 +23,7 @@ use Rattle.engine_rows.proofs.Priority.{newChildren, fork-fits}
 use Rattle.engine_rows.proofs.Sorted.{In, Either, this, that}
 use Rattle.engine_rows.proofs.Writing.{setUp, recordWithOwn, setFrom}
 use Rattle.engine_rows.proofs.Held.{Entry, ownersAt, pathOf, rootCount, rowFor, parentSlot, HeldUp, withRow-same, path-length, up-keep, hole, hole-in}
-use Rattle.engine_rows.proofs.Moves.{placed, focus, move-none, stop-14, stop-15, stop-16, stop-17}
+use Rattle.engine_rows.proofs.Moves.{placed, focus, stop-14, stop-15, stop-16, stop-17, stop-18-S, stop-18-U, stop-18-delay, stop-18-A}
 use Rattle.engine_rows.proofs.Standing.{head-of}
 use Rattle.engine_rows.proofs.Kept.{slotsOf, slotsUp, plug-in, in-plug, up-plug, head-change}
 use Rattle.engine_rows.proofs.EngineState.{Runs, one-more, slots-set}
@@ -33,7 +34,7 @@ use Rattle.engine_rows.proofs.Delaying.{runs-U, runs-A, evaluates}
 use Rattle.engine_rows.proofs.Children.{callerOn, usedBelow}
 use Rattle.engine_rows.proofs.Taking.{withRow-used, used-keep, owner-used, atPlace-used, withChildren-used, rootCount-over, rootCount-set, length-environmentWith, Keeps, Taken, taken}
 use Rattle.engine_rows.proofs.Steady.{CallsFit, Above, aboveOf, aboveUp, above-at, TableFits, SteadyRecord, Steady, steady-record, steady-set, steady-children, steady-hole}
-use Rattle.engine_rows.proofs.Outcomes.{sound-placed, Goal, filled, end-as-walk, move-in, stops-alike, AsWalk, idle-as-walk, Sound}
+use Rattle.engine_rows.proofs.Outcomes.{sound-placed, Goal, filled, end-as-walk, move-in, idle-as-walk, Sound}
 use Rattle.words.specs.ForkBits.{forkBits}
 use Rattle.words.proofs.ForkBits.{fork-bits-are-at-most-three}
 
@@ -78,17 +79,25 @@ module _ (listing : Listing) (now : ℕ) (triggers : Owner → List ℕ) (hi : �
         (runs-G listing now triggers hi k R i) (sound-placed listing now triggers hi T σ _ environment l k f fs
         (withRow-used σ me (atPlace (σ me) k) (atPlace-used (σ me) k)) S)
 
+    same-value : (e : List Piece) →
+        evaluateBy now (named σ environment ((σ me) .bindings)) e ≡ evaluate now (memoryOf environment (f ∷ fs)) ((f .self) .names) e
+    same-value e = evaluates listing now triggers hi σ environment q j l woken f fs whole R small e
+
     good-U : (e : List Piece) (k : ℕ) → instructionAt listing ((f .self) .routine) ((f .self) .place) ≡ branch e k →
-        G (go
-        (withRow σ me (atPlace (σ me) (branchPlace (eqb (evaluateBy now (named σ environment ((σ me) .bindings)) e) 0) k (suc ((f .self) .place)))))
-        environment q l woken me)
-    unfolding focus placed
-    good-U e k i =
-        let place = branchPlace (eqb (evaluateBy now (named σ environment ((σ me) .bindings)) e) 0) k (suc ((f .self) .place)) in
-        D .deep (withRow σ me (atPlace (σ me) place)) environment q l woken (focus (placed (f .self) place) (f .done) (f .todo)) fs
-        (runs-U listing now triggers hi σ environment q j l woken f fs whole R small e k i)
-        (sound-placed listing now triggers hi T σ _ environment l place f fs
-        (withRow-used σ me (atPlace (σ me) place) (atPlace-used (σ me) place)) S)
+        G (valueOrHalt (evaluateBy now (named σ environment ((σ me) .bindings)) e) (λ v.
+        go (withRow σ me (atPlace (σ me) (branchPlace (eqb v 0) k (suc ((f .self) .place))))) environment q l woken me))
+    unfolding focus placed valueOrHalt
+    good-U e k i = cases (evaluateBy now (named σ environment ((σ me) .bindings)) e) refl
+      where
+        cases : (r : Option ℕ) → evaluateBy now (named σ environment ((σ me) .bindings)) e ≡ r →
+            G (valueOrHalt r (λ v. go (withRow σ me (atPlace (σ me) (branchPlace (eqb v 0) k (suc ((f .self) .place))))) environment q l woken me))
+        cases none x = D .stops (R .same ∙ stop-18-U listing now environment j l woken f fs e k i (sym (same-value e) ∙ x))
+        cases (some v) x =
+            let place = branchPlace (eqb v 0) k (suc ((f .self) .place)) in
+            D .deep (withRow σ me (atPlace (σ me) place)) environment q l woken (focus (placed (f .self) place) (f .done) (f .todo)) fs
+            (runs-U listing now triggers hi σ environment q j l woken f fs whole R small e k v i x)
+            (sound-placed listing now triggers hi T σ _ environment l place f fs
+            (withRow-used σ me (atPlace (σ me) place) (atPlace-used (σ me) place)) S)
 
     soundW : Sound listing now triggers hi T σ environment l (plug fs (f .done ⋈ put (placed (f .self) ((f .self) .place)) nil (f .todo)))
     unfolding plug focus
@@ -136,57 +145,74 @@ module _ (listing : Listing) (now : ℕ) (triggers : Owner → List ℕ) (hi : �
 
     good-S : (n : ℕ) (e : List Piece) → instructionAt listing ((f .self) .routine) ((f .self) .place) ≡ assign n e →
         let o = ownerOf ((σ me) .bindings) n in
-        let v = writtenTo now (variableOf σ environment o) (evaluateBy now (named σ environment ((σ me) .bindings)) e) in
-        G (go
-        (withRow (rowsWith σ o v) me (atPlace (rowsWith σ o v me) (suc ((f .self) .place)))) (environmentWith o environment v)
-        (insertAll σ (triggered σ ((σ me) .low) (triggers o)) q) l woken me)
-    unfolding focus placed recordWithOwn
-    good-S n e i =
-        let isName : n < length ((f .self) .names) = omega (arith, fine .many, T .sets ((f .self) .routine) ((f .self) .place) n e i) in
-        let near : addressOf ((f .self) .names) n < length (memoryOf environment fs) + length ((f .self) .own) = fine .near n isName in
-        D .deep _ _ _ l woken _ _ (runs-S listing now triggers hi n e R i isName small (omega (arith, near, fine .short, fine .high)))
-        (sound-set (ownerOf ((σ me) .bindings) n) (writtenTo now (variableOf σ environment (ownerOf ((σ me) .bindings) n))
-        (evaluateBy now (named σ environment ((σ me) .bindings)) e)) (addressOf ((f .self) .names) n)
-        (writtenTo now (variableAt (memoryOf environment (f ∷ fs)) (addressOf ((f .self) .names) n))
-        (evaluate now (memoryOf environment (f ∷ fs)) ((f .self) .names) e)))
-
-    good-A : (n : ℕ) (d e : List Piece) → instructionAt listing ((f .self) .routine) ((f .self) .place) ≡ schedule n d e →
-        let o = ownerOf ((σ me) .bindings) n in
-        let t = evaluateBy now (named σ environment ((σ me) .bindings)) d in
-        let v = scheduledOn (variableOf σ environment o) (now + t) (evaluateBy now (named σ environment ((σ me) .bindings)) e) in
-        G (orHalt (isPositive t) 16
-        (orHalt (ltb (now + t) 18446744073709551616) 17 (go
-        (withRow (rowsWith σ o v) me (atPlace (rowsWith σ o v me) (suc ((f .self) .place)))) (environmentWith o environment v) q l woken me)))
-    unfolding focus placed recordWithOwn orHalt
-    good-A n d e i = cases (isPositive t) (ltb (now + t) 18446744073709551616) refl refl
+        G (valueOrHalt (evaluateBy now (named σ environment ((σ me) .bindings)) e) (λ v.
+        let x = writtenTo now (variableOf σ environment o) v in
+        go (withRow (rowsWith σ o x) me (atPlace (rowsWith σ o x me) (suc ((f .self) .place)))) (environmentWith o environment x)
+        (insertAll σ (triggered σ ((σ me) .low) (triggers o)) q) l woken me))
+    unfolding focus placed recordWithOwn valueOrHalt
+    good-S n e i = cases (evaluateBy now (named σ environment ((σ me) .bindings)) e) refl
       where
-        t : ℕ
-        t = evaluateBy now (named σ environment ((σ me) .bindings)) d
-
-        te : t ≡ evaluate now (memoryOf environment (f ∷ fs)) ((f .self) .names) d
-        te = evaluates listing now triggers hi σ environment q j l woken f fs whole R small d
-
         o : Owner
         o = ownerOf ((σ me) .bindings) n
 
-        v : Variable
-        v = scheduledOn (variableOf σ environment o) (now + t) (evaluateBy now (named σ environment ((σ me) .bindings)) e)
+        isName : n < length ((f .self) .names)
+        isName = omega (arith, fine .many, T .sets ((f .self) .routine) ((f .self) .place) n e i)
+
+        near : addressOf ((f .self) .names) n < length (memoryOf environment fs) + length ((f .self) .own)
+        near = fine .near n isName
+
+        cases : (r : Option ℕ) → evaluateBy now (named σ environment ((σ me) .bindings)) e ≡ r →
+            G (valueOrHalt r (λ v.
+            let x = writtenTo now (variableOf σ environment o) v in
+            go (withRow (rowsWith σ o x) me (atPlace (rowsWith σ o x me) (suc ((f .self) .place)))) (environmentWith o environment x)
+            (insertAll σ (triggered σ ((σ me) .low) (triggers o)) q) l woken me))
+        cases none x = D .stops (R .same ∙ stop-18-S listing now environment j l woken f fs n e i (sym (same-value e) ∙ x))
+        cases (some v) x =
+            D .deep _ _ _ l woken _ _ (runs-S listing now triggers hi n e R i isName small (omega (arith, near, fine .short, fine .high)) v x)
+            (sound-set o (writtenTo now (variableOf σ environment o) v) (addressOf ((f .self) .names) n)
+            (writtenTo now (variableAt (memoryOf environment (f ∷ fs)) (addressOf ((f .self) .names) n)) v))
+
+    good-A : (n : ℕ) (d e : List Piece) → instructionAt listing ((f .self) .routine) ((f .self) .place) ≡ schedule n d e →
+        let o = ownerOf ((σ me) .bindings) n in
+        G (valueOrHalt (evaluateBy now (named σ environment ((σ me) .bindings)) d) (λ t.
+        valueOrHalt (evaluateBy now (named σ environment ((σ me) .bindings)) e) (λ v.
+        let x = scheduledOn (variableOf σ environment o) (now + t) v in
+        orHalt (isPositive t) 16 (orHalt (ltb (now + t) 18446744073709551616) 17 (go
+        (withRow (rowsWith σ o x) me (atPlace (rowsWith σ o x me) (suc ((f .self) .place)))) (environmentWith o environment x) q l woken me)))))
+    unfolding focus placed recordWithOwn orHalt valueOrHalt
+    good-A n d e i =
+        valued (evaluateBy now (named σ environment ((σ me) .bindings)) d) refl (evaluateBy now (named σ environment ((σ me) .bindings)) e) refl
+      where
+        o : Owner
+        o = ownerOf ((σ me) .bindings) n
 
         isName : n < length ((f .self) .names)
         isName = omega (arith, fine .many, T .delays ((f .self) .routine) ((f .self) .place) n d e i)
 
-        cases : (x y : Bool) → isPositive t ≡ x → ltb (now + t) 18446744073709551616 ≡ y →
-            G (orHalt x 16
-            (orHalt y 17 (go (withRow (rowsWith σ o v) me (atPlace (rowsWith σ o v me) (suc ((f .self) .place))))
-            (environmentWith o environment v) q l woken me)))
-        cases false y p r = D .stops (R .same ∙ stop-16 listing now environment j l woken f fs n d e i (ap isPositive (sym te) ∙ p))
-        cases true false p r = D .stops (R .same ∙ stop-17 listing now environment j l woken f fs n d e i (ap isPositive (sym te) ∙
-            p) (ap (λ z. ltb (now + z) 18446744073709551616) (sym te) ∙ r))
-        cases true true p r =
-            D .deep _ _ _ l woken _ _ (runs-A listing now triggers hi σ environment q j l woken f fs whole R small n d e i isName p r)
-            (sound-set o v (addressOf ((f .self) .names) n) (scheduledOn (variableAt (memoryOf environment (f ∷ fs)) (addressOf ((f .self) .names) n))
-            (now + evaluate now (memoryOf environment (f ∷ fs)) ((f .self) .names) d)
-            (evaluate now (memoryOf environment (f ∷ fs)) ((f .self) .names) e)))
+        after : ℕ → ℕ → RowsResult
+        after t v =
+            let x = scheduledOn (variableOf σ environment o) (now + t) v in
+            go (withRow (rowsWith σ o x) me (atPlace (rowsWith σ o x me) (suc ((f .self) .place)))) (environmentWith o environment x) q l woken me
+
+        cases : (t v : ℕ) → evaluateBy now (named σ environment ((σ me) .bindings)) d ≡ some t →
+            evaluateBy now (named σ environment ((σ me) .bindings)) e ≡ some v → (x y : Bool) → isPositive t ≡ x →
+            ltb (now + t) 18446744073709551616 ≡ y → G (orHalt x 16 (orHalt y 17 (after t v)))
+        cases t v a b false y p r =
+            D .stops (R .same ∙ stop-16 listing now environment j l woken f fs n d e i t (sym (same-value d) ∙ a) v (sym (same-value e) ∙ b) p)
+        cases t v a b true false p r =
+            D .stops (R .same ∙ stop-17 listing now environment j l woken f fs n d e i t (sym (same-value d) ∙ a) v (sym (same-value e) ∙ b) p r)
+        cases t v a b true true p r =
+            D .deep _ _ _ l woken _ _ (runs-A listing now triggers hi σ environment q j l woken f fs whole R small n d e i isName t v a b p r)
+            (sound-set o (scheduledOn (variableOf σ environment o) (now + t) v) (addressOf ((f .self) .names) n)
+            (scheduledOn (variableAt (memoryOf environment (f ∷ fs)) (addressOf ((f .self) .names) n)) (now + t) v))
+
+        valued : (r : Option ℕ) → evaluateBy now (named σ environment ((σ me) .bindings)) d ≡ r → (u : Option ℕ) →
+            evaluateBy now (named σ environment ((σ me) .bindings)) e ≡ u →
+            G (valueOrHalt r (λ t. valueOrHalt u (λ v. orHalt (isPositive t) 16 (orHalt (ltb (now + t) 18446744073709551616) 17 (after t v)))))
+        valued none a u b = D .stops (R .same ∙ stop-18-delay listing now environment j l woken f fs n d e i (sym (same-value d) ∙ a))
+        valued (some t) a none b =
+            D .stops (R .same ∙ stop-18-A listing now environment j l woken f fs n d e i t (sym (same-value d) ∙ a) (sym (same-value e) ∙ b))
+        valued (some t) a (some v) b = cases t v a b (isPositive t) (ltb (now + t) 18446744073709551616) refl refl
 
     good-E : instructionAt listing ((f .self) .routine) ((f .self) .place) ≡ end →
         G (endRows (eqb ((σ me) .level) 0) go j (withRow σ me freeRow) environment
@@ -365,28 +391,3 @@ module _ (listing : Listing) (now : ℕ) (triggers : Owner → List ℕ) (hi : �
     instruction-as-walk (wait ws) i = good-W ws i
     instruction-as-walk (fork cs) i = good-F cs i
     instruction-as-walk end i = good-E i
-
-  -- the run's own goal
-  run-goal : (j : ℕ) (whole : Result Turn) →
-      ((σ : Rows) (environment : List Variable) (q : List ℕ) (l woken : ℕ) (f : Frame) (fs : List Frame) →
-      Runs listing now triggers hi σ environment q j l woken f fs whole → Sound listing now triggers hi T σ environment l (plug (f ∷ fs) nil) →
-      AsWalk listing now triggers hi T whole (runRows listing now triggers j σ environment q l woken ((f .self) .slot))) →
-      Goal listing now triggers hi T j whole (AsWalk listing now triggers hi T whole) (runRows listing now triggers j)
-  run-goal j whole deep = record { deep = deep; stops = stops-alike; finishes = λ h. h }
-
-  pub run-as-walk : (j : ℕ) (whole : Result Turn) (σ : Rows) (environment : List Variable) (q : List ℕ) (l woken : ℕ) (f : Frame) (fs : List Frame) →
-      Runs listing now triggers hi σ environment q j l woken f fs whole → Sound listing now triggers hi T σ environment l (plug (f ∷ fs) nil) →
-      AsWalk listing now triggers hi T whole (runRows listing now triggers j σ environment q l woken ((f .self) .slot))
-  unfolding runRows
-  run-as-walk zero whole σ environment q l woken f fs R S = stops-alike (R .same ∙ move-none listing now environment l woken f fs)
-  run-as-walk (suc j) whole σ environment q l woken f fs R S =
-      rw (
-        routine-is j whole (run-goal j whole (run-as-walk j whole)) σ environment q l woken f fs R S,
-        place-is j whole (run-goal j whole (run-as-walk j whole)) σ environment q l woken f fs R S,
-      )
-      (instruction-as-walk j whole (run-goal j whole (run-as-walk j whole)) σ environment q l woken f fs R S
-      (instructionAt listing ((f .self) .routine) ((f .self) .place)) refl)
-
-  pub run-meets : (j : ℕ) (whole : Result Turn) → Goal listing now triggers hi T j whole (AsWalk listing now triggers hi T whole)
-      (runRows listing now triggers j)
-  run-meets j whole = run-goal j whole (run-as-walk j whole)

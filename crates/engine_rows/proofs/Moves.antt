@@ -3,6 +3,7 @@
 use mathlib.Core.Path.{_≡_, refl, ap, _∙_}
 use mathlib.Core.Bool.{Bool, true, false}
 use mathlib.Core.List.{List, [], _∷_, _++_}
+use mathlib.Core.Option.{none, some}
 use Prim.Native.Nat.{ℕ, suc, _+_, _-_}
 use lib.Dec.{ltb, eqb, leb}
 use lib.ListN.{length, set}
@@ -11,7 +12,7 @@ use Rattle.words.specs.Words.{isPositive}
 use Rattle.listing.specs.Listing.{Call, Listing, Piece, assign, branch, end, fork, jump, schedule, wait}
 use Rattle.walk.specs.Memory.{addressOf, anyWritten, evaluate, scheduleAt, variableAt, writeAt}
 use Rattle.walk.specs.State.{Variable, _>>=_, stop, writtenTo, scheduledOn}
-use Rattle.walk.specs.Walk.{passedWait, begin, branchPlace, asking, move, carryOut, childCount, enter, execute, instructionAt, join, leave, resume, run, sleep, step, visit, visitForest, wake}
+use Rattle.walk.specs.Walk.{passedWait, begin, branchPlace, asking, withValue, move, carryOut, childCount, enter, execute, instructionAt, join, leave, resume, run, sleep, step, visit, visitForest, wake}
 use Rattle.engine_rows.specs.Triggers.{awaited}
 use Rattle.engine_rows.proofs.Agenda.{Task, back, outer, beyond, news, rest, rest-F, ⊕-none}
 use Rattle.engine_rows.proofs.Place.{Record, Tree, nil, put, erase, _⋈_, erase-⋈, Frame, memoryOf, first, tasks, up, dones, willRun, between}
@@ -75,17 +76,19 @@ module _ (listing : Listing) (now : ℕ) where
   begins environment j l woken fs done x todo b = rw b
 
   -- ── S, A: a variable on the path ──────────────────────────────────────────────────────────────
-  pub move-S : (environment : List Variable) (j l woken : ℕ) (f : Frame) (fs : List Frame) (n : ℕ) (e : List Piece) →
+  pub move-S : (environment : List Variable) (j l woken : ℕ) (f : Frame) (fs : List Frame) (n : ℕ) (e : List Piece) (given : ℕ) →
       instructionAt listing ((f .self) .routine) ((f .self) .place) ≡ assign n e →
+      evaluate now (memoryOf environment (f ∷ fs)) ((f .self) .names) e ≡ some given →
       let m = memoryOf environment (f ∷ fs) in
       let a = addressOf ((f .self) .names) n in
-      let v = writtenTo now (variableAt m a) (evaluate now m ((f .self) .names) e) in
+      let v = writtenTo now (variableAt m a) given in
       goingOn listing now environment (suc j) l woken f fs ≡ goingOn listing now (set environment a v) j l woken
       (focus (placed (recordWithOwn (f .self) (setFrom (length (memoryOf environment fs)) ((f .self) .own) a v)) (suc ((f .self) .place)))
       (f .done) (f .todo)) (setUp environment fs a v)
-  unfolding goingOn rest run step execute move carryOut placed focus recordWithOwn memoryOf writeAt writtenTo
-  move-S environment j l woken f fs n e i = rw (
+  unfolding goingOn rest run step execute move withValue carryOut placed focus recordWithOwn memoryOf writeAt writtenTo
+  move-S environment j l woken f fs n e given i x = rw (
     i,
+    x,
     tasks-set environment fs _ _,
     length-set-path environment fs _ _,
     up-set environment fs _ _,
@@ -94,19 +97,22 @@ module _ (listing : Listing) (now : ℕ) where
     set-path (memoryOf environment fs) ((f .self) .own) (addressOf ((f .self) .names) n) _,
   )
 
-  pub move-A : (environment : List Variable) (j l woken : ℕ) (f : Frame) (fs : List Frame) (n : ℕ) (d e : List Piece) →
+  pub move-A : (environment : List Variable) (j l woken : ℕ) (f : Frame) (fs : List Frame) (n : ℕ) (d e : List Piece) (k given : ℕ) →
       instructionAt listing ((f .self) .routine) ((f .self) .place) ≡ schedule n d e →
+      evaluate now (memoryOf environment (f ∷ fs)) ((f .self) .names) d ≡ some k →
+      evaluate now (memoryOf environment (f ∷ fs)) ((f .self) .names) e ≡ some given →
       let m = memoryOf environment (f ∷ fs) in
       let a = addressOf ((f .self) .names) n in
-      let k = evaluate now m ((f .self) .names) d in
-      let v = scheduledOn (variableAt m a) (now + k) (evaluate now m ((f .self) .names) e) in
+      let v = scheduledOn (variableAt m a) (now + k) given in
       isPositive k ≡ true → ltb (now + k) 18446744073709551616 ≡ true →
       goingOn listing now environment (suc j) l woken f fs ≡ goingOn listing now (set environment a v) j l woken
       (focus (placed (recordWithOwn (f .self) (setFrom (length (memoryOf environment fs)) ((f .self) .own) a v)) (suc ((f .self) .place)))
       (f .done) (f .todo)) (setUp environment fs a v)
-  unfolding goingOn rest run step execute move carryOut asking placed focus recordWithOwn memoryOf scheduleAt scheduledOn
-  move-A environment j l woken f fs n d e i p q = rw (
+  unfolding goingOn rest run step execute move withValue carryOut asking placed focus recordWithOwn memoryOf scheduleAt scheduledOn
+  move-A environment j l woken f fs n d e k given i x y p q = rw (
     i,
+    x,
+    y,
     p,
     q,
     tasks-set environment fs _ _,
@@ -117,14 +123,14 @@ module _ (listing : Listing) (now : ℕ) where
     set-path (memoryOf environment fs) ((f .self) .own) (addressOf ((f .self) .names) n) _,
   )
 
-  pub move-U : (environment : List Variable) (j l woken : ℕ) (f : Frame) (fs : List Frame) (e : List Piece) (k : ℕ) (z : Bool) →
+  pub move-U : (environment : List Variable) (j l woken : ℕ) (f : Frame) (fs : List Frame) (e : List Piece) (k given : ℕ) (z : Bool) →
       instructionAt listing ((f .self) .routine) ((f .self) .place) ≡ branch e k →
-      eqb (evaluate now (memoryOf environment (f ∷ fs)) ((f .self) .names) e) 0 ≡ z →
+      evaluate now (memoryOf environment (f ∷ fs)) ((f .self) .names) e ≡ some given → eqb given 0 ≡ z →
       goingOn listing now environment (suc j) l woken f fs ≡ goingOn listing now environment j l woken
       (focus (placed (f .self) (branchPlace z k (suc ((f .self) .place)))) (f .done) (f .todo)) fs
-  unfolding goingOn rest run step execute move carryOut placed focus memoryOf branchPlace
-  move-U environment j l woken f fs e k true i h = rw (i, h)
-  move-U environment j l woken f fs e k false i h = rw (i, h)
+  unfolding goingOn rest run step execute move withValue carryOut placed focus memoryOf branchPlace
+  move-U environment j l woken f fs e k given true i x h = rw (i, x, h)
+  move-U environment j l woken f fs e k given false i x h = rw (i, x, h)
 
   pub move-G : (environment : List Variable) (j l woken : ℕ) (f : Frame) (fs : List Frame) (k : ℕ) →
       instructionAt listing ((f .self) .routine) ((f .self) .place) ≡ jump k →
@@ -132,20 +138,38 @@ module _ (listing : Listing) (now : ℕ) where
   unfolding goingOn rest run step execute move carryOut placed focus
   move-G environment j l woken f fs k i = rw i
 
-  -- the stops
-  pub stop-16 : (environment : List Variable) (j l woken : ℕ) (f : Frame) (fs : List Frame) (n : ℕ) (d e : List Piece) →
-      instructionAt listing ((f .self) .routine) ((f .self) .place) ≡ schedule n d e →
-      isPositive (evaluate now (memoryOf environment (f ∷ fs)) ((f .self) .names) d) ≡ false → goingOn listing now environment (suc j) l woken f fs ≡ stop 16
-  unfolding goingOn rest run step execute move carryOut asking memoryOf _>>=_
-  stop-16 environment j l woken f fs n d e i p = rw (i, p)
+  -- the stops: 18 at `S`, at `U`, at `A` by its delay and by its value
+  pub stop-18-S : (environment : List Variable) (j l woken : ℕ) (f : Frame) (fs : List Frame) (n : ℕ) (e : List Piece) →
+      instructionAt listing ((f .self) .routine) ((f .self) .place) ≡ assign n e →
+      evaluate now (memoryOf environment (f ∷ fs)) ((f .self) .names) e ≡ none → goingOn listing now environment (suc j) l woken f fs ≡ stop 18
+  unfolding goingOn rest run step execute move withValue carryOut memoryOf _>>=_
+  stop-18-S environment j l woken f fs n e i x = rw (i, x)
 
-  pub stop-17 : (environment : List Variable) (j l woken : ℕ) (f : Frame) (fs : List Frame) (n : ℕ) (d e : List Piece) →
-      instructionAt listing ((f .self) .routine) ((f .self) .place) ≡ schedule n d e →
-      isPositive (evaluate now (memoryOf environment (f ∷ fs)) ((f .self) .names) d) ≡ true →
-      ltb (now + evaluate now (memoryOf environment (f ∷ fs)) ((f .self) .names) d) 18446744073709551616 ≡ false →
-      goingOn listing now environment (suc j) l woken f fs ≡ stop 17
-  unfolding goingOn rest run step execute move carryOut asking memoryOf _>>=_
-  stop-17 environment j l woken f fs n d e i p q = rw (i, p, q)
+  pub stop-18-U : (environment : List Variable) (j l woken : ℕ) (f : Frame) (fs : List Frame) (e : List Piece) (k : ℕ) →
+      instructionAt listing ((f .self) .routine) ((f .self) .place) ≡ branch e k →
+      evaluate now (memoryOf environment (f ∷ fs)) ((f .self) .names) e ≡ none → goingOn listing now environment (suc j) l woken f fs ≡ stop 18
+  unfolding goingOn rest run step execute move withValue carryOut memoryOf _>>=_
+  stop-18-U environment j l woken f fs e k i x = rw (i, x)
+
+  module _ (environment : List Variable) (j l woken : ℕ) (f : Frame) (fs : List Frame) (n : ℕ) (d e : List Piece)
+      (i : instructionAt listing ((f .self) .routine) ((f .self) .place) ≡ schedule n d e) where
+    pub stop-18-delay : evaluate now (memoryOf environment (f ∷ fs)) ((f .self) .names) d ≡ none → goingOn listing now environment (suc j) l woken f fs ≡ stop 18
+    unfolding goingOn rest run step execute move withValue carryOut memoryOf _>>=_
+    stop-18-delay x = rw (i, x)
+
+    module _ (k : ℕ) (x : evaluate now (memoryOf environment (f ∷ fs)) ((f .self) .names) d ≡ some k) where
+      pub stop-18-A : evaluate now (memoryOf environment (f ∷ fs)) ((f .self) .names) e ≡ none → goingOn listing now environment (suc j) l woken f fs ≡ stop 18
+      unfolding goingOn rest run step execute move withValue carryOut memoryOf _>>=_
+      stop-18-A y = rw (i, x, y)
+
+      module _ (given : ℕ) (y : evaluate now (memoryOf environment (f ∷ fs)) ((f .self) .names) e ≡ some given) where
+        pub stop-16 : isPositive k ≡ false → goingOn listing now environment (suc j) l woken f fs ≡ stop 16
+        unfolding goingOn rest run step execute move withValue carryOut asking memoryOf _>>=_
+        stop-16 p = rw (i, x, y, p)
+
+        pub stop-17 : isPositive k ≡ true → ltb (now + k) 18446744073709551616 ≡ false → goingOn listing now environment (suc j) l woken f fs ≡ stop 17
+        unfolding goingOn rest run step execute move withValue carryOut asking memoryOf _>>=_
+        stop-17 p q = rw (i, x, y, p, q)
 
   pub stop-14 : (environment : List Variable) (j l woken : ℕ) (f : Frame) (fs : List Frame) (cs : List Call) →
       instructionAt listing ((f .self) .routine) ((f .self) .place) ≡ fork cs → leb (l + childCount cs) 64 ≡ false →

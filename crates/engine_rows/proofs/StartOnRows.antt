@@ -29,7 +29,7 @@ use Rattle.engine_rows.proofs.Children.{Passed, passed-nil, passed-put,
 use Rattle.engine_rows.proofs.Steady.{TableFits, nameCount, aboveMain, SteadyRecord, steady-nil, steady-put, steady-placed, steady-child, count-length, count-near}
 use Rattle.engine_rows.proofs.Taking.{bool-not}
 use Rattle.engine_rows.proofs.Outcomes.{Sound}
-use Rattle.engine_rows.proofs.Loop.{run-as-walk}
+use Rattle.engine_rows.proofs.Running.{run-as-walk}
 use Rattle.engine_rows.proofs.InstantOnRows.{SameOutcome, finish-alike}
 
 -- ── main's names ────────────────────────────────────────────────────────────────────────────────

@@ -3,6 +3,7 @@
 use mathlib.Core.Path.{_≡_, refl, sym, ap, ap₂, _∙_}
 use mathlib.Core.Bool.{false}
 use mathlib.Core.List.{List, _∷_}
+use mathlib.Core.Option.{some}
 use Prim.Native.Nat.{ℕ, suc, _+_, _%_, _≤_, _<_}
 use native.Mathlib.Omega.{arith}
 use lib.ListN.{length, set}
@@ -57,7 +58,8 @@ module _ (listing : Listing) (now : ℕ) (triggers : Owner → List ℕ) (hi : �
       (e : List Piece) (R : Runs listing now triggers hi σ environment q (suc j) l woken f fs whole)
       (i : instructionAt listing ((f .self) .routine) ((f .self) .place) ≡ assign n e)
       (isName : n < length ((f .self) .names)) (small : length (memoryOf environment (f ∷ fs)) ≤ 65536)
-      (aimed : addressOf ((f .self) .names) n < 65536) where
+      (aimed : addressOf ((f .self) .names) n < 65536) (given : ℕ)
+      (evaluated : evaluateBy now (named σ environment ((σ ((f .self) .slot)) .bindings)) e ≡ some given) where
     abbrev me : ℕ
     me = (f .self) .slot
 
@@ -65,7 +67,7 @@ module _ (listing : Listing) (now : ℕ) (triggers : Owner → List ℕ) (hi : �
     target = ownerOf ((σ me) .bindings) n
 
     abbrev put-in : Variable
-    put-in = writtenTo now (variableOf σ environment target) (evaluateBy now (named σ environment ((σ me) .bindings)) e)
+    put-in = writtenTo now (variableOf σ environment target) given
 
     abbrev rows-S : Rows
     rows-S = withRow (rowsWith σ target put-in) me (atPlace (rowsWith σ target put-in me) (suc ((f .self) .place)))
@@ -82,15 +84,18 @@ module _ (listing : Listing) (now : ℕ) (triggers : Owner → List ℕ) (hi : �
     a = addressOf ((f .self) .names) n
 
     abbrev v : Variable
-    v = writtenTo now (variableAt (memoryOf environment (f ∷ fs)) a) (evaluate now (memoryOf environment (f ∷ fs)) ((f .self) .names) e)
+    v = writtenTo now (variableAt (memoryOf environment (f ∷ fs)) a) given
 
     target-is : target ≡ ownerAt (pathOf environment (f ∷ fs)) a
     target-is = ap (λ z. ownerOf z n) bindings-are ∙ bound-owner (pathOf environment (f ∷ fs)) ((f .self) .names) n isName
 
     v-is : put-in ≡ v
     unfolding named
-    v-is = ap₂ (writtenTo now) (reads n) (evaluateBy-same (named σ environment ((σ me) .bindings)) (memoryOf environment (f ∷ fs)) ((f .self) .names) reads
-        now e)
+    v-is = ap (λ o. writtenTo now o given) (reads n)
+
+    walk-evaluated : evaluate now (memoryOf environment (f ∷ fs)) ((f .self) .names) e ≡ some given
+    walk-evaluated =
+        sym (evaluateBy-same (named σ environment ((σ me) .bindings)) (memoryOf environment (f ∷ fs)) ((f .self) .names) reads now e) ∙ evaluated
 
     abbrev fs′ : List Frame
     fs′ = setUp environment fs a v
@@ -186,7 +191,7 @@ module _ (listing : Listing) (now : ℕ) (triggers : Owner → List ℕ) (hi : �
       rests = R .rests;
       paused = paused-set listing environment fs a v (R .paused);
       begun = refl;
-      same = R .same ∙ move-S listing now environment j l woken f fs n e i;
+      same = R .same ∙ move-S listing now environment j l woken f fs n e given i walk-evaluated;
     })
 
   -- a wait: no word changes

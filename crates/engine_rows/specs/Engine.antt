@@ -2,6 +2,7 @@
 -- Letters: `me` the slot of the routine that runs, `left` the steps left, `live` the number of live routines, `woken` the waits passed.
 use mathlib.Core.Bool.{Bool, true, false}
 use mathlib.Core.List.{List, [], _∷_, _++_}
+use mathlib.Core.Option.{Option, none, some}
 use Prim.Native.Nat.{ℕ, zero, suc, _+_, _*_, _-_, _^_}
 use lib.Dec.{eqb, ltb, leb}
 use lib.ListN.{length}
@@ -43,6 +44,11 @@ nextReady go left rows environment (s ∷ ss) live woken =
 unfoldable pub orHalt : Bool → ℕ → RowsResult → RowsResult
 orHalt true k next = next
 orHalt false k next = halts k
+
+-- Document 02: "18: is every divisor other than 0?": the rest with the expression's value, if it has one.
+unfoldable pub valueOrHalt : Option ℕ → (ℕ → RowsResult) → RowsResult
+valueOrHalt none next = halts 18
+valueOrHalt (some v) next = next v
 
 -- ── `E` ───────────────────────────────────────────────────────────────────────────────────────────
 -- The routine's row is free already; `p` is the parent's slot. The last child's end lets the parent go on at once.
@@ -159,20 +165,22 @@ module _ (listing : Listing) (now : ℕ) where
     executeRows go left (assign n e) rows environment ready live woken me =
         let r = rows me in
         let o = ownerOf (r .bindings) n in
-        let x = writtenTo now (variableOf rows environment o) (evaluateBy now (named rows environment (r .bindings)) e) in
+        valueOrHalt (evaluateBy now (named rows environment (r .bindings)) e) (λ v.
+        let x = writtenTo now (variableOf rows environment o) v in
         go (withRow (rowsWith rows o x) me (atPlace (rowsWith rows o x me) (suc (r .place)))) (environmentWith o environment x)
-        (insertAll rows (triggered rows (r .low) (triggers o)) ready) live woken me
+        (insertAll rows (triggered rows (r .low) (triggers o)) ready) live woken me)
     executeRows go left (schedule n d e) rows environment ready live woken me =
         let r = rows me in
         let o = ownerOf (r .bindings) n in
-        let delay = evaluateBy now (named rows environment (r .bindings)) d in
-        let x = scheduledOn (variableOf rows environment o) (now + delay) (evaluateBy now (named rows environment (r .bindings)) e) in
+        valueOrHalt (evaluateBy now (named rows environment (r .bindings)) d) (λ delay.
+        valueOrHalt (evaluateBy now (named rows environment (r .bindings)) e) (λ v.
+        let x = scheduledOn (variableOf rows environment o) (now + delay) v in
         orHalt (isPositive delay) 16 (orHalt (ltb (now + delay) momentRange) 17
-        (go (withRow (rowsWith rows o x) me (atPlace (rowsWith rows o x me) (suc (r .place)))) (environmentWith o environment x) ready live woken me))
+        (go (withRow (rowsWith rows o x) me (atPlace (rowsWith rows o x me) (suc (r .place)))) (environmentWith o environment x) ready live woken me))))
     executeRows go left (branch e k) rows environment ready live woken me =
         let r = rows me in
-        go (withRow rows me (atPlace r (branchPlace (eqb (evaluateBy now (named rows environment (r .bindings)) e) 0) k (suc (r .place))))) environment
-        ready live woken me
+        valueOrHalt (evaluateBy now (named rows environment (r .bindings)) e) (λ v.
+        go (withRow rows me (atPlace r (branchPlace (eqb v 0) k (suc (r .place))))) environment ready live woken me)
     executeRows go left (jump k) rows environment ready live woken me = go (withRow rows me (atPlace (rows me) k)) environment ready live woken me
     executeRows go left (wait ns) rows environment ready live woken me = nextReady go left rows environment ready live woken
     executeRows go left (fork cs) rows environment ready live woken me =

@@ -2,6 +2,7 @@
 -- `cells` the address of an expression's first cell.
 use mathlib.Core.Bool.{true}
 use mathlib.Core.List.{List, _∷_}
+use mathlib.Core.Option.{Option, some}
 use mathlib.Core.Path.{_≡_}
 use Prim.Native.Nat.{ℕ, _+_, _*_, _≤_, _<_}
 use lib.ListN.{length}
@@ -10,7 +11,7 @@ use Rattle.listing.specs.Expressions.{adds, effectOf, mayCome, heldWith, leaves
 use Rattle.listing.specs.Questions.{pieceIsThere}
 use Rattle.table.specs.Decode.{pieceAt, piecesAt}
 use Rattle.engine_evaluate.specs.Bound.{bindingsOf, FromNames}
-use Rattle.engine_values.specs.Values.{heldBy}
+use Rattle.engine_values.specs.Values.{heldBy, leftBy}
 use Rattle.engine_values.specs.declared.Held.{Held}
 use Rattle.walk.specs.Memory.{evaluatePiece, evaluateBy}
 use Rattle.listing.specs.Listing.{Piece}
@@ -40,14 +41,15 @@ pub record MayCome (t m : List ℕ) (me a : ℕ) (values : List ℕ) (count : �
 -- The piece adds r to what is held.
 pub record Adds (t m : List ℕ) (me a r : ℕ) : Type 0 where
   pub effect : effectOf (pieceAt t a) ≡ adds
-  pub values : (moment : ℕ) (below : List ℕ) → FromNames m me (λ names. evaluatePiece moment names (pieceAt t a) below) (r ∷ below)
+  pub values : (moment : ℕ) (below : List ℕ) → FromNames m me (λ names. evaluatePiece moment names (pieceAt t a) below) (some (r ∷ below))
 
--- What is held after the piece is what it makes of the values held before.
+-- What is held after the piece is what it makes of the values held before; nothing is where the evaluation fails.
 pub record Past (t m : List ℕ) (me a : ℕ) (before : List ℕ) (h : Held) (after : List ℕ) (r : Held) : Type 0 where
   pub size : length after ≡ 8
-  pub counted : r .count ≡ heldWith (h .count) (effectOf (pieceAt t a))
-  pub values : (moment : ℕ) → FromNames m me (λ names. evaluatePiece moment names (pieceAt t a) (heldBy before h)) (heldBy after r)
+  pub counted : 1 ≤ r .count → r .count ≡ heldWith (h .count) (effectOf (pieceAt t a))
+  pub values : (moment : ℕ) → FromNames m me (λ names. evaluatePiece moment names (pieceAt t a) (heldBy before h)) (leftBy after (r .count) (r .top))
+  pub failed : r .count ≡ 0 → r .top ≡ 0
 
--- r is the expression's value, at any moment.
-abbrev pub Evaluates : List ℕ → ℕ → List Piece → ℕ → Type 0
+-- r is the expression's value, or none, at any moment.
+abbrev pub Evaluates : List ℕ → ℕ → List Piece → Option ℕ → Type 0
 Evaluates m me e r = (moment : ℕ) → FromNames m me (λ names. evaluateBy moment names e) r

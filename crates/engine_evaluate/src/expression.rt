@@ -1,14 +1,16 @@
 // An expression's pieces, one after the other. `t` is the table, `m` the machine's memory, `me` the running routine's slot.
 ghost use mathlib.Core.Bool.{false};
 ghost use mathlib.Core.Path.{_≡_};
-ghost use Prim.Native.Nat.{_<_};
+ghost use Prim.Native.Nat.{_≤_, _<_};
 ghost use lib.ListN.{length};
 ghost use Rattle.machine.specs.Words.{HasMachine};
 ghost use Rattle.words.specs.Words.{bit};
 ghost use Rattle.table.specs.Decode.{word, isSign, piecesAt};
 ghost use Rattle.engine_evaluate.specs.Bound.{bindingsOf, FromNames};
+ghost use Rattle.engine_values.specs.Values.{given};
 ghost use Rattle.engine_evaluate.specs.Evaluable.{Evaluable, PieceStands, MayCome, Adds, Past, Evaluates};
 use engine_values::Held;
+use engine_values::NO_VALUE;
 use engine_values::operate;
 use engine_values::push;
 use engine_values::sign;
@@ -70,10 +72,10 @@ fn piece(t: &[u32], m: &[u32], me: usize, at: usize, values: &mut [u32; 8], held
     push(values, held, v)
 }
 
-// The value of an expression of any number of pieces, piece by piece.
-fn each_piece(t: &[u32], m: &[u32], me: usize, cells: usize, pieces: usize) -> u32
+// The value of an expression of any number of pieces, piece by piece, or `NO_VALUE`.
+fn each_piece(t: &[u32], m: &[u32], me: usize, cells: usize, pieces: usize) -> u64
     requires { ⌜ Evaluable (now t) (now m) me cells pieces ⌝ }
-    ensures { λ r. ⌜ Evaluates (now (m .entry)) me (piecesAt (now (t .entry)) cells pieces) r ⌝ }
+    ensures { λ r. ⌜ Evaluates (now (m .entry)) me (piecesAt (now (t .entry)) cells pieces) (given r) × (r ≤ 4294967296) ⌝ }
 {
     let mut values: [u32; 8] = [0; 8];
     let mut held = Held { count: 0, top: 0 };
@@ -81,30 +83,33 @@ fn each_piece(t: &[u32], m: &[u32], me: usize, cells: usize, pieces: usize) -> u
     let mut left = pieces;
     while left > 0 {
         held = piece(t, m, me, at, &mut values, held);
+        if held.count == 0 {
+            return NO_VALUE;
+        }
         at += CELL_WORDS;
         left -= 1;
     }
-    held.top
+    held.top as u64
 }
 
 // The value of an expression of three pieces: two that add a value, and a sign.
-fn joined(t: &[u32], m: &[u32], me: usize, cells: usize) -> u32
+fn joined(t: &[u32], m: &[u32], me: usize, cells: usize) -> u64
     requires { ⌜ Evaluable (now t) (now m) me cells 3 ⌝ }
-    ensures { λ r. ⌜ Evaluates (now (m .entry)) me (piecesAt (now (t .entry)) cells 3) r ⌝ }
+    ensures { λ r. ⌜ Evaluates (now (m .entry)) me (piecesAt (now (t .entry)) cells 3) (given r) × (r ≤ 4294967296) ⌝ }
 {
     let left = operand(t, m, me, cells);
     let right = operand(t, m, me, cells + CELL_WORDS);
     sign(t[cells + 2 * CELL_WORDS], left, right)
 }
 
-// The value of the `pieces` pieces whose cells stand from word `cells` of the table on. (One piece and three are most of what
-// listings have, and need no stack.)
-pub fn evaluate(t: &[u32], m: &[u32], me: usize, cells: usize, pieces: usize) -> u32
+// The value of the `pieces` pieces whose cells stand from word `cells` of the table on, or `NO_VALUE` if a divisor met is 0.
+// (One piece and three are most of what listings have, and need no stack.)
+pub fn evaluate(t: &[u32], m: &[u32], me: usize, cells: usize, pieces: usize) -> u64
     requires { ⌜ Evaluable (now t) (now m) me cells pieces ⌝ }
-    ensures { λ r. ⌜ Evaluates (now (m .entry)) me (piecesAt (now (t .entry)) cells pieces) r ⌝ }
+    ensures { λ r. ⌜ Evaluates (now (m .entry)) me (piecesAt (now (t .entry)) cells pieces) (given r) × (r ≤ 4294967296) ⌝ }
 {
     if pieces == 1 {
-        return operand(t, m, me, cells);
+        return operand(t, m, me, cells) as u64;
     }
     if pieces == 3 {
         return joined(t, m, me, cells);

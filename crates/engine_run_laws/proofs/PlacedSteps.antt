@@ -18,7 +18,7 @@ use Rattle.engine_rows.specs.Engine.{forkRows, executeRows}
 use Rattle.engine_run_laws.specs.Placed.{GoesOn, Placed}
 use Rattle.engine_run_laws.proofs.Keeping.{placed-on, placed-free, placed-variable, placed-count}
 use Rattle.engine_run_laws.proofs.Arms.{by-kind}
-use Rattle.engine_run_laws.proofs.Placing.{saying, KeptBy, go-kept, halt-kept, pop-kept, ended-kept, news-placed, same-children}
+use Rattle.engine_run_laws.proofs.Placing.{saying, KeptBy, go-kept, halt-kept, value-kept, pop-kept, ended-kept, news-placed, same-children}
 use Rattle.engine_write_steps.proofs.Writing.{same-routine}
 use Rattle.walk.specs.Memory.{evaluateBy}
 
@@ -41,18 +41,19 @@ module _ (t : List ℕ) (moment : ℕ) (triggers : Owner → List ℕ) (left : �
   assign-kept : (n : ℕ) (e : List Piece) → GoesBehind → KeptAt (assign n e)
   unfolding executeRows
   assign-kept n e next =
+      value-kept t left woken (evaluateBy moment (named σ environment ((σ me) .bindings)) e) _ λ v.
       go-kept t left woken _ _ _ live woken me
-      (changed-placed (ownerOf ((σ me) .bindings) n)
-      (writtenTo moment (variableOf σ environment (ownerOf ((σ me) .bindings) n)) (evaluateBy moment (named σ environment ((σ me) .bindings)) e)) next) (omega arith)
+      (changed-placed (ownerOf ((σ me) .bindings) n) (writtenTo moment (variableOf σ environment (ownerOf ((σ me) .bindings) n)) v) next) (omega arith)
 
   schedule-kept : (n : ℕ) (d e : List Piece) → GoesBehind → KeptAt (schedule n d e)
   unfolding executeRows
   schedule-kept n d e next =
-      let delay = evaluateBy moment (named σ environment ((σ me) .bindings)) d in
+      value-kept t left woken (evaluateBy moment (named σ environment ((σ me) .bindings)) d) _ λ delay.
+      value-kept t left woken (evaluateBy moment (named σ environment ((σ me) .bindings)) e) _ λ v.
       halt-kept t left woken (isPositive delay) 16 _ (halt-kept t left woken (ltb (moment + delay) 18446744073709551616) 17 _
       (go-kept t left woken _ _ q live woken me
       (changed-placed (ownerOf ((σ me) .bindings) n)
-      (scheduledOn (variableOf σ environment (ownerOf ((σ me) .bindings) n)) (moment + delay) (evaluateBy moment (named σ environment ((σ me) .bindings)) e)) next) (omega arith)))
+      (scheduledOn (variableOf σ environment (ownerOf ((σ me) .bindings) n)) (moment + delay) v) next) (omega arith)))
 
   moved-kept : (place : ℕ) → place < sizeOf t ((σ me) .routine) →
       KeptBy t left woken (saying left (withRow σ me (atPlace (σ me) place)) environment q live woken me)
@@ -66,7 +67,8 @@ module _ (t : List ℕ) (moment : ℕ) (triggers : Owner → List ℕ) (left : �
 
   branch-kept : (e : List Piece) (k : ℕ) → k < sizeOf t ((σ me) .routine) → GoesBehind → KeptAt (branch e k)
   unfolding executeRows
-  branch-kept e k there next = moved-kept _ (branch-place (eqb (evaluateBy moment (named σ environment ((σ me) .bindings)) e) 0) k there next)
+  branch-kept e k there next =
+      value-kept t left woken (evaluateBy moment (named σ environment ((σ me) .bindings)) e) _ λ v. moved-kept _ (branch-place (eqb v 0) k there next)
 
   jump-kept : (k : ℕ) → k < sizeOf t ((σ me) .routine) → KeptAt (jump k)
   unfolding executeRows

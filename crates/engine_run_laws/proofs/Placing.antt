@@ -3,6 +3,7 @@
 use mathlib.Core.Path.{_≡_, refl, sym, ap, _∙_}
 use mathlib.Core.Bool.{Bool, true, false}
 use mathlib.Core.List.{List, [], _∷_}
+use mathlib.Core.Option.{Option, none, some}
 use Prim.Native.Nat.{ℕ, zero, suc, _-_, _≤_, _<_}
 use native.Mathlib.Decide.{ℕ-discrete}
 use native.Mathlib.Omega.{arith}
@@ -15,7 +16,7 @@ use Rattle.table.specs.Entry.{ChildStands}
 use Rattle.table.specs.Question6.{isTable}
 use Rattle.table.proofs.Bounds.{bounds}
 use Rattle.engine_rows.specs.Rows.{Owner, inEnvironment, inSlot, Row, Rows, withRow, withOwn, atPlace, rowsWith}
-use Rattle.engine_rows.specs.Engine.{RowsResult, halts, ends, RowsRunner, firstPlace, countIf, nextReady, orHalt, joinRows, endRows, Caller, callerAt, childRow, freeSlot, rowsWithChild, rowsWithNew}
+use Rattle.engine_rows.specs.Engine.{RowsResult, halts, ends, RowsRunner, firstPlace, countIf, nextReady, orHalt, valueOrHalt, joinRows, endRows, Caller, callerAt, childRow, freeSlot, rowsWithChild, rowsWithNew}
 use Rattle.engine_blocks.proofs.RowChanges.{with-row-same, with-row-other}
 use Rattle.engine_run_laws.specs.Placed.{GoesOn, Placed}
 use Rattle.engine_run_laws.proofs.Keeping.{PlacedRow, placed-with, placed-pop, placed-count, placed-join}
@@ -52,6 +53,11 @@ module _ (t : List ℕ) (left w : ℕ) where
   unfolding orHalt
   halt-kept true k r h = h
   halt-kept false k r h = stop-kept k
+
+  pub value-kept : (v : Option ℕ) (f : ℕ → RowsResult) → ((x : ℕ) → KeptBy t left w (f x)) → KeptBy t left w (valueOrHalt v f)
+  unfolding valueOrHalt
+  value-kept none f h = stop-kept 18
+  value-kept (some x) f h = h x
 
   -- ── the first that is ready ─────────────────────────────────────────────────────────────────────
   one-more : (b : Bool) (n : ℕ) → countIf b n ≤ suc n

@@ -1,14 +1,15 @@
 -- The first that is ready goes on; the running routine goes on elsewhere. Letters: a the words before, m the words after, u the running state.
-use mathlib.Core.Path.{_≡_, refl, sym, ap, _∙_}
+use mathlib.Core.Path.{_≡_, refl, sym, ap, subst, _∙_}
 use mathlib.Core.Bool.{Bool, true, false}
 use mathlib.Core.List.{List, [], _∷_}
+use mathlib.Core.Option.{none, some}
 use Prim.Native.Nat.{ℕ, zero, suc, _≤_, _<_}
 use native.Mathlib.Nat.{le-refl}
 use native.Mathlib.Omega.{arith}
 use lib.Dec.{eqb}
 use Rattle.listing.specs.Listing.{Listing, Piece, branch, jump, wait}
 use Rattle.engine_rows.specs.Rows.{Owner, Row, Rows, withRow, atPlace, named}
-use Rattle.engine_rows.specs.Engine.{RowsRunner, firstPlace, countIf, nextReady, executeRows}
+use Rattle.engine_rows.specs.Engine.{RowsRunner, firstPlace, countIf, nextReady, valueOrHalt, executeRows}
 use Rattle.engine_blocks.specs.Blocks.{block, rowsOf, environmentOf}
 use Rattle.engine_blocks.specs.Store.{withSlot}
 use Rattle.engine_blocks.specs.Changes.{Changes, placedBlock}
@@ -41,8 +42,8 @@ first-small {s} {l} {ss} o e = go (rw e at o)
 pub pops-none : (a : List ℕ) (u : Running) → (u .ready) .count ≡ 0 → Pops a a u (record { answer = Ends; running = u })
 unfolding left-by nextReady
 pops-none a u e =
-    let none = none-left (u .ready) e in
-    record { outcome = λ n go left. rw none; stays = stays-start a; clean = λ n live clean. clean }
+    let nobody = none-left (u .ready) e in
+    record { outcome = λ n go left. rw nobody; stays = stays-start a; clean = λ n live clean. clean }
 
 module _ {a m : List ℕ} {s : ℕ} (place : ℕ) (p : Changes s a m (placedBlock (block a s) place) (withSlot s (λ r. atPlace r place))) (small : s < 64) where
   -- Slot s is the first.
@@ -76,9 +77,9 @@ module _ {a m : List ℕ} {s : ℕ} (place : ℕ) (p : Changes s a m (placedBloc
   still-in = ap (λ (r : Row). r .routine) (row-changed (λ r. atPlace r place) p)
 
 branched : (listing : Listing) (moment : ℕ) {a m : List ℕ} {u : Running} {r : Stepped} (e : List Piece) (k v target : ℕ)
-    → Evaluates a (u .me) e v → branchPlace (eqb v 0) k (suc ((rowsOf a (u .me)) .place)) ≡ target
+    → Evaluates a (u .me) e (some v) → branchPlace (eqb v 0) k (suc ((rowsOf a (u .me)) .place)) ≡ target
     → Executes listing moment (jump target) a m u r → Executes listing moment (branch e k) a m u r
-unfolding executeRows
+unfolding executeRows valueOrHalt
 branched listing moment {a} {m} {u} {r} e k v target value chosen j =
     record {
       outcome = λ n triggers reading go left. rw (sym (value moment .equal n (reading .bound)), chosen) (j .outcome n triggers reading go left);
@@ -88,7 +89,7 @@ branched listing moment {a} {m} {u} {r} e k v target value chosen j =
 
 -- "`U|e|k` goes to instruction k if e is 0": as `G` to that place.
 pub branches : (listing : Listing) (moment : ℕ) {a : List ℕ} (m : List ℕ) {me : ℕ} (r : Onward) (e : List Piece) (k v target : ℕ)
-    → Evaluates a me e v → branchPlace (eqb v 0) k (suc ((rowsOf a me) .place)) ≡ target
+    → Evaluates a me e (some v) → branchPlace (eqb v 0) k (suc ((rowsOf a me) .place)) ≡ target
     → Onwards listing moment (jump target) a m me r → Onwards listing moment (branch e k) a m me r
 unfolding Onwards GoesOn NeedsReady
 branches listing moment {a} m {me} (To place) e k v target value chosen j =
@@ -96,6 +97,18 @@ branches listing moment {a} m {me} (To place) e k v target value chosen j =
 branches listing moment {a} m {me} (StopsWith n) e k v target value chosen j =
     λ u is. branched listing moment e k v target (rw is value) (rw is chosen) (j u is)
 branches listing moment {a} m {me} Unmade e k v target value chosen j = (j .0, j .1)
+
+-- "18: is every divisor other than 0?"
+pub branch-fails : (listing : Listing) (moment : ℕ) (a : List ℕ) (me : ℕ) (e : List Piece) (k : ℕ)
+    → Evaluates a me e none → GoesOn listing moment (branch e k) a a me (Stops 18)
+unfolding GoesOn left-by executeRows valueOrHalt
+branch-fails listing moment a me e k fails u is =
+    let value = subst (λ (s : ℕ). Evaluates a s e none) (sym is) fails in
+    record {
+      outcome = λ n triggers reading go left. rw (sym (value moment .equal n (reading .bound)));
+      stays = stays-start a;
+      clean = λ n triggers reading used clean. clean;
+    }
 
 -- A wait: the next that is ready.
 pub waits : (listing : Listing) (moment : ℕ) {a m : List ℕ} {u : Running} {r : Stepped} (names : List ℕ) → Pops a m u r → Executes listing moment (wait names) a m u r

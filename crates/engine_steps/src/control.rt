@@ -11,6 +11,7 @@ use crate::running::Onward;
 use crate::running::Running;
 use crate::running::Stepped;
 use crate::running::next_ready;
+use engine_evaluate::NO_VALUE;
 
 // "`G|k` goes to k."
 pub fn jump_on(m: &mut [u32], me: usize, k: u32) -> Onward
@@ -21,7 +22,7 @@ pub fn jump_on(m: &mut [u32], me: usize, k: u32) -> Onward
     Onward::To(k)
 }
 
-// "`U|e|k` goes to instruction k if e is 0."
+// "`U|e|k` goes to instruction k if e is 0." Question 18.
 pub fn branch_on(
     t: &[u32],
     m: &mut [u32],
@@ -36,6 +37,9 @@ pub fn branch_on(
         (now (m .entry)) (now (m .exit)) me r) ⌝ }
 {
     let condition = engine_evaluate::evaluate(t, m, me, cells, pieces);
+    if NO_VALUE <= condition {
+        return Onward::StopsWith(18);
+    }
     if condition == 0 {
         return jump_on(m, me, k);
     }

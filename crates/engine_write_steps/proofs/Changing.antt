@@ -2,6 +2,7 @@
 use mathlib.Core.Path.{_≡_, refl, sym, ap, subst, _∙_}
 use mathlib.Core.Bool.{Bool, true, false, cond}
 use mathlib.Core.List.{List, []}
+use mathlib.Core.Option.{none, some}
 use Prim.Native.Nat.{ℕ, zero, suc, _+_, _≤_, _<_}
 use native.Mathlib.Omega.{arith}
 use lib.Dec.{ltb, leb}
@@ -13,7 +14,7 @@ use Rattle.walk.specs.State.{Variable, writtenTo, scheduledOn}
 use Rattle.engine_rows.specs.Rows.{Owner, ownerOf, named}
 use Rattle.engine_rows.specs.Ready.{insertAll}
 use Rattle.engine_rows.specs.Triggers.{triggered}
-use Rattle.engine_rows.specs.Engine.{RowsRunner, orHalt, executeRows}
+use Rattle.engine_rows.specs.Engine.{RowsRunner, orHalt, valueOrHalt, executeRows}
 use Rattle.engine_blocks.specs.Blocks.{block, ownerAt, rowsOf, environmentOf}
 use Rattle.engine_variables.specs.Bindings.{BoundTo}
 use Rattle.engine_variables.specs.declared.Binding.{Binding}
@@ -32,11 +33,11 @@ use Rattle.engine_evaluate.specs.Evaluable.{Evaluates}
 -- "`S|n|e` writes expression e to name n", and wakes.
 pub assigns : (listing : Listing) (moment : ℕ) {a m : List ℕ} (u v : Running) (name x : ℕ) (e : List Piece) (binding : Binding)
     → ChangesName a m (u .me) name (λ y. writtenTo moment y x)
-    → BoundTo (rowsOf a (u .me)) name binding → name < length (bindingsOf a (u .me)) → Evaluates a (u .me) e x
+    → BoundTo (rowsOf a (u .me)) name binding → name < length (bindingsOf a (u .me)) → Evaluates a (u .me) e (some x)
     → slotsOf (v .ready) ≡ insertAll (rowsOf a) (triggered (rowsOf a) ((rowsOf a (u .me)) .low) (triggersAt a (binding .block) (binding .index))) (slotsOf (u .ready))
     → v .live ≡ u .live → v .woken ≡ u .woken → v .me ≡ u .me
     → Executes listing moment (assign name e) a m u (record { answer = Goes; running = v })
-unfolding left-by executeRows RunsLive named
+unfolding left-by executeRows valueOrHalt RunsLive named
 assigns listing moment {a} {m} u v name x e binding p bound few value ready live woken me =
     record {
       outcome = λ n triggers reading go left.
@@ -50,17 +51,34 @@ assigns listing moment {a} {m} u v name x e binding p bound few value ready live
 -- A variable without a first trigger: nobody awaits it.
 pub nobody-listed : (words : List ℕ) (s index : ℕ) → block words s (144 + index) ≡ 0 → triggersAt words s index ≡ []
 unfolding triggersAt
-nobody-listed words s index none = rw none (chained-none words 256)
+nobody-listed words s index no-first = rw no-first (chained-none words 256)
 
 -- Nobody awaits it: the ready list stays.
 pub assigns-alone : (listing : Listing) (moment : ℕ) {a m : List ℕ} (me name x : ℕ) (e : List Piece) (binding : Binding)
-    → ChangesName a m me name (λ y. writtenTo moment y x) → BoundTo (rowsOf a me) name binding → name < length (bindingsOf a me) → Evaluates a me e x
+    → ChangesName a m me name (λ y. writtenTo moment y x) → BoundTo (rowsOf a me) name binding → name < length (bindingsOf a me) → Evaluates a me e (some x)
     → triggersAt a (binding .block) (binding .index) ≡ [] → GoesOn listing moment (assign name e) a m me Goes
 unfolding GoesOn triggered insertAll
-assigns-alone listing moment {a} {m} me name x e binding p bound few value none u same =
+assigns-alone listing moment {a} {m} me name x e binding p bound few value nobody u same =
     assigns listing moment u u name x e binding (subst (λ (s : ℕ). ChangesName a m s name (λ y. writtenTo moment y x)) (sym same) p)
     (subst (λ (s : ℕ). BoundTo (rowsOf a s) name binding) (sym same) bound) (subst (λ (s : ℕ). name < length (bindingsOf a s)) (sym same) few)
-    (subst (λ (s : ℕ). Evaluates a s e x) (sym same) value) (rw none) refl refl refl
+    (subst (λ (s : ℕ). Evaluates a s e (some x)) (sym same) value) (rw nobody) refl refl refl
+
+-- "18: is every divisor other than 0?"
+pub assign-fails : (listing : Listing) (moment : ℕ) (a : List ℕ) (u v : Running) (name : ℕ) (e : List Piece)
+    → Evaluates a (u .me) e none → Executes listing moment (assign name e) a a u (record { answer = Stops 18; running = v })
+unfolding left-by executeRows valueOrHalt
+assign-fails listing moment a u v name e fails =
+    record {
+      outcome = λ n triggers reading go left. rw (sym (fails moment .equal n (reading .bound)));
+      stays = stays-start a;
+      clean = λ n triggers reading used clean. clean;
+    }
+
+pub assign-fails-alone : (listing : Listing) (moment : ℕ) (a : List ℕ) (me name : ℕ) (e : List Piece)
+    → Evaluates a me e none → GoesOn listing moment (assign name e) a a me (Stops 18)
+unfolding GoesOn
+assign-fails-alone listing moment a me name e fails u is =
+    assign-fails listing moment a u u name e (subst (λ (s : ℕ). Evaluates a s e none) (sym is) fails)
 
 -- ── `A` ───────────────────────────────────────────────────────────────────────────────────────────
 pub positive-some : (d : ℕ) → isPositive d ≡ true → 0 < d
@@ -82,14 +100,41 @@ later-false false t e = refl
 pub too-late : (present delay : ℕ) → stopsWith 17 ≡ laterMoment present delay → ltb (present + delay) 18446744073709551616 ≡ false
 too-late present delay e = later-false (ltb (present + delay) 18446744073709551616) (present + delay) e
 
-module _ {a : List ℕ} (me name delay x present : ℕ) (d e : List Piece) (listing : Listing) (after : Evaluates a me d delay) where
+-- 18, of the delay.
+pub delay-fails : (a : List ℕ) (me name present : ℕ) (d e : List Piece) (listing : Listing) → Evaluates a me d none
+    → GoesOn listing present (schedule name d e) a a me (Stops 18)
+unfolding GoesOn left-by executeRows valueOrHalt
+delay-fails a me name present d e listing fails u is =
+    let no-delay = subst (λ (s : ℕ). Evaluates a s d none) (sym is) fails in
+    record {
+      outcome = λ n triggers reading go left. rw (sym (no-delay present .equal n (reading .bound)));
+      stays = stays-start a;
+      clean = λ n triggers reading used clean. clean;
+    }
+
+-- 18, of the value.
+pub value-fails : (a : List ℕ) (me name delay present : ℕ) (d e : List Piece) (listing : Listing) → Evaluates a me d (some delay) → Evaluates a me e none
+    → GoesOn listing present (schedule name d e) a a me (Stops 18)
+unfolding GoesOn left-by executeRows valueOrHalt
+value-fails a me name delay present d e listing after fails u is =
+    let later = subst (λ (s : ℕ). Evaluates a s d (some delay)) (sym is) after in
+    let no-value = subst (λ (s : ℕ). Evaluates a s e none) (sym is) fails in
+    record {
+      outcome = λ n triggers reading go left. rw (sym (later present .equal n (reading .bound)), sym (no-value present .equal n (reading .bound)));
+      stays = stays-start a;
+      clean = λ n triggers reading used clean. clean;
+    }
+
+module _ {a : List ℕ} (me name delay x present : ℕ) (d e : List Piece) (listing : Listing) (after : Evaluates a me d (some delay))
+    (given : Evaluates a me e (some x)) where
   -- 16: "is the delay at least 1?"
   pub delay-short : isPositive delay ≡ false → GoesOn listing present (schedule name d e) a a me (Stops 16)
-  unfolding GoesOn left-by executeRows orHalt
+  unfolding GoesOn left-by executeRows orHalt valueOrHalt
   delay-short short u is =
-      let value = subst (λ (s : ℕ). Evaluates a s d delay) (sym is) after in
+      let later = subst (λ (s : ℕ). Evaluates a s d (some delay)) (sym is) after in
+      let value = subst (λ (s : ℕ). Evaluates a s e (some x)) (sym is) given in
       record {
-        outcome = λ n triggers reading go left. rw (sym (value present .equal n (reading .bound)), short);
+        outcome = λ n triggers reading go left. rw (sym (later present .equal n (reading .bound)), sym (value present .equal n (reading .bound)), short);
         stays = stays-start a;
         clean = λ n triggers reading used clean. clean;
       }
@@ -97,19 +142,20 @@ module _ {a : List ℕ} (me name delay x present : ℕ) (d e : List Piece) (list
   module _ (positive : isPositive delay ≡ true) where
     -- 17: "is the due moment below 2 to the 64?"
     pub moment-late : ltb (present + delay) 18446744073709551616 ≡ false → GoesOn listing present (schedule name d e) a a me (Stops 17)
-    unfolding GoesOn left-by executeRows orHalt
+    unfolding GoesOn left-by executeRows orHalt valueOrHalt
     moment-late late u is =
-        let value = subst (λ (s : ℕ). Evaluates a s d delay) (sym is) after in
+        let later = subst (λ (s : ℕ). Evaluates a s d (some delay)) (sym is) after in
+        let value = subst (λ (s : ℕ). Evaluates a s e (some x)) (sym is) given in
         record {
-          outcome = λ n triggers reading go left. rw (sym (value present .equal n (reading .bound)), positive, late);
+          outcome = λ n triggers reading go left. rw (sym (later present .equal n (reading .bound)), sym (value present .equal n (reading .bound)), positive, late);
           stays = stays-start a;
           clean = λ n triggers reading used clean. clean;
         }
 
-    scheduled : {m : List ℕ} {t : ℕ} (u : Running) → Evaluates a (u .me) d delay → ChangesName a m (u .me) name (λ y. scheduledOn y t x) → Evaluates a (u .me) e x
+    scheduled : {m : List ℕ} {t : ℕ} (u : Running) → Evaluates a (u .me) d (some delay) → ChangesName a m (u .me) name (λ y. scheduledOn y t x) → Evaluates a (u .me) e (some x)
         → ltb (present + delay) 18446744073709551616 ≡ true → t ≡ present + delay
         → Executes listing present (schedule name d e) a m u (record { answer = Goes; running = u })
-    unfolding left-by executeRows orHalt RunsLive named
+    unfolding left-by executeRows orHalt valueOrHalt RunsLive named
     scheduled u later p value below is =
         record {
           outcome = λ n triggers reading go left.
@@ -119,9 +165,9 @@ module _ {a : List ℕ} (me name delay x present : ℕ) (d e : List Piece) (list
         }
 
     -- "`A|n|d|e` puts a waiting write of e on n, d milliseconds from now".
-    pub schedules : {m : List ℕ} (t : ℕ) → ChangesName a m me name (λ y. scheduledOn y t x) → Evaluates a me e x
+    pub schedules : {m : List ℕ} (t : ℕ) → ChangesName a m me name (λ y. scheduledOn y t x)
         → ltb (present + delay) 18446744073709551616 ≡ true → t ≡ present + delay → GoesOn listing present (schedule name d e) a m me Goes
     unfolding GoesOn
-    schedules {m} t p value below is u same =
-        scheduled u (subst (λ (s : ℕ). Evaluates a s d delay) (sym same) after) (subst (λ (s : ℕ). ChangesName a m s name (λ y. scheduledOn y t x)) (sym same) p)
-        (subst (λ (s : ℕ). Evaluates a s e x) (sym same) value) below is
+    schedules {m} t p below is u same =
+        scheduled u (subst (λ (s : ℕ). Evaluates a s d (some delay)) (sym same) after) (subst (λ (s : ℕ). ChangesName a m s name (λ y. scheduledOn y t x)) (sym same) p)
+        (subst (λ (s : ℕ). Evaluates a s e (some x)) (sym same) given) below is

@@ -6,6 +6,7 @@ ghost use Rattle.table.specs.Decode.{piecesAt};
 ghost use Rattle.engine_evaluate.specs.Evaluable.{Evaluable};
 ghost use Rattle.engine_steps.specs.Asked.{MayChange, MayWrite};
 ghost use Rattle.engine_steps.specs.Outcome.{Executes, Onwards, ChangesName};
+use engine_evaluate::NO_VALUE;
 use engine_steps::Answer;
 use engine_steps::Onward;
 use engine_steps::Running;
@@ -16,7 +17,7 @@ use words::Delay;
 use words::Later;
 use words::Moment;
 
-// "`S|n|e` writes expression e to name n", if nobody awaits it.
+// "`S|n|e` writes expression e to name n", if nobody awaits it. Question 18.
 pub fn assign_on(
     t: &[u32],
     m: &mut [u32],
@@ -37,7 +38,10 @@ pub fn assign_on(
         return Onward::Unmade;
     }
     let value = engine_evaluate::evaluate(t, m, me, cells, pieces);
-    engine_variable_changes::assign(m, block, index, value);
+    if NO_VALUE <= value {
+        return Onward::StopsWith(18);
+    }
+    engine_variable_changes::assign(m, block, index, value as u32);
     let next = place + 1;
     engine_row_changes::set_place(m, me, next);
     Onward::To(next)
@@ -57,9 +61,13 @@ pub fn assign_step(
         (now (m .entry)) (now (m .exit)) running r) ⌝ }
 {
     let me = running.me;
-    let live = running.live;
-    let woken = running.woken;
     let value = engine_evaluate::evaluate(t, m, me, cells, pieces);
+    if NO_VALUE <= value {
+        return Stepped {
+            answer: Answer::Stops(18),
+            running,
+        };
+    }
     let binding = engine_variables::owner(m, me, name);
     let block = binding.block;
     let index = binding.index;
@@ -67,14 +75,14 @@ pub fn assign_step(
     let q = running.ready;
     let ready = engine_wake::wake(m, q, block, index, low);
     let next = engine_row::place(m, me) + 1;
-    engine_variable_changes::assign(m, block, index, value);
+    engine_variable_changes::assign(m, block, index, value as u32);
     engine_row_changes::set_place(m, me, next);
     Stepped {
         answer: Answer::Goes,
         running: Running {
             ready,
-            live,
-            woken,
+            live: running.live,
+            woken: running.woken,
             me,
         },
     }
@@ -94,7 +102,8 @@ fn schedule_at(m: &mut [u32], me: usize, place: u32, name: usize, moment: Moment
     engine_row_changes::set_place(m, me, place + 1);
 }
 
-// "`A|n|d|e` puts a waiting write of e on n, d milliseconds from now". Questions 16 and 17.
+// "`A|n|d|e` puts a waiting write of e on n, d milliseconds from now". Questions 18, of the delay and of the value,
+// 16 and 17.
 pub fn schedule_on(
     t: &[u32],
     m: &mut [u32],
@@ -113,13 +122,19 @@ pub fn schedule_on(
         (now (m .entry)) (now (m .exit)) me r) ⌝ }
 {
     let delay = engine_evaluate::evaluate(t, m, me, cells, first);
+    if NO_VALUE <= delay {
+        return Onward::StopsWith(18);
+    }
     let value = engine_evaluate::evaluate(t, m, me, cells + 2 * first, second);
-    if !words::is_positive(delay) {
+    if NO_VALUE <= value {
+        return Onward::StopsWith(18);
+    }
+    if !words::is_positive(delay as u32) {
         return Onward::StopsWith(16);
     }
-    match words::later_moment(present, Delay(delay)) {
+    match words::later_moment(present, Delay(delay as u32)) {
         Later::At(moment) => {
-            schedule_at(m, me, place, name, moment, value);
+            schedule_at(m, me, place, name, moment, value as u32);
             let next = place + 1;
             Onward::To(next)
         }

@@ -1,7 +1,9 @@
 -- `each_piece` meets its contract: the loop keeps `Before`: what is left of the expression, on the values held, gives the value of the whole.
+use Prim.Native.Nat.{_≤_, _<_}
 use native.Mathlib.Omega.{arith}
 use borrow.Author.Needs.{needs}
-use Rattle.engine_evaluate.proofs.Turns.{Before, first-turn, may-come, next-turn, last-turn}
+use Rattle.engine_values.proofs.Values.{value-given, none-given}
+use Rattle.engine_evaluate.proofs.Turns.{Before, first-turn, may-come, next-turn, fails-now, last-turn}
 use Rattle.engine_evaluate.proofs.expression.each_piece.Statement.{statement}
 use Rattle.engine_evaluate.proofs.expression.each_piece.Tie as tie
 
@@ -19,9 +21,15 @@ piece-requires : tie.Need-piece-requires Inv-loop μ-loop
 piece-requires c κs =
     may-come (c .before .before .loop .inv) (c .before .loop-test .taken) (c .before .before .before .before .before .pre)
 
+returns : tie.Need-returns Inv-loop μ-loop
+returns c =
+    let turn = c .before .before .before .before in
+    (rw (none-given 4294967296 (omega arith)) (fails-now (turn .before .loop .inv) (turn .loop-test .taken) (c .before .before .piece .ensures) (c .if1 .taken)), omega arith)
+
 add-at : tie.Need-add-at Inv-loop μ-loop
 add-at c =
-    omega (arith, c .before .before .before .loop .inv .place, c .before .before .before .before .before .before .pre .inside)
+    let turn = c .before .before .before .before .before in
+    omega (arith, turn .loop .inv .place, turn .before .before .before .pre .inside)
 
 sub-left : tie.Need-sub-left Inv-loop μ-loop
 sub-left c = search needs
@@ -31,11 +39,18 @@ loop-less c = search needs
 
 loop-again : tie.Need-loop-again Inv-loop μ-loop
 loop-again c =
-    next-turn (c .before .before .before .loop .inv) (c .before .before .loop-test .taken) (c .piece .ensures)
+    let turn = c .before .before .before .before in
+    let more : 1 ≤ c .before .before .piece .result .count = omega (arith, c .if1 .left) in
+    next-turn (turn .before .loop .inv) (turn .loop-test .taken) (c .before .before .piece .ensures) more
 
-returns : tie.Need-returns Inv-loop μ-loop
-returns c =
-    last-turn (c .before .loop .inv) (omega arith)
+cast-result : tie.Need-cast-result Inv-loop μ-loop
+cast-result c = search needs
+
+returns-2 : tie.Need-returns-2 Inv-loop μ-loop
+returns-2 c =
+    let loop = c .before .before .loop in
+    let small : loop .held .top < 4294967296 = omega arith in
+    (rw (value-given (loop .held .top) small) (last-turn (loop .inv) (omega arith)), omega arith)
 
 pub each-piece-spec : {M : Type 1} → statement M
 each-piece-spec =
@@ -45,8 +60,10 @@ each-piece-spec =
     μ-loop
     loop-holds
     piece-requires
+    returns
     add-at
     sub-left
     loop-less
     loop-again
-    returns)
+    cast-result
+    returns-2)

@@ -31,12 +31,12 @@ shared-slice-read-sign : tie.Need-shared-slice-read-sign
 shared-slice-read-sign c = omega (arith, c .before .before .before .before .before .pre .inside)
 
 sign-requires : tie.Need-sign-requires
-sign-requires c κs = search needs
+sign-requires c κs = three-pieces (c .before .before .before .before .before .pre) .third
 
 returns : tie.Need-returns
 returns c =
     let asked = c .before .before .before .before .before .before .pre in
-    rw (c .sign .ensures) (three-value (c .before .before .before .operand .ensures) (c .before .before .operand2 .ensures) (three-pieces asked .third))
+    (rw (c .sign .ensures .value) (three-value (c .before .before .before .operand .ensures) (c .before .before .operand2 .ensures) (three-pieces asked .third)), c .sign .ensures .most)
 
 pub joined-spec : {M : Type 1} → statement M
 joined-spec =

@@ -18,12 +18,14 @@ is-sign-requires c κs = search needs
 operate-requires : tie.Need-operate-requires
 operate-requires c κs =
     let asked = c .before .before .before .before .before .before .pre in
-    (asked .places, pieces.two-for-sign asked (sym (c .before .before .is-sign .ensures) ∙ c .before .if1 .taken), asked .most)
+    let is-one = sym (c .before .before .is-sign .ensures) ∙ c .before .if1 .taken in
+    (is-one, asked .places, pieces.two-for-sign asked is-one, asked .most)
 
 returns : tie.Need-returns
 returns c =
     let asked = c .before .before .before .before .before .before .before .pre in
-    pieces.past-joined (sym (c .before .before .before .is-sign .ensures) ∙ c .before .before .if1 .taken) (asked .places) (c .operate .ensures)
+    let is-one = sym (c .before .before .before .is-sign .ensures) ∙ c .before .before .if1 .taken in
+    pieces.past-joined is-one (asked .places) (pieces.two-for-sign asked is-one) (c .operate .ensures)
 
 operand-requires : tie.Need-operand-requires
 operand-requires c κs =

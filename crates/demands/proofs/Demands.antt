@@ -118,12 +118,12 @@ pub unused-words-are-cleared : (text : Bytes) (listing : Listing) → Loads text
 unused-words-are-cleared text listing loads k unused =
     Cleared.unused-words-are-0 listing (meets listing (sym (length-needs-no-test listing) ∙ loads-exactly-if text listing .0 loads .1)) k unused
 
--- the start's 0, 1, 6, 12 and 13 to 17
+-- the start's 0, 1, 6, 12 and 13 to 18
 pub starts-by-cause : (table machine outNumbers outValues : List ℕ) (allowance : ℕ) (o : Outcome) →
     (startCall layout table machine outNumbers outValues allowance ≡ o) ↔ StartCause layout table machine outNumbers outValues allowance o
 starts-by-cause table machine outNumbers outValues allowance o = start-exactly-if layout table machine outNumbers outValues allowance o
 
--- the instant call's 0, 1 and 6 to 17; a lent word is a u32
+-- the instant call's 0, 1 and 6 to 18; a lent word is a u32
 pub answers-by-cause : (table machine : List ℕ) → Words32 machine → (t : ℕ) (inNumbers inValues outNumbers outValues : List ℕ) (allowance : ℕ) (o : Outcome) →
     (instantCall layout table machine t inNumbers inValues outNumbers outValues allowance ≡ o) ↔
     InstantCause layout table machine t inNumbers inValues outNumbers outValues allowance o

@@ -2,3 +2,4 @@ pub mod LayoutIsExact
 pub mod Exported
 pub mod Demands
 pub mod Book
+pub mod Division

@@ -115,6 +115,8 @@ effect-read (some L.Piece.plus) = refl
 effect-read (some L.Piece.minus) = refl
 effect-read (some L.Piece.times) = refl
 effect-read (some L.Piece.less) = refl
+effect-read (some L.Piece.divide) = refl
+effect-read (some L.Piece.remainder) = refl
 
 module _ (held : ℕ) (s : Bytes) where
   adds-weighed : (o : Option L.Piece) → EV.Adds ≡ effectRead o → weighed held o s ≡ weighedBy held (L'.adds)

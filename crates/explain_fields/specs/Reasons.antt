@@ -48,7 +48,7 @@ secondPiece = 9
 abbrev pub badKinds : ℕ
 badKinds = 10
 
--- "the pieces `#v` (a signed 32-bit literal), `n` (a name's value), `@n` .., `+ - * <`"
+-- "the pieces `#v` (a signed 32-bit literal), `n` (a name's value), `@n` .., `+ - * <`"; document 02: "Expressions gain `/` and `%`"
 abbrev pub badPiece : ℕ
 badPiece = 11
 

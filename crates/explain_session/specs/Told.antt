@@ -34,7 +34,7 @@ stoppedText path listingPath listing ended =
 abbrev pub plainText : Bytes → Bytes → Bytes
 plainText path text = shown 4096 path ++ text
 
--- by the code: 0, "13 .." to "17 ..", or a refusal
+-- by the code: 0, "13 .." to "18 ..", or a refusal
 unfoldable pub endedText : Bytes → Bytes → Bytes → Bytes → Ended → Bytes
 endedText path trace listingPath listing ended =
     cond (eqb (ended .code) 0) (plainText path (bytesOf ": It plays to its end.\n"))

@@ -35,6 +35,8 @@ fn is_below(p: Piece, bound: usize) -> bool
         Piece::Minus => true,
         Piece::Times => true,
         Piece::Less => true,
+        Piece::Divide => true,
+        Piece::Remainder => true,
         Piece::Bad => true,
     }
 }

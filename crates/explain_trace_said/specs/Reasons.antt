@@ -67,6 +67,7 @@ rules =
     ∷ "At F the routine's level is at most 9: main is at level 0, a child one deeper. Look for a routine that forks itself."
     ∷ "At A the delay is at least 1 millisecond."
     ∷ "At A the due moment is below 2 to the 64."
+    ∷ "At S, U and A every divisor of / and % is other than 0, at A in the delay first, then in the value, before code 16. Look for a name that may be 0."
     ∷ []
 
 unfoldable pub ruleTexts : List Bytes

@@ -3,7 +3,8 @@ ghost use mathlib.Core.Path.{_≡_};
 ghost use Prim.Native.Nat.{_+_, _≤_};
 ghost use lib.ListN.{length};
 ghost use Rattle.session_print.specs.Puts.{Puts};
-ghost use Rattle.explain_trace_said.specs.Asked.{room, letterOf, seenAfter, countAll, wordText, askedLine, askedHere, moreText, askedAll, askedText};
+ghost use Rattle.explain_trace_said.specs.Asked.{standsIn, divides, withExpression, asks};
+ghost use Rattle.explain_trace_said.specs.Asked.{room, seenAfter, countAll, wordText, askedLine, askedHere, moreText, askedAll, askedText};
 use crate::place::put_place;
 use explain_lines::letter::first_byte;
 use explain_parts::part_end;
@@ -18,40 +19,71 @@ const LINE_SHOWN: usize = 120;
 
 const NAME_SHOWN: usize = 200;
 
-// The letter of the lines at which a code's rule is asked; 0 for none.
-fn letter_of(code: u32) -> u8
-    ensures { λ r. ⌜ r ≡ letterOf code ⌝ }
+// Whether a byte stands in a text.
+fn stands_in(text: &[u8], byte: u8) -> bool
+    ensures { λ r. ⌜ r ≡ standsIn byte (now (text .entry)) ⌝ }
 {
-    match code {
-        14 => b'F',
-        15 => b'F',
-        16 => b'A',
-        17 => b'A',
-        _ => 0,
+    part_end(text, byte, 0) < text.len()
+}
+
+// Whether a piece `/` or `%` is in a line.
+fn line_divides(line: &[u8]) -> bool
+    ensures { λ r. ⌜ r ≡ divides (now (line .entry)) ⌝ }
+{
+    if stands_in(line, b'/') {
+        return true;
+    }
+    stands_in(line, b'%')
+}
+
+// Whether the instruction of a letter has an expression.
+fn with_expression(letter: u8) -> bool
+    ensures { λ r. ⌜ r ≡ withExpression letter ⌝ }
+{
+    match letter {
+        b'S' => true,
+        b'U' => true,
+        b'A' => true,
+        _ => false,
     }
 }
 
-// How many lines have the letter, one line more being looked at.
-fn seen_after(letter: u8, seen: usize, line: &[u8]) -> usize
-    requires { ⌜ seen ≤ 200000 ⌝ }
-    ensures { λ r. ⌜ (r ≡ seenAfter letter seen (now (line .entry))) × (r ≤ seen + 1) ⌝ }
+// Whether a code's rule is asked at a line.
+fn is_asked(code: u32, line: &[u8]) -> bool
+    ensures { λ r. ⌜ r ≡ asks code (now (line .entry)) ⌝ }
 {
-    if first_byte(line) == letter {
+    let letter = first_byte(line);
+    match code {
+        14 => letter == b'F',
+        15 => letter == b'F',
+        16 => letter == b'A',
+        17 => letter == b'A',
+        18 => with_expression(letter) && line_divides(line),
+        _ => false,
+    }
+}
+
+// At how many lines it is asked, one line more being looked at.
+fn seen_after(code: u32, seen: usize, line: &[u8]) -> usize
+    requires { ⌜ seen ≤ 200000 ⌝ }
+    ensures { λ r. ⌜ (r ≡ seenAfter code seen (now (line .entry))) × (r ≤ seen + 1) ⌝ }
+{
+    if is_asked(code, line) {
         return seen + 1;
     }
     seen
 }
 
-// How many lines of a listing have the letter.
-fn count_asked(listing: &[u8], letter: u8) -> usize
+// At how many lines of a listing it is asked.
+fn count_asked(listing: &[u8], code: u32) -> usize
     requires { ⌜ length (now listing) ≤ 100000 ⌝ }
-    ensures { λ r. ⌜ r ≡ countAll letter (now (listing .entry)) ⌝ }
+    ensures { λ r. ⌜ r ≡ countAll code (now (listing .entry)) ⌝ }
 {
     let mut at: usize = 0;
     let mut seen: usize = 0;
     loop {
         let end = part_end(listing, b'\n', at);
-        seen = seen_after(letter, seen, &listing[at..end]);
+        seen = seen_after(code, seen, &listing[at..end]);
         if end == listing.len() {
             return seen;
         }
@@ -88,22 +120,22 @@ fn put_asked_line(
     put_text(out, c, b"\n")
 }
 
-// The same of any line, if it has the letter and not as many have been seen as are shown; the place past it.
+// The same of any line, if it is asked there and not as many have been seen as are shown; the place past it.
 fn put_if_asked(
     out: &mut [u8],
     at: usize,
     path: &[u8],
     number: usize,
     line: &[u8],
-    letter: u8,
+    code: u32,
     alone: bool,
     seen: usize,
 ) -> usize
     requires { ⌜ at ≤ 40000 ⌝ }
-    ensures { λ r. ⌜ Puts (now (out .entry)) at (askedHere (now (path .entry)) letter alone seen number (now (line .entry))) (now (out .exit)) r
-        × (r ≤ at + room letter seen (now (line .entry))) ⌝ }
+    ensures { λ r. ⌜ Puts (now (out .entry)) at (askedHere (now (path .entry)) code alone seen number (now (line .entry))) (now (out .exit)) r
+        × (r ≤ at + room code seen (now (line .entry))) ⌝ }
 {
-    if first_byte(line) != letter {
+    if !is_asked(code, line) {
         return at;
     }
     if seen >= LINES_SHOWN {
@@ -125,17 +157,17 @@ fn put_more(out: &mut [u8], at: usize, seen: usize) -> usize
     put_text(out, b, b" more\n")
 }
 
-// The lines that have the letter; the place past them.
+// The lines at which it is asked, and how many more there are; the place past them.
 fn put_all_asked(
     out: &mut [u8],
     at: usize,
     path: &[u8],
     listing: &[u8],
-    letter: u8,
+    code: u32,
     alone: bool,
 ) -> usize
     requires { ⌜ (at ≤ 25000) × (length (now listing) ≤ 100000) ⌝ }
-    ensures { λ r. ⌜ Puts (now (out .entry)) at (askedAll (now (path .entry)) letter alone (now (listing .entry))) (now (out .exit)) r × (r ≤ at + 14000) ⌝ }
+    ensures { λ r. ⌜ Puts (now (out .entry)) at (askedAll (now (path .entry)) code alone (now (listing .entry))) (now (out .exit)) r × (r ≤ at + 14000) ⌝ }
 {
     let mut past = at;
     let mut from: usize = 0;
@@ -149,11 +181,11 @@ fn put_all_asked(
             path,
             number,
             &listing[from..end],
-            letter,
+            code,
             alone,
             seen,
         );
-        seen = seen_after(letter, seen, &listing[from..end]);
+        seen = seen_after(code, seen, &listing[from..end]);
         if end == listing.len() {
             return put_more(out, past, seen);
         }
@@ -167,10 +199,6 @@ pub fn put_asked(out: &mut [u8], at: usize, path: &[u8], listing: &[u8], code: u
     requires { ⌜ (at ≤ 25000) × (length (now listing) ≤ 100000) ⌝ }
     ensures { λ r. ⌜ Puts (now (out .entry)) at (askedText (now (path .entry)) (now (listing .entry)) code) (now (out .exit)) r × (r ≤ at + 14000) ⌝ }
 {
-    let letter = letter_of(code);
-    if letter == 0 {
-        return at;
-    }
-    let alone = count_asked(listing, letter) == 1;
-    put_all_asked(out, at, path, listing, letter, alone)
+    let alone = count_asked(listing, code) == 1;
+    put_all_asked(out, at, path, listing, code, alone)
 }

@@ -82,7 +82,8 @@ A step is left: in a session an instant reaches at most 10,000 instructions. Loo
 At F the live routines and the new children are at most 64. Look for children that never end.
 At F the routine's level is at most 9: main is at level 0, a child one deeper. Look for a routine that forks itself.
 At A the delay is at least 1 millisecond.
-At A the due moment is below 2 to the 64.",
+At A the due moment is below 2 to the 64.
+At S, U and A every divisor of / and % is other than 0, at A in the delay first, then in the value, before code 16. Look for a name that may be 0.",
         code as usize,
     )
 }

@@ -8,11 +8,11 @@ use Rattle.explain_trace_said.proofs.asked.count_asked.Statement.{state
 use Rattle.explain_trace_said.proofs.asked.count_asked.Tie as tie
 
 abbrev Inv-loop : tie.InvT-loop
-Inv-loop listing letter at₀ seen₀ at seen =
-    Counting letter listing at seen
+Inv-loop listing code at₀ seen₀ at seen =
+    Counting code listing at seen
 
 abbrev μ-loop : tie.MeasureT-loop
-μ-loop listing letter at₀ seen₀ at seen =
+μ-loop listing code at₀ seen₀ at seen =
     length listing + 1 - at
 
 loop-holds : tie.Need-loop-holds Inv-loop μ-loop

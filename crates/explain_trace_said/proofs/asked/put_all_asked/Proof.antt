@@ -9,11 +9,11 @@ use Rattle.explain_trace_said.proofs.asked.put_all_asked.Statement.{sta
 use Rattle.explain_trace_said.proofs.asked.put_all_asked.Tie as tie
 
 abbrev Inv-loop : tie.InvT-loop
-Inv-loop out₀ at path listing letter alone past₀ from₀ number₀ seen₀ out past from number seen =
-    Asking path letter alone listing out₀ at out past from number seen
+Inv-loop out₀ at path listing code alone past₀ from₀ number₀ seen₀ out past from number seen =
+    Asking path code alone listing out₀ at out past from number seen
 
 abbrev μ-loop : tie.MeasureT-loop
-μ-loop out₀ at path listing letter alone past₀ from₀ number₀ seen₀ out past from number seen =
+μ-loop out₀ at path listing code alone past₀ from₀ number₀ seen₀ out past from number seen =
     length listing + 1 - from
 
 loop-holds : tie.Need-loop-holds Inv-loop μ-loop

@@ -15,6 +15,7 @@ use test_cases::frame::word_at;
 use test_cases::report::put_summary;
 use test_cases::report::put_text;
 use test_cases::report::read_file;
+use test_cases::report::stored_cases;
 use test_lending::machine::unused_memory;
 use test_stored_items::items::after_item;
 use test_stored_items::items::run_item;
@@ -130,7 +131,7 @@ fn run_file(s: &[u8]) -> Tally
 }
 
 fn main() {
-    let mut file = io::large_buffer();
+    let mut file = stored_cases();
     let length = read_file(b"calls.dat", &mut file);
     let tally = run_file(&file[..length]);
     let mut line = io::buffer();

@@ -37,6 +37,13 @@ pub fn put_summary(out: &mut [u8], title: &[u8], cases: u64, failed: u64) -> usi
     put_text(out, d, b" cases fail\n")
 }
 
+// Memory for a file of stored cases.
+pub fn stored_cases() -> [u8; 300000]
+    ensures { λ r. ⌜ 300000 ≡ length r ⌝ }
+{
+    [0; 300000]
+}
+
 // The bytes of a file, as many as the buffer holds; none if it cannot be opened, which is then said.
 pub fn read_file(path: &[u8], buffer: &mut [u8]) -> usize
     ensures { λ r. ⌜ Counts r (now (buffer .exit)) × (length (now (buffer .exit)) ≡ length (now (buffer .entry))) ⌝ }

@@ -21,6 +21,7 @@ use test_cases::memories::fill;
 use test_cases::memories::same_to;
 use test_cases::report::put_summary;
 use test_cases::report::read_file;
+use test_cases::report::stored_cases;
 
 // The word that a table is filled with before it is lent.
 const PATTERN: u32 = 2779096485;
@@ -187,7 +188,7 @@ fn run_file(s: &[u8], table: &mut [u32], other: &mut [u32]) -> Tally
 fn run_path(path: &[u8], table: &mut [u32], other: &mut [u32]) -> Tally
     ensures { λ r. ⌜ RanSome (now (table .entry)) (now (other .entry)) (now (table .exit)) (now (other .exit)) r ⌝ }
 {
-    let mut file = io::large_buffer();
+    let mut file = stored_cases();
     let length = read_file(path, &mut file);
     run_file(&file[..length], table, other)
 }

@@ -19,6 +19,7 @@ use test_cases::frame::past;
 use test_cases::frame::word_at;
 use test_cases::report::put_summary;
 use test_cases::report::read_file;
+use test_cases::report::stored_cases;
 
 // A case of the file: its name, where listing, trace and print begin and end. The next case follows the print.
 pub struct Case {
@@ -124,7 +125,7 @@ fn piece() -> [u8; 1100]
 }
 
 fn main() {
-    let mut file = io::large_buffer();
+    let mut file = stored_cases();
     let length = read_file(b"sessions.dat", &mut file);
     let mut table = memory();
     let mut machine = memory();

@@ -4,8 +4,8 @@ use borrow.Author.Needs.{needs}
 use Rattle.test_sessions.proofs.main.Statement.{statement}
 use Rattle.test_sessions.proofs.main.Tie as tie
 
-large-buffer-requires : tie.Need-large-buffer-requires
-large-buffer-requires c κs = search needs
+stored-cases-requires : tie.Need-stored-cases-requires
+stored-cases-requires c κs = search needs
 
 slice-aggregate-read-file : tie.Need-slice-aggregate-read-file
 slice-aggregate-read-file c = search needs
@@ -73,7 +73,7 @@ pub main-spec : {M : Type 1} → statement M
 main-spec =
     tie.close
     (tie.spec
-    large-buffer-requires
+    stored-cases-requires
     slice-aggregate-read-file
     slice-aggregate-read-file-2
     read-file-requires

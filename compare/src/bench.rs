@@ -1,7 +1,8 @@
 //! The benchmark: the library beside a plain Rust queue engine, in one run, printed as a page.
 
 use crate::bench_listings::{
-    full, full_board, full_table, grouped, seventy_three_pieces, sleepers, ticking, twelve_pieces, waiting,
+    full, full_board, full_table, grouped, seventy_three_dividing, seventy_three_pieces, sleepers, ticking,
+    twelve_dividing, twelve_pieces, waiting,
 };
 use crate::bench_listings::{COUNTED, FORKS, PRESS, SUMS, TIMERS};
 use crate::bench_pages::pages;
@@ -307,6 +308,12 @@ fn steps_and_calls(full: &str) {
     row("a step: a counted loop of `U`, `S` and `G`", step_times(COUNTED), Some(LOOP_AIM));
     row("a step: expressions of 12 pieces", step_times(&twelve_pieces()), Some(STEP_AIM));
     row("a step: expressions of 73 pieces", step_times(&seventy_three_pieces()), Some(STEP_AIM));
+    row("a step: expressions of 12 pieces, two of them divisions", step_times(&twelve_dividing()), Some(STEP_AIM));
+    row(
+        "a step: expressions of 73 pieces, eight of them divisions",
+        step_times(&seventy_three_dividing()),
+        Some(STEP_AIM),
+    );
     row("a step: sums, tests and jumps", step_times(SUMS), Some(LOOP_AIM));
     row("a step: every fourth one puts a waiting write", step_times(TIMERS), Some(LOOP_AIM));
     row("a step: forks, ends and joins", step_times(FORKS), Some(STEP_AIM));

@@ -18,6 +18,9 @@ const ONE_LESS: &str = "2 #1 -";
 const LESS_TERM: &str = " 3 4 < 4 3 < * +";
 const MINUS_TERM: &str = " 3 4 - 4 3 - + +";
 const TIMES_TERM: &str = " #5 2 * 2 #-5 * + +";
+/// 8 pieces each, two of them divisions: by a literal, and by the number of turns.
+const QUOTIENT_TERM: &str = " 3 #7 / 3 #7 / - +";
+const REMAINDER_TERM: &str = " 2 0 % 2 0 % - +";
 /// 4 pieces.
 const WRITTEN_TERM: &str = " @1 #0 * +";
 
@@ -34,6 +37,17 @@ pub fn twelve_pieces() -> String {
 /// One expression in each turn, of 73 pieces.
 pub fn seventy_three_pieces() -> String {
     let terms = [LESS_TERM, MINUS_TERM, TIMES_TERM, LESS_TERM].concat().repeat(2);
+    counting(&format!("S\t2\t{ONE_LESS}{terms}{WRITTEN_TERM} 4 +\n"))
+}
+
+/// As `twelve_pieces`, two divisions in each expression.
+pub fn twelve_dividing() -> String {
+    counting(&format!("S\t2\t{ONE_LESS}{QUOTIENT_TERM}\nS\t3\t3 2 + @0 + 4 #7 * - 0 % #5 /\n"))
+}
+
+/// As `seventy_three_pieces`, eight of them divisions.
+pub fn seventy_three_dividing() -> String {
+    let terms = [LESS_TERM, QUOTIENT_TERM, TIMES_TERM, REMAINDER_TERM].concat().repeat(2);
     counting(&format!("S\t2\t{ONE_LESS}{terms}{WRITTEN_TERM} 4 +\n"))
 }
 

@@ -3,20 +3,21 @@
 
 use crate::board::{self, expected, Compared, Loaded, Outputs, Ran, Seen};
 use crate::calls::{answer, random_call, Call};
+use crate::damage::{change_piece, change_words, stopped_form};
 use crate::layout::{machine_standing, same_state, table_program, table_words, Standing, WORDS};
 use crate::listing::{self, Program};
 use crate::random::Random;
 use crate::texts;
-use crate::walk::{Answer, Machine};
+use crate::walk::{Answer, Machine, NUMBERS};
 
 /// How often each number was given, by kind of call.
 #[derive(Default)]
 pub struct Counts {
-    pub load: [u64; 18],
-    pub start: [u64; 18],
-    pub instant: [u64; 18],
-    pub alike: [u64; 18],
-    pub look: [u64; 18],
+    pub load: [u64; NUMBERS],
+    pub start: [u64; NUMBERS],
+    pub instant: [u64; NUMBERS],
+    pub alike: [u64; NUMBERS],
+    pub look: [u64; NUMBERS],
     /// Calls on a table or machine damaged on purpose: those that still passed 6 and 7.
     pub damaged: u64,
     pub damaged_passed: u64,
@@ -252,10 +253,11 @@ fn damaged(
 ) -> Result<(), Difference> {
     let mut table = table.to_vec();
     let mut before = side.memory.clone();
-    if random.once_in(3) {
-        change_words(random, &mut table);
-    } else {
-        change_words(random, &mut before.machine);
+    match random.below(6) {
+        0 => change_words(random, &mut table),
+        1 => change_piece(random, &mut table),
+        2 => stopped_form(random, &mut before.machine),
+        _ => change_words(random, &mut before.machine),
     }
     let call = random_call(random, program, side.model.as_ref());
     let changed = table_program(&table);
@@ -271,26 +273,6 @@ fn damaged(
     Ok(())
 }
 
-fn change_words(random: &mut Random, words: &mut [u32]) {
-    let used: Vec<usize> = (0..WORDS).filter(|&at| words[at] != 0).collect();
-    for _ in 0..1 + random.below(3).min(random.below(3)) {
-        let at = match random.below(8) {
-            0 => random.below(8),
-            1 => random.below(WORDS),
-            2 => (random.pick_or(&used, 0) + 1) % WORDS,
-            _ => random.pick_or(&used, 3),
-        };
-        words[at] = match random.below(6) {
-            0 => words[at].wrapping_add(1),
-            1 => words[at].wrapping_sub(1),
-            2 => words[at] ^ 1 << random.below(32),
-            3 => 0,
-            4 => random.below(20) as u32,
-            _ => random.bits() as u32,
-        };
-    }
-}
-
 // ---- the comparison call
 
 fn compare_sides(random: &mut Random, table: &[u32], sides: &[Side; 2], counts: &mut Counts) -> Result<(), Difference> {
@@ -302,6 +284,10 @@ fn compare_sides(random: &mut Random, table: &[u32], sides: &[Side; 2], counts: 
         2 => change_words(random, &mut words[1]),
         3 => words[random.below(2)].truncate(random.below(WORDS)),
         4 => table.truncate(random.below(WORDS)),
+        5 => {
+            let which = random.below(2);
+            stopped_form(random, &mut words[which])
+        }
         _ => {}
     }
     let want = compared(&table, &words);

@@ -1,5 +1,6 @@
-//! Writes the data files of the gate's test programs from a folder of stored answers, with a few
-//! call lists made here. The format stands in crates/test_cases/src/frame.rt and crates/test_calls/src.
+//! Writes the data files of the gate's test programs from folders of stored answers, the sessions of
+//! examples/ and a few call lists made here. A folder comes with what is added to the numbers of its cases.
+//! The format stands in crates/test_cases/src/frame.rt and crates/test_calls/src.
 
 use crate::calls::{answer, Call};
 use crate::listing;
@@ -8,12 +9,25 @@ use crate::walk::Answer;
 use std::path::Path;
 
 /// A test program reads a whole file at once.
-const LONGEST: usize = 65_536;
+const LONGEST: usize = 300_000;
+/// The cases named below LATER are those that were chosen when a program read so much; later ones follow them.
+const FIRST_LONGEST: usize = 65_536;
+const LATER: u32 = 2_000;
+/// The names of the sessions of examples/.
+const EXAMPLES: [(u32, &str); 6] = [
+    (950, "two_growers"),
+    (951, "fresh_order"),
+    (952, "standing_closing"),
+    (953, "timeout"),
+    (954, "low_pressure"),
+    (2950, "dosing"),
+];
 /// The names of the call lists made here.
 const B_TO_E: u32 = 900;
 const L: u32 = 901;
 const BOUNDARY: u32 = 902;
 const ALIKE: u32 = 903;
+const SHARES: u32 = 2900;
 
 /// How the memory of one call is spoiled, the other memories being as they were.
 #[derive(Clone, Copy)]
@@ -109,11 +123,20 @@ fn load_case(case: &Case) -> Vec<u8> {
     out
 }
 
-fn session_case(case: &Case) -> Vec<u8> {
+fn session(name: u32, parts: [&[u8]; 3]) -> Vec<u8> {
     let mut out = Vec::new();
-    word(&mut out, name(case));
-    [&case.listing, &case.trace, &case.expected].into_iter().for_each(|bytes| part(&mut out, bytes));
+    word(&mut out, name);
+    parts.into_iter().for_each(|bytes| part(&mut out, bytes));
     out
+}
+
+fn session_case(case: &Case) -> Vec<u8> {
+    session(name(case), [&case.listing, &case.trace, &case.expected])
+}
+
+fn example(folder: &Path, name: u32, file: &str) -> std::io::Result<Vec<u8>> {
+    let read = |ending: &str| std::fs::read(folder.join(format!("{file}.{ending}")));
+    Ok(session(name, [&read("listing")?, &read("trace")?, &read("expected")?]))
 }
 
 fn calls_case(case: &Case) -> Option<Vec<u8>> {
@@ -124,21 +147,37 @@ fn calls_case(case: &Case) -> Option<Vec<u8>> {
     Some(call_list(name(case), &case.listing, &items))
 }
 
-/// The smallest cases that fit into one file, in the order of their names, after those that must be there.
-fn file(must: Vec<Vec<u8>>, mut cases: Vec<Vec<u8>>) -> (usize, Vec<u8>) {
+/// The name of a written case.
+fn named(case: &[u8]) -> u32 {
+    u32::from_le_bytes([case[0], case[1], case[2], case[3]])
+}
+
+/// The smallest cases that fit into the room, in the order of their names, with those that must be there.
+fn chosen(room: usize, must: Vec<Vec<u8>>, mut cases: Vec<Vec<u8>>) -> Vec<Vec<u8>> {
     cases.sort_by_key(Vec::len);
-    let mut room = LONGEST - 4 - must.iter().map(Vec::len).sum::<usize>();
+    let mut room = room.checked_sub(must.concat().len()).expect("what must be there fits");
     cases.retain(|case| {
         let fits = case.len() <= room;
         room -= if fits { case.len() } else { 0 };
         fits
     });
     cases.extend(must);
-    cases.sort_by_key(|case| u32::from_le_bytes([case[0], case[1], case[2], case[3]]));
+    cases.sort_by_key(|case| named(case));
+    cases
+}
+
+/// One file: the cases named below LATER, as many as fitted at first, and then the later ones.
+fn file(must: Vec<Vec<u8>>, cases: Vec<Vec<u8>>) -> (usize, Vec<u8>) {
+    let first = |case: &Vec<u8>| named(case) < LATER;
+    let (must, later_must) = must.into_iter().partition(first);
+    let (cases, later) = cases.into_iter().partition(first);
+    let mut all = chosen(FIRST_LONGEST - 4, must, cases);
+    all.extend(chosen(LONGEST - 4 - all.concat().len(), later_must, later));
+    assert!(all.windows(2).all(|two| named(&two[0]) < named(&two[1])), "two cases of one name");
     let mut out = Vec::new();
-    word(&mut out, cases.len() as u32);
-    out.extend(cases.concat());
-    (cases.len(), out)
+    word(&mut out, all.len() as u32);
+    out.extend(all.concat());
+    (all.len(), out)
 }
 
 // ---- call lists made here, answered by the model
@@ -260,20 +299,61 @@ fn alike() -> Vec<u8> {
     call_list(ALIKE, LISTING_A.as_bytes(), &items)
 }
 
+/// A share by what input 0 says: done; 18, and then a stopped machine; 13 and not 18 with no step left.
+fn shares() -> Vec<u8> {
+    let text = "P\t1\t2\nR\trrr\t0\nW\t0\nG\t2\nS\t1\t#100 0 /\nS\t2\t#100 0 %\nG\t0\n";
+    let by = |t, input: i32, allowance| instant(t, &[(0, input as u32)], allowance);
+    let calls = vec![start(10), by(10, 7, 10), by(20, -7, 5), by(30, 0, 10), by(40, 7, 10)];
+    let mut items = Vec::new();
+    for (k, call) in followed(text, calls).into_iter().enumerate() {
+        items.push(call);
+        match k {
+            0 => items.extend([Item::Keep, compared(0, 1)]),
+            1 => items.extend([compared(0, 0), Item::Keep]),
+            2 => items.push(compared(0, 0)),
+            4 => items.push(compared(8, 0)),
+            _ => {}
+        }
+    }
+    for (spoil, number) in [(Spoil::ShortMachine, 1), (Spoil::Table, 6)] {
+        items.push(Item::Call(spoil, by(40, 7, 10), Answer::refused(number)));
+    }
+    items.extend([Item::Keep, compared(8, 0)]);
+    items.extend(spoiled());
+    items.extend(followed(text, vec![start(10), by(10, 0, 0), by(10, 0, 2)]));
+    items.extend(followed(text, vec![start(10), by(10, 0, 1), by(10, 7, 5)]));
+    items.extend(followed(text, vec![start(10), by(10, i32::MIN, 5)]));
+    call_list(SHARES, text.as_bytes(), &items)
+}
+
 /// The case whose listing passes the limit of bytes, and the one that passes that of pieces.
 const LONG: [u32; 2] = [112, 113];
 
+/// The cases of a folder, named by their numbers and what is added.
+fn cases_from(added: u32, folder: &Path) -> std::io::Result<Vec<Case>> {
+    let mut cases = cases(folder)?;
+    for case in &mut cases {
+        case.name = (added + name(case)).to_string();
+    }
+    Ok(cases)
+}
+
 /// Writes loads.dat, long.dat, sessions.dat and calls.dat.
-pub fn write(folder: &Path, out: &Path) -> std::io::Result<bool> {
-    let cases = cases(folder)?;
-    std::fs::create_dir_all(out)?;
+pub fn write(examples: &Path, out: &Path, folders: &[(u32, &Path)]) -> std::io::Result<bool> {
+    let mut cases = Vec::new();
+    for &(added, folder) in folders {
+        cases.extend(cases_from(added, folder)?);
+    }
+    let sessions: Result<_, _> = EXAMPLES.into_iter().map(|(name, file)| example(examples, name, file)).collect();
+    let lists = vec![b_to_e(), l(), boundary(), alike(), shares()];
     let long = cases.iter().filter(|case| LONG.contains(&name(case)));
     let files = [
         ("loads.dat", file(Vec::new(), cases.iter().map(load_case).collect())),
         ("long.dat", file(long.map(load_case).collect(), Vec::new())),
-        ("sessions.dat", file(Vec::new(), cases.iter().map(session_case).collect())),
-        ("calls.dat", file(vec![b_to_e(), l(), boundary(), alike()], cases.iter().filter_map(calls_case).collect())),
+        ("sessions.dat", file(sessions?, cases.iter().map(session_case).collect())),
+        ("calls.dat", file(lists, cases.iter().filter_map(calls_case).collect())),
     ];
+    std::fs::create_dir_all(out)?;
     for (name, (count, bytes)) in files {
         std::fs::write(out.join(name), &bytes)?;
         println!("{name}: {count} cases, {} bytes", bytes.len());

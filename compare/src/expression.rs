@@ -1,6 +1,6 @@
 //! Expressions of the plain queue engine: operators, the values held, and long expressions. A short
 //! expression is one jump a piece or pair of pieces, which a processor foresees while they are few; a
-//! long one is a loop whose turns have no such jump.
+//! long one is a loop whose turns have no such jump. One with divisions is such a loop of its own.
 
 use crate::listing::Piece;
 
@@ -21,7 +21,7 @@ pub enum Operator {
 impl Operator {
     pub fn of_piece(piece: &Piece) -> Option<Operator> {
         match piece {
-            Piece::Literal(_) | Piece::Value(_) | Piece::Written(_) => None,
+            Piece::Literal(_) | Piece::Value(_) | Piece::Written(_) | Piece::Quotient | Piece::Remainder => None,
             Piece::Plus => Some(Operator::Plus),
             Piece::Minus => Some(Operator::Minus),
             Piece::Times => Some(Operator::Times),
@@ -40,6 +40,33 @@ impl Operator {
         } else {
             other
         }
+    }
+}
+
+/// Stands apart from the operators, which cannot fail.
+#[derive(Clone, Copy, PartialEq)]
+pub enum Division {
+    Quotient,
+    Remainder,
+}
+
+impl Division {
+    pub fn of_piece(piece: &Piece) -> Option<Division> {
+        match piece {
+            Piece::Quotient => Some(Division::Quotient),
+            Piece::Remainder => Some(Division::Remainder),
+            _ => None,
+        }
+    }
+
+    /// The processor's division gives both.
+    #[inline(always)]
+    pub fn of(self, left: i32, right: i32) -> Option<i32> {
+        if right == 0 {
+            return None;
+        }
+        let (quotient, remainder) = (left.wrapping_div(right), left.wrapping_rem(right));
+        Some(if self == Division::Quotient { quotient } else { remainder })
     }
 }
 
@@ -94,9 +121,16 @@ impl Held<'_> {
         (self.value(), delay)
     }
 
-    /// A long expression. `read` gives a name's value, and whether it was written in this instant.
+    /// A long expression without divisions. `read` gives a name's value, and whether it was written in
+    /// this instant.
     #[inline(always)]
     pub fn long(&mut self, parts: &[Part], read: impl Fn(u8) -> (i32, bool)) {
+        let done = self.long_parts::<false>(parts, read);
+        debug_assert!(done.is_some());
+    }
+
+    #[inline(always)]
+    fn long_parts<const DIVIDES: bool>(&mut self, parts: &[Part], read: impl Fn(u8) -> (i32, bool)) -> Option<()> {
         for part in parts {
             let value = if part.source == Source::Held {
                 self.pop()
@@ -110,12 +144,23 @@ impl Held<'_> {
                     written as i32
                 }
             };
-            match part.operator {
-                None => self.push(value),
-                Some(operator) => self.with(operator, value),
+            match (part.operator, part.division) {
+                (Some(operator), _) => self.with(operator, value),
+                (None, Some(division)) if DIVIDES => self.top = division.of(self.top, value)?,
+                (None, _) => self.push(value),
             }
         }
+        Some(())
     }
+}
+
+/// The value of an expression with divisions, in room of its own, so that the values that another
+/// holds can stay in registers; none if a divisor is 0.
+#[inline(never)]
+pub fn dividing(room: &mut [i32; HELD], parts: &[Part], read: impl Fn(u8) -> (i32, bool)) -> Option<i32> {
+    let mut held = Held::new(room);
+    held.long_parts::<true>(parts, read)?;
+    Some(held.top)
 }
 
 #[derive(Clone, Copy, PartialEq)]
@@ -126,11 +171,13 @@ pub enum Source {
     Written,
 }
 
-/// A part of a long expression: an operand, an operator, or an operand and the operator after it.
+/// A part of a long expression: an operand, an operator or a division, or an operand and what comes
+/// after it of these.
 #[derive(Clone, Copy)]
 pub struct Part {
     source: Source,
     operator: Option<Operator>,
+    division: Option<Division>,
     name: u8,
     literal: i32,
 }
@@ -139,15 +186,15 @@ pub struct Part {
 pub fn parts(pieces: &[Piece]) -> Vec<Part> {
     let mut parts: Vec<Part> = Vec::new();
     for piece in pieces {
-        let operator = Operator::of_piece(piece);
-        let part = Part { source: Source::Held, operator: None, name: 0, literal: 0 };
+        let (operator, division) = (Operator::of_piece(piece), Division::of_piece(piece));
+        let part = Part { source: Source::Held, operator: None, division: None, name: 0, literal: 0 };
         let part = match *piece {
             Piece::Literal(literal) => Part { source: Source::Literal, literal, ..part },
             Piece::Value(name) => Part { source: Source::Value, name: name as u8, ..part },
             Piece::Written(name) => Part { source: Source::Written, name: name as u8, ..part },
-            _ => parts.pop_if(|last| last.operator.is_none()).unwrap_or(part),
+            _ => parts.pop_if(|last| last.operator.is_none() && last.division.is_none()).unwrap_or(part),
         };
-        parts.push(Part { operator, ..part });
+        parts.push(Part { operator, division, ..part });
     }
     parts
 }

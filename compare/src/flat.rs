@@ -1,6 +1,6 @@
 //! A listing decoded once, when it is loaded, into the flat arrays that the plain queue engine runs over.
 
-use crate::expression::{parts, Operator, Part, SHORT};
+use crate::expression::{parts, Division, Operator, Part, SHORT};
 use crate::listing::{Child, Instruction, Piece, Program, Routine};
 
 /// 4,096 pieces and 512 instructions at most; a power of two, so that a masked place is in range.
@@ -8,7 +8,8 @@ pub const OPERATIONS: usize = 8_192;
 
 /// A piece or an instruction. An instruction stands right after the pieces whose values it takes, so
 /// that the code is one postfix array. An operator takes its right side along if that is a literal or a
-/// name's value; and its left side too, if it takes the right one.
+/// name's value; and its left side too, if it takes the right one. A long expression, or one with
+/// divisions, is one operation.
 #[derive(Clone, Copy)]
 pub enum Operation {
     Literal(i32),
@@ -21,6 +22,7 @@ pub enum Operation {
     ValueAndLiteral { operator: Operator, left: u8, right: i32 },
     LiteralAndValue { operator: Operator, left: i32, right: u8 },
     Long { from: u16, count: u16 },
+    Dividing { from: u16, count: u16 },
     Set { name: u8 },
     After { name: u8 },
     Unless { target: u32 },
@@ -155,9 +157,12 @@ impl Decoder<'_> {
     }
 
     fn expression(&mut self, pieces: &[Piece]) {
-        if pieces.len() > SHORT {
+        let divides = pieces.iter().any(|piece| Division::of_piece(piece).is_some());
+        if divides || pieces.len() > SHORT {
             let (from, parts) = (self.parts.len() as u16, parts(pieces));
-            self.operations.push(Operation::Long { from, count: parts.len() as u16 });
+            let count = parts.len() as u16;
+            let operation = if divides { Operation::Dividing { from, count } } else { Operation::Long { from, count } };
+            self.operations.push(operation);
             return self.parts.extend(parts);
         }
         for piece in pieces {

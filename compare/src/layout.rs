@@ -1,14 +1,14 @@
 //! The layout of the table and the machine memory, and questions 6 and 7.
 
 use crate::listing::{load, text, Child, Instruction, Piece, Program, Routine};
-use crate::walk::{Cell, Live, Machine, Variable, DEEPEST_LEVEL, MOST_LIVE};
+use crate::walk::{Cell, Live, Machine, Variable, DEEPEST_LEVEL, MOST_LIVE, STOPS};
 use std::collections::{BTreeMap, BTreeSet};
 
 /// "Table 12,288 words of 32 bits, machine 12,288"
 pub const WORDS: usize = 12_288;
 
 const ROUTINES: usize = 8;
-const INSTRUCTIONS: usize = 328;
+pub const INSTRUCTIONS: usize = 328;
 const CELLS: usize = 2_888;
 const CELLS_END: usize = CELLS + 2 * 4_096;
 const ORDER: usize = 64;
@@ -81,6 +81,8 @@ fn cells(pieces: &[Piece]) -> Vec<(u32, u32)> {
         Piece::Minus => (4, 0),
         Piece::Times => (5, 0),
         Piece::Less => (6, 0),
+        Piece::Quotient => (7, 0),
+        Piece::Remainder => (8, 0),
     };
     pieces.iter().map(cell).collect()
 }
@@ -168,6 +170,8 @@ impl Table<'_> {
             4 => Piece::Minus,
             5 => Piece::Times,
             6 => Piece::Less,
+            7 => Piece::Quotient,
+            8 => Piece::Remainder,
             _ => return None,
         })
     }
@@ -260,7 +264,7 @@ pub fn machine_standing(words: &[u32], program: &Program) -> Option<Standing> {
     let words = words.get(..WORDS)?;
     if words[0] != 0 {
         let others = words[1..].iter().all(|&word| word == 0);
-        let stopped = (13..=17).contains(&words[0]) && others;
+        let stopped = STOPS.contains(&words[0]) && others;
         return stopped.then_some(Standing::Stopped);
     }
     let mut reader = Reader::new(words, program)?;

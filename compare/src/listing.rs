@@ -14,7 +14,8 @@ const MOST_PIECES: usize = 4_096;
 const MOST_HELD: usize = 8;
 
 /// A piece of an expression: "`#v` (a signed 32-bit literal), `n` (a name's value),
-/// `@n` (1 if it was written in this instant, else 0), `+ - * <`".
+/// `@n` (1 if it was written in this instant, else 0), `+ - * <`". "Expressions gain `/` and `%`"
+/// (document 02, Change 2).
 #[derive(Clone, Copy, Debug, PartialEq)]
 pub enum Piece {
     Literal(i32),
@@ -24,6 +25,8 @@ pub enum Piece {
     Minus,
     Times,
     Less,
+    Quotient,
+    Remainder,
 }
 
 /// "each field is a routine number and then its arguments, as names of the caller"
@@ -256,6 +259,8 @@ fn piece(text: &[u8]) -> Option<Piece> {
         b"-" => Some(Piece::Minus),
         b"*" => Some(Piece::Times),
         b"<" => Some(Piece::Less),
+        b"/" => Some(Piece::Quotient),
+        b"%" => Some(Piece::Remainder),
         [b'#', value @ ..] => literal(value).map(Piece::Literal),
         [b'@', name @ ..] => figure(name).map(Piece::Written),
         name => figure(name).map(Piece::Value),
@@ -435,6 +440,8 @@ fn expression_text(pieces: &[Piece]) -> String {
         Piece::Minus => "-".to_string(),
         Piece::Times => "*".to_string(),
         Piece::Less => "<".to_string(),
+        Piece::Quotient => "/".to_string(),
+        Piece::Remainder => "%".to_string(),
     }))
 }
 

@@ -1,5 +1,5 @@
-//! An independent model of document 01 and of document 02's pages, compared with stored answers, with the library and with a
-//! session program; and the benchmark. See README.md beside Cargo.toml.
+//! An independent model of document 01 and of document 02's pages and divisions, compared with stored answers, with the
+//! library and with a session program; and the benchmark. See README.md beside Cargo.toml.
 
 // Without the library only a part of the commands is there.
 #![cfg_attr(not(feature = "archive"), allow(dead_code))]
@@ -19,6 +19,8 @@ mod calls;
 mod clock;
 #[cfg(feature = "archive")]
 mod compare;
+#[cfg(feature = "archive")]
+mod damage;
 mod data;
 mod expression;
 mod flat;
@@ -39,6 +41,7 @@ mod random;
 #[cfg(feature = "archive")]
 mod report;
 mod session;
+mod signs;
 #[cfg(feature = "archive")]
 mod stack;
 mod texts;
@@ -48,8 +51,9 @@ mod walk;
 use std::path::Path;
 use std::process::exit;
 
-const USAGE: &str = "usage: compare vectors FOLDER
-       compare data FOLDER OUT
+const USAGE: &str = "usage: compare vectors FOLDER..
+       compare data EXAMPLES OUT ADDED FOLDER [ADDED FOLDER]..
+                                              (the cases of FOLDER, ADDED put to their numbers)
        compare session LISTING TRACE          (the model's print)
        compare answers [COUNT [SEED]]         (built with the library)
        compare bench [DATE]                   (built with the library)
@@ -75,9 +79,12 @@ fn command(words: &[&str]) -> Option<bool> {
     let figure = |at: usize, otherwise: u64| words.get(at).map_or(Some(otherwise), |w| w.parse().ok());
     let told = |result: std::io::Result<bool>| result.map_err(|why| eprintln!("{why}")).unwrap_or(false);
     match words {
-        ["vectors", folder] => Some(told(vectors::check(Path::new(folder)))),
+        ["vectors", folders @ ..] if !folders.is_empty() => Some(told(vectors::check_all(folders))),
         ["session", listing, trace] => Some(told(played::print(Path::new(listing), Path::new(trace)))),
-        ["data", folder, out] => Some(told(data::write(Path::new(folder), Path::new(out)))),
+        ["data", examples, out, folders @ ..] if !folders.is_empty() && folders.len() % 2 == 0 => {
+            let added = folders.chunks(2).map(|two| Some((two[0].parse().ok()?, Path::new(two[1]))));
+            Some(told(data::write(Path::new(examples), Path::new(out), &added.collect::<Option<Vec<_>>>()?)))
+        }
         #[cfg(feature = "archive")]
         ["answers", ..] => Some(report::run(figure(1, 1_000_000)?, figure(2, 1)?)),
         #[cfg(feature = "archive")]

@@ -5,15 +5,17 @@ use crate::listing;
 use crate::plain::Plain;
 use crate::random::Random;
 use crate::texts;
-use crate::walk::Answer;
+use crate::walk::{Answer, NUMBERS};
 
 /// So many answers; says whether all agreed.
 pub fn run(answers: u64, seed: u64) -> bool {
-    let mut compared = 0;
+    let mut numbers = [0; NUMBERS];
+    let (mut compared, mut programs) = (0, 0);
     let mut one = seed;
     while compared < answers {
         let random = &mut Random::new(one);
         if let Ok(program) = listing::load(&texts::listing(random)) {
+            programs += 1;
             let mut plain = Plain::new(&program);
             let mut model = None;
             for k in 0..2 + random.below(14) {
@@ -28,16 +30,20 @@ pub fn run(answers: u64, seed: u64) -> bool {
                     println!("{}", String::from_utf8_lossy(&listing::text(&program)));
                     return false;
                 }
+                numbers[want.number as usize] += 1;
                 compared += 1;
             }
         }
         one += 1;
     }
-    println!("plain queue engine: {compared} answers agree with the model");
+    println!("plain queue engine: {compared} answers on {programs} programs agree with the model");
+    for (number, times) in numbers.iter().enumerate().filter(|(_, &times)| times > 0) {
+        println!("{number:>6} {times:>10}");
+    }
     true
 }
 
-fn given(plain: &mut Plain, call: &Call) -> Answer {
+pub fn given(plain: &mut Plain, call: &Call) -> Answer {
     let result = match call.t {
         None => plain.start(call.allowance),
         Some(t) => plain.instant(t, &call.numbers, &call.values, call.allowance),

@@ -2,7 +2,7 @@
 //! by priority, trigger lists, waiting writes in a heap. No proofs, no questions on memory; the same
 //! programs. No step allocates, and none decodes.
 
-use crate::expression::{Held, HELD};
+use crate::expression::{dividing, Held, HELD};
 use crate::flat::{Code, Field, Operation, OPERATIONS};
 use crate::listing::Program;
 use crate::queues::{Ready, Triggers, Waiting, NAMES, NONE, SLOTS, VARIABLES};
@@ -73,6 +73,7 @@ pub struct Plain {
     steps_left: u32,
     stopped: u32,
     held: [i32; HELD],
+    apart: [i32; HELD],
     pub outputs: [(u32, i32); NAMES],
 }
 
@@ -96,6 +97,7 @@ impl Plain {
             steps_left: 0,
             stopped: 0,
             held: [0; HELD],
+            apart: [0; HELD],
             outputs: [(0, 0); NAMES],
         }
     }
@@ -203,7 +205,7 @@ impl Plain {
     /// Of 22 branches here the compiler made one jump for all; of these each has its own, which is quicker.
     #[inline]
     fn go_on(&mut self, slot: usize) -> Run<Operation> {
-        let Plain { code, rows, variables, ready, triggers, waiting, count, moment, held, .. } = self;
+        let Plain { code, rows, variables, ready, triggers, waiting, count, moment, held, apart, .. } = self;
         let (row, count) = (&mut rows[slot % SLOTS], *count);
         let (operations, variables) = (&*code.operations, &mut **variables);
         let variable = |name: u8| row.names[name as usize % NAMES] as usize % VARIABLES;
@@ -235,6 +237,15 @@ impl Plain {
                         let variable = &variables[variable(name)];
                         (variable.value, variable.written == count)
                     });
+                }
+                Operation::Dividing { from, count: parts } => {
+                    let parts = &code.parts[from as usize..from as usize + parts as usize];
+                    let (variables, names) = (&*variables, &row.names);
+                    let value = dividing(apart, parts, move |name| {
+                        let variable = &variables[names[name as usize % NAMES] as usize % VARIABLES];
+                        (variable.value, variable.written == count)
+                    });
+                    held.push(value.ok_or(if left.0 == 0 { 13u32 } else { 18 })?);
                 }
                 Operation::Set { name } => {
                     left.count()?;

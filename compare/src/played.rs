@@ -3,6 +3,7 @@
 use crate::random::Random;
 use crate::session::session;
 use crate::texts;
+use crate::walk::NUMBERS;
 use std::io::Write;
 use std::path::Path;
 use std::process::Command;
@@ -19,7 +20,7 @@ pub fn sessions(program: &Path, sessions: u64, seed: u64) -> std::io::Result<boo
     let folder = std::env::temp_dir().join(format!("fabrwent-sessions-{}", std::process::id()));
     std::fs::create_dir_all(&folder)?;
     let (listing, trace) = (folder.join("listing"), folder.join("trace"));
-    let mut codes = [0u64; 18];
+    let mut codes = [0u64; NUMBERS];
     let mut same = true;
     for one in seed..seed.saturating_add(sessions) {
         let random = &mut Random::new(one ^ 0x5E55_1014);

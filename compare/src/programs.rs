@@ -19,6 +19,7 @@ pub fn program(random: &mut Random) -> Program {
         1 => broad(random),
         2..=5 => halved(random),
         6..=9 => ordered(random),
+        10..=12 => shares(random),
         _ => common(random),
     }
 }
@@ -117,6 +118,7 @@ fn delay(random: &mut Random, names: usize) -> Vec<Piece> {
     match random.below(40) {
         0 => vec![Piece::Literal(i32::MAX)],
         1 => expression(random, names),
+        2 => division(random, names),
         _ => vec![Piece::Literal(1 + random.below(9) as i32)],
     }
 }
@@ -136,11 +138,65 @@ fn expression(random: &mut Random, names: usize) -> Vec<Piece> {
             held += 1;
             left -= 1;
         } else {
-            pieces.push(*random.pick(&[Piece::Plus, Piece::Minus, Piece::Times, Piece::Less]));
+            let sign = if random.once_in(6) { divided(random, &mut pieces) } else { *random.pick(&SIGNS) };
+            pieces.push(sign);
             held -= 1;
         }
     }
     pieces
+}
+
+/// The signs that always have a value.
+const SIGNS: [Piece; 4] = [Piece::Plus, Piece::Minus, Piece::Times, Piece::Less];
+const DIVISIONS: [Piece; 2] = [Piece::Quotient, Piece::Remainder];
+
+/// A division of what is held. Mostly, a divisor of one piece is made a literal other than 0.
+fn divided(random: &mut Random, pieces: &mut [Piece]) -> Piece {
+    if let Some(last @ (Piece::Literal(_) | Piece::Value(_) | Piece::Written(_))) = pieces.last_mut() {
+        if !random.once_in(5) {
+            *last = Piece::Literal(*random.pick(&[-1, -1, 1, 2, -2, 3, 7, -10, 100, i32::MAX, i32::MIN]));
+        }
+    }
+    *random.pick(&DIVISIONS)
+}
+
+/// A division alone, its divisor 0 now and then; or one whose value does not matter.
+fn division(random: &mut Random, names: usize) -> Vec<Piece> {
+    let dividend = if random.once_in(3) { Piece::Literal(i32::MIN) } else { operand(random, names) };
+    let mut pieces = vec![dividend, operand(random, names)];
+    if random.once_in(6) {
+        pieces[1] = Piece::Literal(0);
+    }
+    let sign = divided(random, &mut pieces);
+    pieces.push(sign);
+    match random.below(8) {
+        0 => pieces.extend([Piece::Literal(0), Piece::Times]),
+        1 => pieces.extend([operand(random, names), Piece::Less]),
+        2 => pieces.extend([Piece::Literal(i32::MIN), Piece::Literal(-1), *random.pick(&DIVISIONS), Piece::Plus]),
+        _ => {}
+    }
+    pieces
+}
+
+/// Divisions by what the inputs say, in every instruction that has an expression.
+fn shares(random: &mut Random) -> Program {
+    let (inputs, outputs) = (1 + random.below(2), 1 + random.below(2));
+    let arguments = inputs + outputs;
+    let names = arguments + random.below(2);
+    let mut code = vec![Instruction::Wait { names: (0..inputs).collect() }];
+    let lines = 2 + random.below(5);
+    for at in 1..lines {
+        let (name, value) = (random.below(names), division(random, names));
+        code.push(match random.below(4) {
+            0 => Instruction::Set { name, value },
+            1 => Instruction::Unless { test: value, target: target(random, at, lines + 1) },
+            2 => Instruction::After { name, delay: division(random, names), value },
+            _ => Instruction::After { name, delay: vec![Piece::Literal(random.below(4).min(2) as i32)], value },
+        });
+    }
+    code.push(Instruction::Go { target: 0 });
+    let main = Routine { by_reference: vec![true; arguments], locals: names - arguments, code };
+    Program { inputs, outputs, routines: vec![main] }
 }
 
 fn operand(random: &mut Random, names: usize) -> Piece {

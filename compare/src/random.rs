@@ -29,6 +29,11 @@ impl Random {
         &from[self.below(from.len())]
     }
 
+    /// One of these, if there is any.
+    pub fn pick_any<'a, T>(&mut self, from: &'a [T]) -> Option<&'a T> {
+        (!from.is_empty()).then(|| self.pick(from))
+    }
+
     /// One of these, or `other` if there is none.
     pub fn pick_or(&mut self, from: &[usize], other: usize) -> usize {
         if from.is_empty() {

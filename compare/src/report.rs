@@ -1,6 +1,7 @@
 //! Runs many cases and prints how often each number was met.
 
 use crate::compare::{case, Counts};
+use crate::walk::NUMBERS;
 use std::time::Instant;
 
 /// Cases until so many answers have been compared; says whether all agreed.
@@ -19,8 +20,9 @@ pub fn run(answers: u64, seed: u64) -> bool {
     println!("cases {cases} from seed {seed}, answers {}, {:.0} s", counts.answers(), began.elapsed().as_secs_f64());
     println!("damaged words: {} calls, of which {} still passed 6 and 7", counts.damaged, counts.damaged_passed);
     println!("{:>6} {:>10} {:>10} {:>10} {:>10} {:>10}", "number", "load", "start", "instant", "alike", "look");
-    for number in 0..18 {
-        let row = [counts.load, counts.start, counts.instant, counts.alike, counts.look].map(|by_number| by_number[number]);
+    for number in 0..NUMBERS {
+        let row =
+            [counts.load, counts.start, counts.instant, counts.alike, counts.look].map(|by_number| by_number[number]);
         println!("{number:>6} {:>10} {:>10} {:>10} {:>10} {:>10}", row[0], row[1], row[2], row[3], row[4]);
     }
     println!("no difference");

@@ -78,7 +78,7 @@ fn misdirect(random: &mut Random, program: &mut Program) {
 
 /// One change of bytes, lines or fields; of a listing or a trace.
 pub fn damage(random: &mut Random, bytes: &mut Vec<u8>) {
-    const BYTES: &[u8] = b"\t\t\n\n  00123456789#@-+*<PRSAUGWFEIQrv\r\0\x80~.";
+    const BYTES: &[u8] = b"\t\t\n\n  00123456789#@-+*</%PRSAUGWFEIQrv\r\0\x80~.";
     let at = random.below(bytes.len() + 1);
     let byte = *random.pick(BYTES);
     match random.below(10) {

@@ -1,8 +1,10 @@
 //! Stored answers: a folder of cases NNN.listing, .load, .trace, .expected and, where the listing
-//! loads, .calls and .answers. The model is held against them.
+//! loads, .calls and .answers. The model is held against them, and the plain queue engine against the calls.
 
 use crate::calls::{answer, Call};
 use crate::listing;
+use crate::peer::given;
+use crate::plain::Plain;
 use crate::session::session;
 use crate::walk::Answer;
 use std::fs;
@@ -72,13 +74,24 @@ pub fn answer_line(answer: &Answer) -> String {
     line + "\n"
 }
 
-/// Holds the model against every case; says whether all agree.
-pub fn check(folder: &Path) -> std::io::Result<bool> {
+/// Holds the model against every case of every folder; says whether all agree.
+pub fn check_all(folders: &[&str]) -> std::io::Result<bool> {
+    let mut same = true;
+    for folder in folders {
+        same &= check(Path::new(folder))?;
+    }
+    Ok(same)
+}
+
+fn check(folder: &Path) -> std::io::Result<bool> {
     let (mut agreed, mut differing) = (0, 0);
     for case in cases(folder)? {
-        for (what, same) in
-            [("load", load_agrees(&case)), ("session", session_agrees(&case)), ("calls", calls_agree(&case))]
-        {
+        for (what, same) in [
+            ("load", load_agrees(&case)),
+            ("session", session_agrees(&case)),
+            ("calls", calls_agree(&case)),
+            ("plain engine's calls", plain_agrees(&case)),
+        ] {
             match same {
                 None => {}
                 Some(true) => agreed += 1,
@@ -89,7 +102,7 @@ pub fn check(folder: &Path) -> std::io::Result<bool> {
             }
         }
     }
-    println!("stored answers: {agreed} agree, {differing} differ");
+    println!("{}: stored answers: {agreed} agree, {differing} differ", folder.display());
     Ok(differing == 0 && agreed > 0)
 }
 
@@ -106,4 +119,11 @@ fn calls_agree(case: &Case) -> Option<bool> {
     let (calls, stored) = case.calls.as_ref()?;
     let given: String = answers(&case.listing, calls).iter().map(answer_line).collect();
     Some(given == *stored)
+}
+
+fn plain_agrees(case: &Case) -> Option<bool> {
+    let (calls, stored) = case.calls.as_ref()?;
+    let mut plain = Plain::new(&listing::load(&case.listing).ok()?);
+    let answers: String = calls.iter().map(|call| answer_line(&given(&mut plain, call))).collect();
+    Some(answers == *stored)
 }

@@ -1,7 +1,9 @@
 //! The walk: instants on a tree of routines, without a queue.
 
 use crate::listing::{Child, Instruction, Piece, Program};
+use crate::signs::made;
 use std::collections::BTreeMap;
+use std::ops::RangeInclusive;
 
 /// The number of a question.
 pub type Number = u32;
@@ -14,6 +16,10 @@ pub const DEEPEST_LEVEL: usize = 10;
 pub const MOST_LIVE: usize = 64;
 /// "12 Is the allowance 1 to 1,000,000?"
 pub const MOST_STEPS: u32 = 1_000_000;
+/// The numbers that stop a machine: 13 to 17, and 18 of document 02's Change 2.
+pub const STOPS: RangeInclusive<Number> = 13..=18;
+/// All numbers: 0, the refusals and the stops.
+pub const NUMBERS: usize = 19;
 
 /// "Each variable has at most one waiting write": moment due and value.
 #[derive(Clone, Copy, Debug, Default, PartialEq)]
@@ -290,7 +296,7 @@ impl<'a> Walk<'a> {
             self.count_step()?;
             live.at = match self.instruction(live) {
                 Instruction::Set { name, value } => {
-                    let value = self.value(live, value);
+                    let value = self.value(live, value)?;
                     self.machine.write(live.names[*name], value);
                     live.at + 1
                 }
@@ -299,8 +305,10 @@ impl<'a> Walk<'a> {
                     self.machine.cell(live.names[*name]).waiting = Some(waiting);
                     live.at + 1
                 }
-                Instruction::Unless { test, target } if self.value(live, test) == 0 => *target,
-                Instruction::Unless { .. } => live.at + 1,
+                Instruction::Unless { test, target } => match self.value(live, test)? {
+                    0 => *target,
+                    _ => live.at + 1,
+                },
                 Instruction::Go { target } => *target,
                 // "A wait reached now sleeps, even if its name was written earlier in this
                 // instant."
@@ -326,14 +334,16 @@ impl<'a> Walk<'a> {
         Ok(())
     }
 
+    /// "18: is every divisor other than 0? Asked .. at `A` before 16, delay first."
     /// "16 At `A`: is the delay at least 1?" "17 At `A`: is the due moment below 2 to the 64?"
     fn waiting_write(&self, live: &Live, delay: &[Piece], value: &[Piece]) -> Result<(u64, i32), Number> {
-        let delay = self.value(live, delay);
+        let delay = self.value(live, delay)?;
+        let value = self.value(live, value)?;
         if delay < 1 {
             return Err(16);
         }
         let due = self.machine.moment.checked_add(delay as u64).ok_or(17u32)?;
-        Ok((due, self.value(live, value)))
+        Ok((due, value))
     }
 
     /// "At `F` all children exist and all `v` values are copied before the first child runs."
@@ -366,28 +376,22 @@ impl<'a> Walk<'a> {
         self.machine.cells[&live.names[name]].written
     }
 
-    /// "Sums, differences and products wrap at 32 bits, two's complement; `<` gives 1 or 0."
-    fn value(&self, live: &Live, pieces: &[Piece]) -> i32 {
+    /// "Evaluating can now fail": with 18, at the first divisor that is 0, whatever becomes of the quotient.
+    fn value(&self, live: &Live, pieces: &[Piece]) -> Result<i32, Number> {
         let mut held: Vec<i32> = Vec::new();
         for piece in pieces {
             let value = match *piece {
                 Piece::Literal(value) => value,
                 Piece::Value(name) => self.machine.cells[&live.names[name]].value,
                 Piece::Written(name) => i32::from(self.written(live, name)),
-                Piece::Plus => two(&mut held, i32::wrapping_add),
-                Piece::Minus => two(&mut held, i32::wrapping_sub),
-                Piece::Times => two(&mut held, i32::wrapping_mul),
-                Piece::Less => two(&mut held, |left, right| i32::from(left < right)),
+                sign => {
+                    let right = held.pop().expect("a second value");
+                    let left = held.pop().expect("a first value");
+                    made(sign, left, right).ok_or(18u32)?
+                }
             };
             held.push(value);
         }
-        held[0]
+        Ok(held[0])
     }
-}
-
-/// Takes the two values held last, the later one being the right side.
-fn two(held: &mut Vec<i32>, of: fn(i32, i32) -> i32) -> i32 {
-    let right = held.pop().expect("a second value");
-    let left = held.pop().expect("a first value");
-    of(left, right)
 }

@@ -34,7 +34,7 @@
  * WHAT A CALL LEAVES.
  * - 0: as told at each function.
  * - 1 to 12, a refusal: all lent memory as it was; the other figures of the result 0.
- * - 13 to 17, a stop: the machine's first word is the number and its other 12,287 words
+ * - 13 to 18, a stop: the machine's first word is the number and its other 12,287 words
  *   are 0; the output lists as they were; the other figures of the result 0. Only a
  *   start makes a stopped machine run again.
  *
@@ -50,11 +50,13 @@
  *     alike       1,880       22 us for two such machines
  *     look      not measured; it puts the questions of an alike to one machine
  *
- * A step takes 6 to 40 ns with expressions of up to 73 pieces, 0.9 us if it writes a
- * variable on which 49 routines wait four times each, and 8 us, the most that was
- * found, if it evaluates an expression of 4,093 pieces. A call makes no more steps than
- * its allowance, so the allowance bounds its time: 10,000 such steps take 80 ms. The
- * stack does not depend on the contents: no function of the archive calls itself.
+ * A step takes 6 to 40 ns in the benchmark's loops without divisions, with expressions
+ * of up to 73 pieces, 0.9 us if it writes a variable on which 49 routines wait four times
+ * each, and 8 us if it evaluates an expression of 4,093 pieces without divisions. If
+ * every sign divides it is 9 us, the most that was found (a chain of / in 4,091 pieces;
+ * of % 8 us), measured on AMD EPYC, x86-64, alone. A call makes no more steps than its
+ * allowance, so the allowance bounds its time: 10,000 such steps take 90 ms. The stack
+ * does not depend on the contents: no function of the archive calls itself.
  */
 #ifndef FABRWENT_H
 #define FABRWENT_H
@@ -73,7 +75,7 @@ extern "C" {
  * MINOR if something is added. The archive has no version of its own: keep both of one
  * installation. */
 #define FABRWENT_VERSION_MAJOR 1
-#define FABRWENT_VERSION_MINOR 1
+#define FABRWENT_VERSION_MINOR 2
 #define FABRWENT_VERSION (FABRWENT_VERSION_MAJOR * 1000 + FABRWENT_VERSION_MINOR)
 
 /* ---- Lengths ---------------------------------------------------------------------- */
@@ -92,7 +94,7 @@ extern "C" {
 
 /* Each result has a number, which is 0 if the call went through, and a place, which is 0
  * but for numbers 2 to 5 of a load, where it is the line, from 1. The questions are put
- * in this order, and the first no is the number. */
+ * in this order, but 18 after 13 and before 16, and the first no is the number. */
 enum fabrwent_number {
     FABRWENT_OK = 0,
     /* every call: a lent memory is too short, or the two input lists are not equally long */
@@ -130,11 +132,14 @@ enum fabrwent_number {
     /* the same: a delay below 1 */
     FABRWENT_STOP_DELAY = 16,
     /* the same: a due moment of 2 to the 64 or more */
-    FABRWENT_STOP_MOMENT = 17
+    FABRWENT_STOP_MOMENT = 17,
+    /* the same: a divisor of 0 in an expression of S, A or U, whatever becomes of the
+     * quotient */
+    FABRWENT_STOP_DIVISOR = 18
 };
 /* The stops: from the first to the last of them. */
 #define FABRWENT_FIRST_STOP FABRWENT_STOP_STEPS
-#define FABRWENT_LAST_STOP FABRWENT_STOP_MOMENT
+#define FABRWENT_LAST_STOP FABRWENT_STOP_DIVISOR
 
 /* ---- Results ---------------------------------------------------------------------- */
 
@@ -196,7 +201,7 @@ fabrwent_loaded fabrwent_load(const uint8_t *listing, size_t listing_bytes,
  * old words do not matter. With 0 its first 12,288 words are the new machine, and the
  * first `listed` places of the two output lists hold the outputs written in the instant:
  * number (the name's number in main) and final value, rising by number; places after
- * them stay as they were. Questions 1, 6, 12; then 13 to 17 while it runs. */
+ * them stay as they were. Questions 1, 6, 12; then 13 to 18 while it runs. */
 fabrwent_ran fabrwent_start(const uint32_t *table, size_t table_words,
                             uint32_t *machine, size_t machine_words,
                             uint32_t *out_numbers, size_t out_numbers_places,
@@ -207,7 +212,7 @@ fabrwent_ran fabrwent_start(const uint32_t *table, size_t table_words,
  * moment, and not after the moment that the call before gave as due: the caller's clock
  * wakes it at `due`, or before that with inputs. The input lists hold number and value,
  * strictly rising by number; both empty if there is none. Lists and machine are left as
- * by the start. Questions 1, 6 to 12; then 13 to 17 while it runs. */
+ * by the start. Questions 1, 6 to 12; then 13 to 18 while it runs. */
 fabrwent_ran fabrwent_instant(const uint32_t *table, size_t table_words,
                               uint32_t *machine, size_t machine_words,
                               uint64_t t,

@@ -84,6 +84,10 @@ static void numbers_of_a_stop(void)
     expect("a delay of 0", start("P\t0\t0\nR\t-\t1\nA\t0\t#0\t#1\nE\n", 1000), FABRWENT_STOP_DELAY);
     expect("a board to the last moment", start("P\t1\t0\nR\tr\t1\nW\t0\nA\t1\t#1\t#1\nE\n", 1000), FABRWENT_OK);
     expect("past the last moment", instant(UINT64_MAX, 0, 1, 1000), FABRWENT_STOP_MOMENT);
+    expect("a divisor of 0", start("P\t0\t0\nR\t-\t1\nS\t0\t#7 0 /\nE\n", 1000), FABRWENT_STOP_DIVISOR);
+    expect("stopped by it", instant(5, 0, 0, 1000), FABRWENT_STOPPED);
+    expect("a divisor of 0, before a delay of 0", start("P\t0\t0\nR\t-\t1\nA\t0\t#0\t#7 0 %\nE\n", 1000), FABRWENT_STOP_DIVISOR);
+    expect("a divisor of 0, after the last step", start("P\t0\t0\nR\t-\t1\nG\t1\nU\t#7 0 /\t0\nE\n", 1), FABRWENT_STOP_STEPS);
 }
 
 static void null_with_nothing(void)

@@ -29,7 +29,7 @@ use Rattle.engine_new_rows.specs.NewRow.{MayDivide}
 use Rattle.engine_fill_row.specs.Filling.{MayFillMain, MayFillChild, MayFill, fills-main, fills-child, Fillable, fillable-none, fillable-next}
 use Rattle.engine_run_laws.specs.Placed.{GoesOn}
 use Rattle.engine_begin_laws.proofs.Sitting.{Hangs, at-top, under, Sits}
-use Rattle.words.proofs.ForkBits.{fork-bits-are-at-most-three}
+use Rattle.engine_fork_bits.proofs.ForkBits.{fork-bits-are-at-most-three}
 
 -- ── a row that only got more children ─────────────────────────────────────────────────────────────
 pub record Grown (before after : Row) : Type 0 where
@@ -269,6 +269,7 @@ module _ (t : List ℕ) (environment : List Variable) (fin : Rows) (T : TableFit
         let deep = bounds s used .deepest in
         let at = level-of l (A .small) in
         let calls : callsAt listing (fin p) ≡ callsAt listing (σ p) = calls-alike listing (σ p) (fin p) (G .routine) (G .place) in
+        let numbered = subst (λ (i : ℕ). i < childCount (callsAt listing (σ p))) (F .child ∙ m .child) (subst (λ (cs : List Call). (fin s) .child < childCount cs) calls (A .child)) in
         record {
           slot = sits s used .slot;
           parent = A .small;
@@ -277,16 +278,16 @@ module _ (t : List ℕ) (environment : List Variable) (fin : Rows) (T : TableFit
           live-parent = sym (G .used) ∙ A .used;
           level = e ∙ ap suc (sym at);
           names = ap length (sym (G .bindings)) ∙ (bounds p (A .used) .names ∙ (table-names t ((fin p) .routine) (on p (A .used) .routine) ∙ ap (namesOf t) (G .routine)));
-          numbered = subst (λ (i : ℕ). i < childCount (callsAt listing (σ p))) (F .child ∙ m .child) (subst (λ (cs : List Call). (fin s) .child < childCount cs) calls (A .child));
-          divides = divided l p (A .level) (G .level) at deep P (A .used) G;
+          numbered = numbered;
+          divides = divided l p (omega (arith, numbered)) (A .level) (G .level) at deep P (A .used) G;
           children = le-trans (omega (arith, seen-grown l .more)) (P .children);
           place = subst (λ (r : ℕ). (σ s) .place < sizeOf t r) (F .routine ∙ m .routine)
               (let h = on s used .next in let q = F .place ∙ m .place in omega arith);
         }
       where
-        divided : (l p : ℕ) → (fin s) .level ≡ suc ((fin p) .level) → (fin p) .level ≡ (σ p) .level → (σ p) .level ≡ l → (fin s) .level ≤ 10 →
+        divided : (l p : ℕ) → 1 ≤ childCount (callsAt listing (σ p)) → (fin s) .level ≡ suc ((fin p) .level) → (fin p) .level ≡ (σ p) .level → (σ p) .level ≡ l → (fin s) .level ≤ 10 →
             Sits listing fin environment p → (fin p) .used ≡ true → Fields (σ p) (fin p) → MayDivide σ p (childCount (callsAt listing (σ p)))
-        divided l p up same at deep P used G =
+        divided l p some up same at deep P used G =
             let three = fork-bits-are-at-most-three (childCount (callsAt listing (σ p))) in
             let b = subst (λ (n : ℕ). n + length ((fin p) .own) ≤ 16 * ((fin p) .level + 2)) (G .base) (P .base) in
             let c = subst (λ (o : List Variable). (σ p) .base + length o ≤ 16 * ((fin p) .level + 2)) (G .own) b in
@@ -295,6 +296,7 @@ module _ (t : List ℕ) (environment : List Variable) (fin : Rows) (T : TableFit
             record {
               level = omega arith;
               base = omega arith;
+              some = some;
               most = calls-at-few listing T (σ p);
               bits = omega arith;
               range = subst (λ (n : ℕ). (σ p) .low + 2 ^ n ≤ 4294967296) (G .bits) r;

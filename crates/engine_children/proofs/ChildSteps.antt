@@ -30,7 +30,7 @@ callee-small {t} h C e = omega (arith, bounds t h .few, C .callee, e)
 
 -- What a caller's division asks is said of its row alone.
 pub divides-same : {rows rows' : Rows} {me n : ℕ} → rows' me ≡ rows me → MayDivide rows me n → MayDivide rows' me n
-divides-same e D = record { level = rw e (D .level); base = rw e (D .base); most = D .most; bits = rw e (D .bits); range = rw e (D .range) }
+divides-same e D = record { level = rw e (D .level); base = rw e (D .base); some = D .some; most = D .most; bits = rw e (D .bits); range = rw e (D .range) }
 
 -- The child field has as many arguments as its routine takes.
 pub argument-count : {t : List ℕ} {names head callee count bits locals size : ℕ} → ChildStands t names head → callee ≡ word t (head + 1)

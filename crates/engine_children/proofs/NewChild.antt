@@ -25,7 +25,7 @@ use Rattle.engine_new_names.proofs.CallerNames.{caller-row-stays}
 use Rattle.engine_new_names.proofs.Passing.{fresh-variable}
 use Rattle.engine_children.proofs.ChildSteps.{argument-count}
 use Rattle.walk.specs.State.{newVariable}
-use Rattle.words.specs.ForkBits.{forkBits}
+use Rattle.engine_fork_bits.specs.ForkBits.{forkBits}
 use Rattle.walk.specs.Memory.{ownVariables}
 
 -- What each store left in block s, which was blank: the values passed, the kept words, the working words, the names.

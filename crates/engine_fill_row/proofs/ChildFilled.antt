@@ -32,7 +32,7 @@ use Rattle.engine_fill_row.specs.declared.field.Field.{Field}
 use Rattle.engine_fill_row.specs.Field.{FieldIs}
 use Rattle.engine_fill_row.specs.Row.{MayFillRow, workingRow, RowFilled, childWorking, ChildFilled}
 use Rattle.engine_fill_row.proofs.CleanFilled.{in-use, filled-slot}
-use Rattle.words.specs.ForkBits.{forkBits}
+use Rattle.engine_fork_bits.specs.ForkBits.{forkBits}
 
 -- The kept row with its working words filled in is the row of the pass.
 pub working-is-filled : (l : Listing) (caller : Caller) (c : Call) (x : Row) (s : ℕ) (q : Parent) → x .used ≡ true → x .level ≡ caller .level

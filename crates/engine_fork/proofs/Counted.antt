@@ -74,6 +74,7 @@ module _ {me : ℕ} {a b : List ℕ} {c : Block} (n : ℕ) (q : Changes me a b c
       record {
         level = rw e (d .level);
         base = rw e (d .base);
+        some = d .some;
         most = d .most;
         bits = rw e (d .bits);
         range = rw e (d .range);

@@ -7,7 +7,7 @@ use native.Mathlib.Omega.{arith}
 use native.Mathlib.Decide.{decLt}
 use lib.ListN.{length}
 use lib.Pow.{pow-pos, pow-mono, shl-exact}
-use Rattle.words.specs.ForkBits.{forkBits}
+use Rattle.engine_fork_bits.specs.ForkBits.{forkBits}
 use Rattle.engine_rows.specs.Rows.{Row, Rows}
 use Rattle.engine_rows.proofs.Priority.{fork-fits}
 use Rattle.engine_blocks.specs.Blocks.{block, variableIn, variablesIn, rowAt, rowsOf}

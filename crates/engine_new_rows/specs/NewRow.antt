@@ -7,12 +7,13 @@ use Rattle.engine_rows.specs.Rows.{Rows}
 use Rattle.engine_blocks.specs.Blocks.{Block}
 use Rattle.engine_blocks.specs.Changes.{putIn}
 use Rattle.engine_new_rows.specs.declared.rows.Parent.{Parent}
-use Rattle.words.specs.ForkBits.{forkBits}
+use Rattle.engine_fork_bits.specs.ForkBits.{forkBits}
 
 -- The caller's level, variables and priorities leave room for n children.
 pub record MayDivide (rows : Rows) (me n : ℕ) : Type 0 where
   pub level : (rows me) .level ≤ 9
   pub base : (rows me) .base + length ((rows me) .own) ≤ 192
+  pub some : 1 ≤ n
   pub most : n ≤ 8
   pub bits : forkBits n ≤ (rows me) .bits
   pub range : (rows me) .low + 2 ^ (rows me) .bits ≤ 4294967296

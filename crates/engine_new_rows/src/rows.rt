@@ -8,6 +8,7 @@ ghost use Rattle.engine_blocks.specs.Changes.{InBlock};
 ghost use Rattle.engine_new_rows.specs.NewRow.{MayDivide, ParentIs, Reaches, keptBlock, workingBlock};
 use engine_blocks::put_word;
 use engine_blocks::word_at;
+use engine_fork_bits::fork_bits;
 use machine::ASLEEP;
 use machine::BASE;
 use machine::BITS;
@@ -19,7 +20,6 @@ use machine::LOW;
 use machine::OWN;
 use machine::PARENT;
 use machine::ROUTINE;
-use words::fork_bits;
 
 // What a new routine's row takes from its parent: the parent's slot (main's is 64), the new routine's level, the address of its
 // first own variable, the lowest of the parent's priorities, the bits of each child's range.
@@ -32,7 +32,7 @@ pub struct Parent {
 }
 
 // The routine in slot `me` as the parent of n children: "A fork of n children divides its priority range by the fewest bits that
-// number n children".
+// number n children". Document 02: "Every fork takes them from a table".
 pub fn parent_of(m: &[u32], me: usize, n: u32) -> Parent
     requires { ⌜ HasMachine (now m) × (me < 64) × MayDivide (rowsOf (now m)) me n ⌝ }
     ensures { λ r. ⌜ ParentIs (rowsOf (now (m .entry))) me n r ⌝ }

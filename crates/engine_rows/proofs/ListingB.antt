@@ -15,7 +15,7 @@ use Rattle.engine_rows.specs.Engine.{RowsResult, halts, ends, firstPlace
 use Rattle.engine_rows.specs.Beginning.{ownIf, dueInRows, unmarkedRows, environmentBindings, instantOnRows, environmentCaller, mainRow, newEnvironment, startOnRows}
 use Rattle.engine_rows.specs.Records.{isWait, callsOf, noCall, chooseSlot, seen, callsAt, filledRow, filledAt, filledRows}
 use Rattle.engine_rows.specs.Order.{orderKey, beforeElse, insertInOrder, orderIf, orderBelow, walkingOrder}
-use Rattle.words.specs.ForkBits.{forkBits}
+use Rattle.engine_fork_bits.specs.ForkBits.{forkBits}
 
 -- What is seen of an outcome: the environment's variables, steps used of 100, live routines, waits passed.
 data Seen : Type 0 where

@@ -35,8 +35,8 @@ use Rattle.engine_rows.proofs.Children.{callerOn, usedBelow}
 use Rattle.engine_rows.proofs.Taking.{withRow-used, used-keep, owner-used, atPlace-used, withChildren-used, rootCount-over, rootCount-set, length-environmentWith, Keeps, Taken, taken}
 use Rattle.engine_rows.proofs.Steady.{CallsFit, Above, aboveOf, aboveUp, above-at, TableFits, SteadyRecord, Steady, steady-record, steady-set, steady-children, steady-hole}
 use Rattle.engine_rows.proofs.Outcomes.{sound-placed, Goal, filled, end-as-walk, move-in, idle-as-walk, Sound}
-use Rattle.words.specs.ForkBits.{forkBits}
-use Rattle.words.proofs.ForkBits.{fork-bits-are-at-most-three}
+use Rattle.engine_fork_bits.specs.ForkBits.{forkBits}
+use Rattle.engine_fork_bits.proofs.ForkBits.{fork-bits-are-at-most-three}
 
 module _ (listing : Listing) (now : ℕ) (triggers : Owner → List ℕ) (hi : ℕ) (T : TableFits listing) where
   module _ {G : RowsResult → Type 0} {go : RowsRunner} (j : ℕ) (whole : Result Turn) (D : Goal listing now triggers hi T j whole G go) (σ : Rows)

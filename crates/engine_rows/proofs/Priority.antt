@@ -14,8 +14,8 @@ use Rattle.walk.specs.Walk.{childCount, newRoutine, newRoutines, routineAt}
 use Rattle.engine_rows.specs.Triggers.{consIf}
 use Rattle.engine_rows.proofs.Place.{Record, width, Tree, nil, put, _⋈_, Frame, plug, memoryOf, key, ready, readyUp, willRun, erase}
 pub use Rattle.engine_rows.specs.Tree.{Range, range-nil, range-put}
-use Rattle.words.specs.ForkBits.{forkBits}
-use Rattle.words.proofs.ForkBits.{fork-bits-are-fewest}
+use Rattle.engine_fork_bits.specs.ForkBits.{forkBits}
+use Rattle.engine_fork_bits.proofs.ForkBits.{fork-bits-are-fewest}
 
 -- strictly rising, in [a, b)
 pub data Rising : ℕ → ℕ → List ℕ → Type 0 where
@@ -175,7 +175,8 @@ module _ (listing : Listing) where
 -- ── a fork's children ───────────────────────────────────────────────────────────────────────────
 
 pub bits-enough : (n : ℕ) → n ≤ 8 → n ≤ 2 ^ forkBits n
-bits-enough n h = (fork-bits-are-fewest n h) .enough
+bits-enough zero h = omega arith
+bits-enough (suc n) h = (fork-bits-are-fewest (suc n) (omega arith) h) .enough
 
 pub pow-add : (a b : ℕ) → 2 ^ (a + b) ≡ 2 ^ a * 2 ^ b
 pow-add a zero = rw (add-zero a) (sym (mul-one (2 ^ a)))

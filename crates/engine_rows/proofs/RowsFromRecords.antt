@@ -22,8 +22,8 @@ use Rattle.engine_rows.proofs.Children.{Passed}
 use Rattle.engine_rows.proofs.Steady.{nameCount, CallsFit, calls-put, TableFits, Above, aboveOf, above-at, SteadyRecord, Steady, steady-nil, steady-put, names-length, owned-few, names-near, from-field}
 use Rattle.engine_rows.proofs.Begun.{AllBegun, begun-nil, begun-put}
 use Rattle.engine_rows.proofs.Filling.{KeptRow, KeptRows, kept-nil, kept-put}
-use Rattle.words.specs.ForkBits.{forkBits}
-use Rattle.words.proofs.ForkBits.{fork-bits-are-at-most-three}
+use Rattle.engine_fork_bits.specs.ForkBits.{forkBits}
+use Rattle.engine_fork_bits.proofs.ForkBits.{fork-bits-are-at-most-three}
 
 -- ── lists of what is kept ───────────────────────────────────────────────────────────────────────
 pub record Parted (σ : Rows) (ss : List ℕ) (xs ys : List Kept) : Type 0 where

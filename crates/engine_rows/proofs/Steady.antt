@@ -22,7 +22,7 @@ use Rattle.engine_rows.proofs.Moves.{placed, focus}
 use Rattle.engine_rows.proofs.Children.{Passed, passed-nil, passed-put}
 pub use Rattle.engine_rows.specs.Steady.{CallsFit, calls-nil, calls-put, TableFits, Above, SteadyRecord, Steady, steady-nil, steady-put, SteadyTree}
 unfoldable pub use Rattle.engine_rows.specs.Steady.{nameCount, aboveMain, aboveOf}
-use Rattle.words.specs.ForkBits.{forkBits}
+use Rattle.engine_fork_bits.specs.ForkBits.{forkBits}
 use Rattle.walk_laws.proofs.AtRest.{length-own}
 
 -- ── what children see of their parent ───────────────────────────────────────────────────────────

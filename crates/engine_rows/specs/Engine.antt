@@ -14,7 +14,7 @@ use Rattle.walk.specs.Walk.{routineAt, instructionAt, childCount, branchPlace}
 use Rattle.engine_rows.specs.Rows.{Owner, inSlot, Row, Rows, freeRow, withRow, atPlace, withChildren, variableOf, rowsWith, environmentWith, ownerOf, named}
 use Rattle.engine_rows.specs.Ready.{insertAll}
 use Rattle.engine_rows.specs.Triggers.{triggered}
-use Rattle.words.specs.ForkBits.{forkBits}
+use Rattle.engine_fork_bits.specs.ForkBits.{forkBits}
 use Rattle.walk.specs.Memory.{evaluateBy, ownVariables}
 
 -- Stopped under a number; or ended, with rows, environment, steps left, live routines and waits passed.
@@ -97,7 +97,7 @@ pub record Caller : Type 0 where
   pub bindings : List Owner
   pub name : ℕ → Variable
 
--- The routine in slot `me` as the caller of n children: "divides its priority range by the fewest bits that number n children".
+-- The routine in slot `me` as the caller of n children: "divides its priority range by the fewest bits that number n children", which stand in a table.
 unfoldable pub callerAt : Rows → List Variable → ℕ → ℕ → Caller
 callerAt rows environment me n =
     let r = rows me in

@@ -12,7 +12,7 @@ use Rattle.walk.specs.Instant.{environmentSize, environmentNames, mainCall}
 use Rattle.walk.specs.Question7.{ownedBy, boundNames}
 use Rattle.engine_rows.specs.Records.{callsOf, noCall}
 use Rattle.engine_rows.specs.Tree.{Record, Tree, nil, put}
-use Rattle.words.specs.ForkBits.{forkBits}
+use Rattle.engine_fork_bits.specs.ForkBits.{forkBits}
 
 -- as many arguments as letters, each a name of the caller
 pub data Passed (n : ℕ) : List Kind → List ℕ → Type 0 where

@@ -56,7 +56,7 @@ module _ {t m : List ℕ} {u : Running} (may : MayStep t m u) where
         slot = may .slot;
         live = may .live;
         fields = λ j h. rw (may .names) (fs .children j h);
-        divides = may .divides _ (fs .most);
+        divides = may .divides _ (fs .some) (fs .most);
         most = fs .most;
         counted = may .counted;
         room = may .room;

@@ -39,7 +39,7 @@ use Rattle.engine_run_laws.specs.Placed.{GoesOn, Placed}
 use Rattle.engine_run_laws.proofs.Reaching.{ordered-of-rise, slots-of-order}
 use Rattle.engine_run_laws.proofs.ReadyLive.{live-few, ready-live}
 use Rattle.engine_run_laws.proofs.Parents.{parent-apart, parent-children}
-use Rattle.words.proofs.ForkBits.{fork-bits-are-at-most-three}
+use Rattle.engine_fork_bits.proofs.ForkBits.{fork-bits-are-at-most-three}
 
 module _ (t w : List ℕ) (n moment : ℕ) (triggers : Owner → List ℕ) (T : TableFits (tableListing t)) (left : ℕ) (u : Running) (table : isTable t ≡ true)
     (R : Reached (tableListing t) moment triggers T left (rowsOf w) (environmentOf n w) (slotsOf (u .ready)) (u .live) (u .woken) (u .me)) where
@@ -85,9 +85,9 @@ module _ (t w : List ℕ) (n moment : ℕ) (triggers : Owner → List ℕ) (T : 
           small _ (placed .parent _
               (parent-children (tableListing t) moment triggers T left (rowsOf w) (environmentOf n w) (slotsOf (u .ready)) (u .live) (u .woken) (u .me) R k e)),
         );
-        divides = λ k few level.
+        divides = λ k some few level.
             let b = fork-bits-are-at-most-three k in let c = bits-left in let d = bound-by .base in
-            record { level = level; base = omega arith; most = few; bits = omega arith; range = bound-by .priorities };
+            record { level = level; base = omega arith; some = some; most = few; bits = omega arith; range = bound-by .priorities };
         counted = R .sound .used;
         room = bound-by .room;
         waiting =

@@ -30,7 +30,7 @@ pub record MayStep (t words : List ℕ) (u : Running) : Type 0 where
   pub names : length (bindingsOf words (u .me)) ≡ namesOf t ((rowsOf words (u .me)) .routine)
   pub parent : (k : ℕ) → (rowsOf words (u .me)) .level ≡ suc k →
       ((rowsOf words (u .me)) .parent < 64) × (suc ((rowsOf words ((rowsOf words (u .me)) .parent)) .place) < 4294967296)
-  pub divides : (n : ℕ) → n ≤ 8 → (rowsOf words (u .me)) .level ≤ 9 → MayDivide (rowsOf words) (u .me) n
+  pub divides : (n : ℕ) → 1 ≤ n → n ≤ 8 → (rowsOf words (u .me)) .level ≤ 9 → MayDivide (rowsOf words) (u .me) n
   -- the live routines are those in use; the ready ones are among them
   pub counted : usedBelow (rowsOf words) 64 ≡ u .live
   pub room : u .live ≤ 64

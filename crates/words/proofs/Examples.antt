@@ -1,11 +1,9 @@
 -- Values that document 01 names, and those at the ends of the ranges, as the definitions give them.
 use mathlib.Core.Path.{_≡_, refl}
 use mathlib.Core.Bool.{true, false}
-use mathlib.Core.List.{[], _∷_, map}
 use lib.IntN.{pos, negℤ}
 use Rattle.words.specs.Words.{wrappingAdd, wrappingSubtract, wrappingMultiply, negated, signedLess, isPositive, signed}
 use Rattle.words.specs.Moments.{laterMoment, laterAt, laterNumber}
-use Rattle.words.specs.ForkBits.{forkBits}
 
 -- session i: "`#2147483647 #1 +` is -2147483648"
 largest-and-one : signed (wrappingAdd 2147483647 1) ≡ negℤ (pos 2147483648)
@@ -36,7 +34,3 @@ past-the-last-moment = refl
 
 the-last-moment : laterMoment 18446744073709551614 1 ≡ laterAt 18446744073709551615
 the-last-moment = refl
-
-one-to-eight-children : map forkBits (1 ∷ 2 ∷ 3 ∷ 4 ∷ 5 ∷ 6 ∷ 7 ∷ 8 ∷ []) ≡ 0 ∷ 1 ∷ 2 ∷ 2 ∷ 3 ∷ 3 ∷ 3 ∷ 3 ∷ []
-unfolding forkBits
-one-to-eight-children = refl

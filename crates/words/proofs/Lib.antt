@@ -1,6 +1,5 @@
 pub mod Congruent
 pub mod Examples
-pub mod ForkBits
 pub mod Integers
 pub mod Moments
 pub mod Products

@@ -1,10 +1,8 @@
-// The numbers of a board: words of 32 bits and their arithmetic, moments and delays, and the bits of a fork.
+// The numbers of a board: words of 32 bits and their arithmetic, moments and delays.
 // It may use the wrapping sums and differences that std supplies, and no other crate.
-pub mod fork;
 pub mod moment;
 pub mod word;
 
-pub use fork::fork_bits;
 pub use moment::Delay;
 pub use moment::Later;
 pub use moment::Moment;

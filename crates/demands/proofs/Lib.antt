@@ -3,3 +3,4 @@ pub mod Exported
 pub mod Demands
 pub mod Book
 pub mod Division
+pub mod ForkBits

@@ -34,7 +34,7 @@ pub the-papers-example :
 unfolding forkBits
 the-papers-example = ((refl, refl), (refl, refl))
 
--- "Every fork takes them from a table." The scheduler makes every child but main in one of two ways, and hands both the number of the fork's child fields.
+-- "Every fork takes them from a table." A routine other than main gets its row in one of two ways; to both the number of the fork's child fields is handed.
 module _ (listing : Listing) (rows : Rows) (environment : List Variable) where
   -- A fork of the routine in slot me with the child fields cs makes its child number i, from field c (engine_rows specs Engine `forkRows`).
   pub a-new-child-has-its-pair : (now me : ℕ) (cs : List Call) (c : Call) (i : ℕ) →

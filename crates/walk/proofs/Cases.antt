@@ -154,9 +154,6 @@ visits-go-as-stated = refl
 -- ── rules 1 and 4: waiting writes ─────────────────────────────────────────────────────────────────
 abbrev pub waitingWrites : List Case
 waitingWrites =
-    case "an input leaves the waiting write there"
-    "P|1|1\nR|rr|0\nA|0|#5|#8\nW|0\nS|1|0\nW|0\nS|1|0\nE\n"
-    (did 2 [] (moment 5)) (pressed 3 2 ⇒ did 2 (1 ≔ 2 ∷ []) (moment 5) ∷ tick 5 ⇒ did 2 (1 ≔ 8 ∷ []) never ∷ []) ∷
     case "S leaves the waiting write there"
     "P|0|1\nR|r|0\nA|0|#5|#1\nS|0|#4\nE\n"
     (did 3 (0 ≔ 4 ∷ []) (moment 5)) (tick 5 ⇒ did 0 (0 ≔ 1 ∷ []) never ∷ []) ∷

@@ -2,6 +2,7 @@ pub mod Paper
 pub mod Cases
 pub mod StopCases
 pub mod DivisionCases
+pub mod PressCases
 pub mod SessionCases
 pub mod CallCases
 pub mod Question7Cases

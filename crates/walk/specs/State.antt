@@ -25,12 +25,13 @@ noVariable = record { value = 0; written = false; waiting = idle }
 unfoldable pub newVariable : ℕ → ℕ → Variable
 newVariable now v = record { value = v; written = false; waiting = idle }
 
--- A write: the new value, the mark; "`S` and inputs leave [the waiting write] there".
+-- A write by `S`: the new value, the mark; "`S` .. leave[s the waiting write] there".
 unfoldable pub writtenTo : ℕ → Variable → ℕ → Variable
 writtenTo now x v = record { value = v; written = true; waiting = x .waiting }
 
+-- Document 02, Change 4: "An input now drops any waiting write on its variable; `S` still doesn't."
 unfoldable pub inputTo : ℕ → Variable → ℕ → Variable
-inputTo now x v = writtenTo now x v
+inputTo now x v = record { value = v; written = true; waiting = idle }
 
 -- A waiting write of v due at t: "a new `A` on it replaces the old one, earlier or later".
 unfoldable pub scheduledOn : Variable → ℕ → ℕ → Variable

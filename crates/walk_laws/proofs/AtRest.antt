@@ -85,8 +85,8 @@ unfolding writeAt steady writtenTo
 write-steady now xs a v h l = set-steady now xs a _ h (rw (lt-ltb _ _ l, waiting-is-later now xs a h))
 
 pub input-steady : (now : ℕ) (xs : List Variable) (a v : ℕ) → allSteady now xs ≡ true → v < 4294967296 → allSteady now (inputAt now xs a v) ≡ true
-unfolding inputAt inputTo writtenTo steady
-input-steady now xs a v h l = set-steady now xs a _ h (rw (lt-ltb _ _ l, waiting-is-later now xs a h))
+unfolding inputAt inputTo steady dueAfter
+input-steady now xs a v h l = set-steady now xs a _ h (rw (lt-ltb _ _ l))
 
 pub schedule-steady : (now : ℕ) (xs : List Variable) (a t v : ℕ) → allSteady now xs ≡ true → now < t → t < 18446744073709551616 → v < 4294967296 →
     allSteady now (scheduleAt xs a t v) ≡ true

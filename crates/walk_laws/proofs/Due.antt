@@ -37,7 +37,7 @@ unfolding earlierOf
 one-of-two true m n t p q = p
 one-of-two false m n t p q = q
 
-earlier-not-before : (t : ℕ) (x y : NextDue) → dueBefore x t ≡ false → dueBefore y t ≡ false → dueBefore (earlier x y) t ≡ false
+pub earlier-not-before : (t : ℕ) (x y : NextDue) → dueBefore x t ≡ false → dueBefore y t ≡ false → dueBefore (earlier x y) t ≡ false
 unfolding earlier
 earlier-not-before t never y p q = q
 earlier-not-before t (moment m) never p q = p

@@ -1,5 +1,6 @@
 pub mod Booleans
 pub mod Failing
+pub mod Presses
 pub mod Results
 pub mod Steps
 pub mod Bound

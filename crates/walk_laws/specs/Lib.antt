@@ -1,4 +1,5 @@
 pub mod Division
+pub mod Presses
 pub mod Stops
 pub mod Causes
 pub mod TraceText

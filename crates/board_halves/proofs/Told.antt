@@ -3,19 +3,21 @@
 use mathlib.Core.Path.{_≡_, refl, sym, ap, ap₂, _∙_}
 use mathlib.Core.Bool.{Bool, true, false}
 use mathlib.Core.List.{List, [], _∷_, _++_}
+use mathlib.Core.Option.{Option, some}
 use Prim.Native.Nat.{ℕ, zero, suc, _≤_}
 use native.Mathlib.Omega.{arith}
 use Rattle.listing.specs.Listing.{Listing}
 use Rattle.walk.specs.State.{Result, stop, ok}
 use Rattle.walk.specs.Instant.{Done}
-use Rattle.walk.specs.Calls.{Machine, halted, running, isStop, Outcome, refused, stopped, done, outcomeNumber, ask, unstopped, answered, instantFrom}
+use Rattle.walk.specs.Calls.{Layout, firstWords, Machine, halted, running, isStop, Outcome, refused, stopped, done, outcomeNumber, ask, unstopped, answered, instantFrom}
 use Rattle.walk.specs.Events.{eventsAt}
-use Rattle.walk.specs.Runs.{InstantCall, callOn, machineAfter, Answered, answersFrom, acceptedBy, accepted, timeAfter, timeFrom}
+use Rattle.walk.specs.Runs.{InstantCall, callOn, machineAfter, foundAfter, Answered, answersFrom, acceptedBy, accepted, timeAfter, timeFrom}
 use Rattle.walk.specs.Promises.{resultOf}
 use Rattle.walk.specs.Promises as Promises
 use Rattle.walk.specs.Boards.{BoardCall, asInstantCall, asInstantCalls}
-use Rattle.board_promises.specs.Sessions.{resultsOf, resultsOn, StopsAreNumbered, one-answer}
-use Rattle.board_halves.specs.Boards.{ifZero, boardAccepted, boardTime}
+use Rattle.board_promises.specs.Sessions.{resultsOf, resultsOn, StopsAreNumbered, one-answer, LeavesTheWalks, no-call, one-call}
+use Rattle.board_halves.specs.Boards.{ifZero, boardAccepted, boardTime, wordsLeft}
+use Rattle.walk_halves.specs.Halves.{machineFrom}
 use Rattle.walk_laws.proofs.Answers.{stop-is-not-0}
 
 -- ── numbers other than 0 ──────────────────────────────────────────────────────────────────────────
@@ -94,3 +96,19 @@ calls-told listing table machine m (c ∷ cs) e s =
       accepts = ap₂ _++_ (accepted-told k o refusals stops ∙ ap (λ n. ifZero n (eventsAt (k .time) (k .inputs)) []) number) (rest .accepts);
       times = λ t. ap (λ n. timeFrom n xs) (time-told k t o refusals stops ∙ ap (λ n. ifZero n (k .time) t) number) ∙ rest .times _;
     }
+
+-- The words that the calls left stand for the machine that the walk's answers leave.
+found-after : (m : Machine) (o : Outcome) → foundAfter (some m) o ≡ some (machineAfter m o)
+unfolding foundAfter machineAfter
+found-after m (refused k) = refl
+found-after m (stopped k) = refl
+found-after m (done d) = refl
+
+pub left-told : (layout : Layout) (listing : Listing) (machine : List ℕ) (m : Machine) {found : Option Machine} {cs : List BoardCall} {xs : List Answered} →
+    LeavesTheWalks layout listing found cs xs → found ≡ some m → layout .readMachine listing (firstWords machine) ≡ some m →
+    layout .readMachine listing (firstWords (wordsLeft machine cs)) ≡ some (machineFrom m xs)
+unfolding wordsLeft machineFrom
+left-told layout listing machine m no-call f e = e
+left-told layout listing machine m (one-call {c = c} {a = a} here rest) f e =
+    let after = ap (λ (x : Option Machine). foundAfter x (a .outcome)) f ∙ found-after m (a .outcome) in
+    left-told layout listing (c .machineAfter) (machineAfter m (a .outcome)) rest after (here ∙ after)

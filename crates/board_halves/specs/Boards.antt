@@ -1,13 +1,15 @@
 -- Two halves on boards: what is told of a board's run by the results that its calls gave and by the lists that they left.
 use mathlib.Core.Path.{_≡_}
 use mathlib.Core.List.{List, [], _∷_, _++_}
+use mathlib.Core.Option.{some}
 use Prim.Native.Nat.{ℕ, zero, suc}
 use Rattle.listing.specs.Listing.{Listing, Call}
 use Rattle.listing.specs.Load.{Loads}
-use Rattle.walk.specs.Calls.{Layout, inputsOf}
+use Rattle.walk.specs.State.{State}
+use Rattle.walk.specs.Calls.{Layout, running, firstWords, inputsOf}
 use Rattle.walk.specs.Events.{Event, eventsAt}
 use Rattle.walk.specs.Boards.{BoardCall, BoardRun, listedBy, boardReported}
-use Rattle.walk_halves.specs.Halves.{LetTo, onlyOf, AgreeFor}
+use Rattle.walk_halves.specs.Halves.{LetTo, onlyOf, AgreeFor, SameVariables}
 
 -- Of a call with this number the first if it is 0, else the second.
 unfoldable pub ifZero : {A : Type 0} → ℕ → A → A → A
@@ -28,6 +30,11 @@ boardTime t (c ∷ cs) = boardTime (ifZero ((c .result) .number) (c .time) t) cs
 unfoldable pub boardWrites : {layout : Layout} → BoardRun layout → List Event
 boardWrites run = listedBy 0 (run .result) (run .numbers) (run .values) ++ boardReported (run .calls)
 
+-- The machine's words that the last call left.
+unfoldable pub wordsLeft : List ℕ → List BoardCall → List ℕ
+wordsLeft machine [] = machine
+wordsLeft machine (c ∷ cs) = wordsLeft (c .machineAfter) cs
+
 -- A board's run on a listing let to these growers: "A run is a halved listing loaded with number 0, a start on its table with number 0,
 -- and then any list of instant calls, refused ones too."
 pub record BoardRunFor (growers : List Call) (listing : Listing) {layout : Layout} (run : BoardRun layout) : Type 0 where
@@ -42,3 +49,9 @@ pub record BoardsAgree (c : Call) (listing listing′ : Listing) {layout layout�
   pub listings : AgreeFor c listing listing′
   pub accepted : onlyOf c (boardAccepted (run .calls)) ≡ onlyOf c (boardAccepted (run′ .calls))
   pub time : boardTime 0 (run .calls) ≡ boardTime 0 (run′ .calls)
+
+-- Where the words that both runs left stand for states, the grower's inputs and outputs are equal in the two, in value and in waiting write.
+abbrev pub SameOnBoards : Call → Listing → Listing → {layout layout′ : Layout} → BoardRun layout → BoardRun layout′ → Type 0
+SameOnBoards c listing listing′ {layout} {layout′} run run′ = (s s′ : State) →
+    layout .readMachine listing (firstWords (wordsLeft (run .machine) (run .calls))) ≡ some (running s) →
+    layout′ .readMachine listing′ (firstWords (wordsLeft (run′ .machine) (run′ .calls))) ≡ some (running s′) → SameVariables c s s′

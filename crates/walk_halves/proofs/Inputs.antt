@@ -7,14 +7,14 @@ use Prim.Native.Nat.{ℕ, zero, suc, _≤_, _<_}
 use native.Mathlib.Omega.{arith}
 use borrow.Author.Tests.{ltb-true}
 use lib.Dec.{ltb, leb}
-use lib.ListN.{length, take, length-set, List·getD-append}
+use lib.ListN.{length, take, length-set}
 use lib.Seq.{set-append-left}
-use Rattle.walk.specs.State.{Variable, noVariable, inputTo, writtenTo}
-use Rattle.walk.specs.Memory.{variableAt, inputAt}
-use Rattle.walk.specs.Instant.{dueWrites, Write, applyInputs, unmarked, dueOfVariables}
+use Rattle.walk.specs.State.{Variable, inputTo}
+use Rattle.walk.specs.Memory.{inputAt}
+use Rattle.walk.specs.Instant.{dueWrites, Write, applyInputs, unmarked, dueOf, dueOfVariables}
 use Rattle.walk.specs.Calls.{inputsRise}
 use Rattle.walk_laws.proofs.Booleans.{and-left, and-right}
-use Rattle.walk_halves.proofs.Due.{NotBefore, set-not-before, getD-not-before}
+use Rattle.walk_halves.proofs.Due.{NotBefore, nothing-due, set-not-before}
 
 -- ── due writes ────────────────────────────────────────────────────────────────────────────────────
 pub dueWrites-append : (t : ℕ) (m own : List Variable) → dueWrites t (m ++ own) ≡ dueWrites t m ++ dueWrites t own
@@ -41,14 +41,14 @@ length-inputs t [] m = refl
 length-inputs t (w ∷ ws) m = length-inputs t ws (inputAt t m (w .number) (w .value)) ∙ length-set m (w .number) _
 
 pub inputs-not-before : (now t : ℕ) (ws : List Write) (m : List Variable) → NotBefore t (dueOfVariables m) → NotBefore t (dueOfVariables (applyInputs now ws m))
-unfolding applyInputs inputAt inputTo writtenTo variableAt
+unfolding applyInputs inputAt inputTo dueOf
 inputs-not-before now t [] m h = h
 inputs-not-before now t (w ∷ ws) m h = inputs-not-before now t ws (inputAt now m (w .number) (w .value))
-    (set-not-before t m (w .number) _ h (getD-not-before t m (w .number) h))
+    (set-not-before t m (w .number) _ h nothing-due)
 
 input-append : (t : ℕ) (m own : List Variable) (a v : ℕ) → a < length m → inputAt t m a v ++ own ≡ inputAt t (m ++ own) a v
-unfolding inputAt inputTo writtenTo variableAt
-input-append t m own a v h = rw (List·getD-append m own noVariable a h) (sym (set-append-left m own a _ h))
+unfolding inputAt inputTo
+input-append t m own a v h = sym (set-append-left m own a _ h)
 
 pub inputs-append : (t k least : ℕ) (ws : List Write) (m own : List Variable) → inputsRise k least ws ≡ true → k ≤ length m →
     applyInputs t ws m ++ own ≡ applyInputs t ws (m ++ own)

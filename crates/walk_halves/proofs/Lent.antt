@@ -10,7 +10,7 @@ use native.Mathlib.Nat.{add-zero, add-suc, suc-add, zero-add}
 use lib.ListN.{length, getD, take, drop, set}
 use lib.Seq.{set-getD, ext-getD}
 use Rattle.listing.specs.Listing.{Call}
-use Rattle.walk.specs.State.{Variable, noVariable, newVariable, dueWrite, unmarkedOf, madeDue, inputTo, writtenTo}
+use Rattle.walk.specs.State.{Variable, noVariable, newVariable, dueWrite, unmarkedOf, madeDue, inputTo}
 use Rattle.walk.specs.Memory.{variableAt, inputAt}
 use Rattle.walk.specs.Instant.{dueWrites, Write, applyInputs, unmarked, dueOf, dueOfVariables, listedIf, writtenFrom}
 use Rattle.walk.specs.Events.{Event, eventsAt}
@@ -171,9 +171,9 @@ module _ (args : List ℕ) where
   -- ── inputs ────────────────────────────────────────────────────────────────────────────────────
   write-lent : (t : ℕ) (m : List Variable) (w : Write) (b : Bool) → among (w .number) args ≡ b →
       lent args (inputAt t m (w .number) (w .value)) ≡ applyInputs t (writeIf b w []) (lent args m)
-  unfolding inputAt inputTo writtenTo lent writeIf applyInputs shownIf
+  unfolding inputAt inputTo lent writeIf applyInputs shownIf
   write-lent t m w true e =
-      set-lentFrom 0 m (w .number) _ ∙ rw (zero-add (w .number), e, variable-lent m (w .number), e)
+      set-lentFrom 0 m (w .number) _ ∙ rw (zero-add (w .number), e)
   write-lent t m w false e =
       set-lentFrom 0 m (w .number) _ ∙ rw (zero-add (w .number), e) (ap (set (lentFrom args 0 m) (w .number)) (sym blank) ∙
       set-getD (lentFrom args 0 m) (w .number) noVariable)

@@ -1,5 +1,5 @@
 -- Two whole lists of calls: if a part of the state turns the same way at the same moments and inputs, and calls with nothing
--- for it pass it by, then equal inputs and an equal end give equal reports. No pairing of the calls is asked for.
+-- for it pass it by, then equal inputs and an equal end give equal reports and leave equal parts. No pairing of the calls is asked for.
 -- Nothing of the walk is used here: P is the part, `next` its next moment due, `Turned t i p q w` says that a call at t with
 -- inputs i takes p to q and reports w. Letters: n and m present moments, p and q parts, s and u accepted calls, ss and uu lists of them.
 use mathlib.Core.Path.{_≡_, refl, sym, ap, ap₂, _∙_, subst, subst₂}
@@ -80,6 +80,11 @@ module _ (P : Type 0) (next : P → NextDue) (Turned : ℕ → List Write → P 
   unfoldable pub endOf : ℕ → List Accepted → ℕ
   endOf n [] = n
   endOf n (s ∷ ss) = endOf (s .time) ss
+
+  -- The part that all of them leave.
+  unfoldable pub lastPart : P → List Accepted → P
+  lastPart p [] = p
+  lastPart p (s ∷ ss) = lastPart (s .part) ss
 
   pub record Follows (n : ℕ) (p : P) (s : Accepted) : Type 0 where
     pub after : n < s .time
@@ -187,11 +192,18 @@ module _ (P : Type 0) (next : P → NextDue) (Turned : ℕ → List Write → P 
       let d = determined (s .time) (s .inputs) p (s .part) (u .part) (s .reports) (u .reports) (v .0 .turned) turned in
       record { part = d .0; reports = d .1; rest = q .rest-same }
 
+  -- What two runs from the part p have in common: their reports, and the part that they leave.
+  pub record SameRun (p : P) (ss uu : List Accepted) : Type 0 where
+    pub reports : allReports ss ≡ allReports uu
+    pub part : lastPart p ss ≡ lastPart p uu
+
+  flip : (p : P) (ss uu : List Accepted) → SameRun p ss uu → SameRun p uu ss
+  flip p ss uu r = record { reports = sym (r .reports); part = sym (r .part) }
+
   decide : (n m : ℕ) (p : P) (s u : Accepted) (ss uu : List Accepted) → Follow n p (s ∷ ss) → Follow m p (u ∷ uu) →
       allInputs (s ∷ ss) ≡ allInputs (u ∷ uu) →
-      (Passed p s → allReports (s ∷ ss) ≡ allReports (u ∷ uu)) → (Passed p u → allReports (s ∷ ss) ≡ allReports (u ∷ uu)) →
-      (Same s u ss uu → allReports (s ∷ ss) ≡ allReports (u ∷ uu)) →
-      Either p (s .time) (s .inputs) → Either p (u .time) (u .inputs) → allReports (s ∷ ss) ≡ allReports (u ∷ uu)
+      (Passed p s → SameRun p (s ∷ ss) (u ∷ uu)) → (Passed p u → SameRun p (s ∷ ss) (u ∷ uu)) → (Same s u ss uu → SameRun p (s ∷ ss) (u ∷ uu)) →
+      Either p (s .time) (s .inputs) → Either p (u .time) (u .inputs) → SameRun p (s ∷ ss) (u ∷ uu)
   decide n m p s u ss uu v v′ a first second both (by x d) k = first (passed n p s (v .0) x d)
   decide n m p s u ss uu v v′ a first second both (touch j) (by x d) = second (passed m p u (v′ .0) x d)
   decide n m p s u ss uu v v′ a first second both (touch j) (touch k) =
@@ -199,32 +211,36 @@ module _ (P : Type 0) (next : P → NextDue) (Turned : ℕ → List Write → P 
       let g : s .time ≤ u .time = not-after m n p u s uu ss v′ v (sym a) k in
       both (same n m p s u ss uu v v′ a (omega arith))
 
-  more-reports : (s u : Accepted) (ss uu : List Accepted) → s .reports ≡ u .reports → allReports ss ≡ allReports uu →
-      allReports (s ∷ ss) ≡ allReports (u ∷ uu)
-  unfolding allReports
-  more-reports s u ss uu a b = ap₂ _++_ a b
+  -- A call that passes the part by, and one that touches it in both runs.
+  one-passed : (p : P) (s : Accepted) (ss uu : List Accepted) → Passed p s → SameRun p ss uu → SameRun p (s ∷ ss) uu
+  unfolding lastPart
+  one-passed p s ss uu k r = record { reports = reports-without p s ss k ∙ r .reports; part = ap (λ (x : P). lastPart x ss) (k .part) ∙ r .part }
 
-  -- The reports of two runs that begin with the same part, take the same inputs and end at the same time.
-  pub same-reports : (ss uu : List Accepted) (n m : ℕ) (p : P) → NotBefore (suc n) (next p) → NotBefore (suc m) (next p) → Follow n p ss →
+  both-touched : (p : P) (s u : Accepted) (ss uu : List Accepted) → Same s u ss uu → SameRun (s .part) ss uu → SameRun p (s ∷ ss) (u ∷ uu)
+  unfolding allReports lastPart
+  both-touched p s u ss uu h r = record { reports = ap₂ _++_ (h .reports) (r .reports); part = r .part ∙ ap (λ (x : P). lastPart x uu) (h .part) }
+
+  -- Two runs that begin with the same part, take the same inputs and end at the same time.
+  pub same-run : (ss uu : List Accepted) (n m : ℕ) (p : P) → NotBefore (suc n) (next p) → NotBefore (suc m) (next p) → Follow n p ss →
       Follow m p uu →
-      allInputs ss ≡ allInputs uu → endOf n ss ≡ endOf m uu → allReports ss ≡ allReports uu
+      allInputs ss ≡ allInputs uu → endOf n ss ≡ endOf m uu → SameRun p ss uu
   unfolding endOf
-  same-reports [] [] n m p f g v v′ a e = refl
-  same-reports [] (u ∷ uu) n m p f g v v′ a e =
+  same-run [] [] n m p f g v v′ a e = record { reports = refl; part = refl }
+  same-run [] (u ∷ uu) n m p f g v v′ a e =
       let k = rest-passes n m p u uu f v′ (unfold allInputs in a) e (either p (u .time) (u .inputs)) in
-      same-reports [] uu n (u .time) p f (made-from p u k (v′ .0 .all-made)) v (follow-from p u uu k (v′ .1)) (a ∙ inputs-without p u uu k) e ∙
-      sym (reports-without p u uu k)
-  same-reports (s ∷ ss) [] n m p f g v v′ a e =
+      flip p (u ∷ uu) [] (one-passed p u uu [] k (flip p [] uu
+      (same-run [] uu n (u .time) p f (made-from p u k (v′ .0 .all-made)) v (follow-from p u uu k (v′ .1)) (a ∙ inputs-without p u uu k) e)))
+  same-run (s ∷ ss) [] n m p f g v v′ a e =
       let k = rest-passes m n p s ss g v (unfold allInputs in sym a) (sym e) (either p (s .time) (s .inputs)) in
-      reports-without p s ss k ∙ same-reports ss [] (s .time) m p (made-from p s k (v .0 .all-made)) g (follow-from p s ss k (v .1)) v′
-      (sym (inputs-without p s ss k) ∙ a) e
-  same-reports (s ∷ ss) (u ∷ uu) n m p f g v v′ a e =
-      decide n m p s u ss uu v v′ a
-      (λ k. reports-without p s ss k ∙ same-reports ss (u ∷ uu) (s .time) m p (made-from p s k (v .0 .all-made)) g (follow-from p s ss k (v .1)) v′
+      one-passed p s ss [] k (same-run ss [] (s .time) m p (made-from p s k (v .0 .all-made)) g (follow-from p s ss k (v .1)) v′
       (sym (inputs-without p s ss k) ∙ a) e)
-      (λ k. same-reports (s ∷ ss) uu n (u .time) p f (made-from p u k (v′ .0 .all-made)) v (follow-from p u uu k (v′ .1))
-      (a ∙ inputs-without p u uu k) e ∙ sym (reports-without p u uu k))
-      (λ h. more-reports s u ss uu (h .reports) (same-reports ss uu (s .time) (u .time) (s .part) (v .0 .all-made)
+  same-run (s ∷ ss) (u ∷ uu) n m p f g v v′ a e =
+      decide n m p s u ss uu v v′ a
+      (λ k. one-passed p s ss (u ∷ uu) k (same-run ss (u ∷ uu) (s .time) m p (made-from p s k (v .0 .all-made)) g (follow-from p s ss k (v .1)) v′
+      (sym (inputs-without p s ss k) ∙ a) e))
+      (λ k. flip p (u ∷ uu) (s ∷ ss) (one-passed p u uu (s ∷ ss) k (flip p (s ∷ ss) uu
+      (same-run (s ∷ ss) uu n (u .time) p f (made-from p u k (v′ .0 .all-made)) v (follow-from p u uu k (v′ .1)) (a ∙ inputs-without p u uu k) e))))
+      (λ h. both-touched p s u ss uu h (same-run ss uu (s .time) (u .time) (s .part) (v .0 .all-made)
       (subst (λ (x : P). NotBefore (suc (u .time)) (next x)) (sym (h .part)) (v′ .0 .all-made)) (v .1)
       (subst (λ (x : P). Follow (u .time) x uu) (sym (h .part)) (v′ .1)) (h .rest) e))
       (either p (s .time) (s .inputs)) (either p (u .time) (u .inputs))

@@ -183,7 +183,7 @@ module _ (g : Grower) where
   stays t listing has (more n f) s xs k l e = quiet-visitForest (mine g) (its g) t listing has (more n f) 1 s k
       (sees-nothing-written (s .memory) xs l e)
 
-  take-trim : (f : Forest) (m : List Variable) → take (size g) (trim f m) ≡ take (size g) m
+  pub take-trim : (f : Forest) (m : List Variable) → take (size g) (trim f m) ≡ take (size g) m
   unfolding trim
   take-trim empty m = take-take (size g) (size g) m (le-refl (size g))
   take-trim (more n f) m = refl

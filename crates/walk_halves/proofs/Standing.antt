@@ -7,7 +7,7 @@ use mathlib.Core.List.{List, _++_}
 use Prim.Native.Nat.{ℕ, zero, suc, _+_}
 use native.Mathlib.Omega.{arith}
 use lib.ListN.{length, take, drop, length-drop, take-append-drop}
-use lib.Seq.{length-take-le}
+use lib.Seq.{length-take-le, take-all, take-append-le}
 use Rattle.listing.specs.Listing.{Listing, end}
 use Rattle.walk.specs.State.{Variable, Node, node, Forest, empty, more, _⊕_, State, Running, Turn, Result, ok, withLeft, frame}
 use Rattle.walk.specs.Walk.{instructionAt, sleep, leave, join, move, carryOut, execute, step, run}
@@ -22,7 +22,7 @@ use Rattle.walk_halves.proofs.Quiet.{unmarking-keeps-asleep}
 use Rattle.walk_halves.proofs.Inputs.{unmarked-append, unmarked-take}
 use Rattle.walk_halves.proofs.Lent.{lent, take-lent, unmarked-lent, later-lent, reports-lent, only-events}
 use Rattle.walk_halves.proofs.Turns.{ok-same}
-use Rattle.walk_halves.proofs.Part.{Grower, args, size, floor, mine, its, Part, nextOf, MineAsleep, trim, partAfter, reportsAfter}
+use Rattle.walk_halves.proofs.Part.{Grower, args, size, floor, mine, its, Part, nextOf, MineAsleep, trim, take-trim, partAfter, reportsAfter}
 use Rattle.walk_halves.proofs.Children.{theirs, anyone, MyTurn, Children}
 
 -- ── main's own turn: it sleeps over its children, or ends ─────────────────────────────────────────
@@ -92,6 +92,19 @@ module _ (g : Grower) (listing : Listing) where
   pub trim-ended : (f : Forest) (m : List Variable) → f ≡ empty → trim g f m ≡ take (size g) m
   unfolding trim
   trim-ended f m e = rw e
+
+  -- The environment's variables, as far as they are lent to the grower, are those of its part.
+  pub part-shows : (s : State) (p : Part) → Standing s p → take (size g) (p .variables) ≡ lent (args g) (s .environment)
+  part-shows s p st = go (st .place)
+    where
+      whole : take (size g) (s .environment) ≡ s .environment
+      whole = take-all (size g) (s .environment) (omega (arith, st .sized))
+
+      go : Place (s .environment) (s .tree) p → take (size g) (p .variables) ≡ lent (args g) (s .environment)
+      go (main-ended e f v) = ap (take (size g)) v ∙ take-lent (args g) (size g) (s .environment) ∙ ap (lent (args g)) whole
+      go (main-lives names own f₁ f₂ e l a b v) =
+          ap (take (size g)) v ∙ take-trim g (p .tree) (lent (args g) (s .environment ++ own)) ∙ take-lent (args g) (size g) (s .environment ++ own) ∙
+          ap (lent (args g)) (take-append-le (size g) (s .environment) own (omega (arith, st .sized)) ∙ whole)
 
   -- ── after the children's turns ────────────────────────────────────────────────────────────────
   beside-empty : (f h : Forest) → f ⊕ h ≡ empty → (f ≡ empty) × (h ≡ empty)

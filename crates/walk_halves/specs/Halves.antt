@@ -12,7 +12,10 @@ use Rattle.listing.specs.Questions.{isByReference}
 use Rattle.walk.specs.Instant.{Done}
 use Rattle.walk.specs.Walk.{routineAt, instructionAt}
 use Rattle.walk.specs.Events.{Event}
-use Rattle.walk.specs.Runs.{Run, Starts, acceptedInputs, reportedWrites, timeOf}
+use Rattle.walk.specs.State.{State}
+use Rattle.walk.specs.Memory.{variableAt}
+use Rattle.walk.specs.Calls.{Machine, running}
+use Rattle.walk.specs.Runs.{Run, Starts, Answered, machineAfter, answers, acceptedInputs, reportedWrites, timeOf}
 
 unfoldable pub among : ℕ → List ℕ → Bool
 among n [] = false
@@ -84,3 +87,20 @@ pub record Agree (c : Call) (run run′ : Run) (d d′ : Done) : Type 0 where
 -- "Then the two lists of the first's reported writes are equal."
 abbrev pub SameReports : Call → Run → Run → Done → Done → Type 0
 SameReports c run run′ d d′ = onlyOf c (reportedWrites run d) ≡ onlyOf c (reportedWrites run′ d′)
+
+-- ── what stands at the end of a run ───────────────────────────────────────────────────────────────
+-- The machine that the calls of a run leave: a state, unless one of them stopped it.
+unfoldable pub machineFrom : Machine → List Answered → Machine
+machineFrom m [] = m
+machineFrom m (a ∷ xs) = machineFrom (machineAfter m (a .outcome)) xs
+
+unfoldable pub machineOf : Run → Done → Machine
+machineOf run d = machineFrom (running (d .state)) (answers run d)
+
+-- A grower's inputs and outputs are equal in two states: in value and in waiting write, with its moment.
+abbrev pub SameVariables : Call → State → State → Type 0
+SameVariables c s s′ = (n : ℕ) → among n (c .arguments) ≡ true → variableAt (s .environment) n ≡ variableAt (s′ .environment) n
+
+-- Where both runs leave a state, the grower's inputs and outputs are equal in the two.
+abbrev pub SameAtEnd : Call → Run → Run → Done → Done → Type 0
+SameAtEnd c run run′ d d′ = (s s′ : State) → machineOf run d ≡ running s → machineOf run′ d′ ≡ running s′ → SameVariables c s s′

@@ -63,10 +63,14 @@ scheduledBlock i t v b = putIn (putIn (putIn b (9 + i * 6) v) (10 + i * 6) (t % 
 unfoldable pub queuedBlock : Block → Block
 queuedBlock b = putIn b 7 1
 
+-- Variable i: a write after which no waiting write is there.
+unfoldable pub overwrittenBlock : ℕ → ℕ → Block → Block
+overwrittenBlock i v b =
+    putIn (putIn (putIn (putIn (putIn b (8 + i * 6) v) (9 + i * 6) 0) (10 + i * 6) 0) (11 + i * 6) 0) (128 + i) 1
+
 -- Variable i: its waiting write made, and gone.
 unfoldable pub madeBlock : ℕ → Block → Block
-madeBlock i b =
-    putIn (putIn (putIn (putIn (putIn b (8 + i * 6) (b (9 + i * 6))) (9 + i * 6) 0) (10 + i * 6) 0) (11 + i * 6) 0) (128 + i) 1
+madeBlock i b = overwrittenBlock i (b (9 + i * 6)) b
 
 -- Variable i: not written.
 unfoldable pub unmarkedBlock : ℕ → Block → Block

@@ -8,7 +8,7 @@ use native.Mathlib.Omega.{arith}
 use lib.Dec.{eqb}
 use borrow.Author.Tests.{eq-eqb, ne-eqb}
 use Rattle.engine_blocks.specs.Blocks.{Block, block}
-use Rattle.engine_blocks.specs.Changes.{putIn, assignedBlock, scheduledBlock, queuedBlock, madeBlock, unmarkedBlock, dueBlock}
+use Rattle.engine_blocks.specs.Changes.{putIn, assignedBlock, scheduledBlock, queuedBlock, overwrittenBlock, madeBlock, unmarkedBlock, dueBlock}
 use Rattle.engine_clean.specs.Clean.{Blank, CleanBlock}
 
 -- ── one word stored ───────────────────────────────────────────────────────────────────────────────
@@ -153,16 +153,16 @@ module _ (c : ℕ) (b : Block) (i : ℕ) (within : i < c) (t : CleanBlock c b) w
   unfolding unmarkedBlock
   unmarked-clean = store-loose c b (128 + i) 0 (loose-high (128 + i) (omega arith)) t
 
-  pub made-clean : CleanBlock c (madeBlock i b)
-  unfolding madeBlock
-  made-clean =
-      let b₁ = putIn b (8 + i * 6) (b (9 + i * 6)) in
+  pub overwritten-clean : (v : ℕ) → CleanBlock c (overwrittenBlock i v b)
+  unfolding overwrittenBlock
+  overwritten-clean v =
+      let b₁ = putIn b (8 + i * 6) v in
       let b₂ = putIn b₁ (9 + i * 6) 0 in
       let b₃ = putIn b₂ (10 + i * 6) 0 in
       let b₄ = putIn b₃ (11 + i * 6) 0 in
       let apart : (k : ℕ) → (8 + i * 6 ≤ k → k < 12 + i * 6 → ⊥) → b₄ k ≡ b k = λ k n.
       then b₃ (11 + i * 6) 0 k (λ e. n (omega arith) (omega arith)) (then b₂ (10 + i * 6) 0 k (λ e. n (omega arith) (omega arith))
-      (then b₁ (9 + i * 6) 0 k (λ e. n (omega arith) (omega arith)) (then b (8 + i * 6) (b (9 + i * 6)) k (λ e. n (omega arith) (omega arith)) refl))) in
+      (then b₁ (9 + i * 6) 0 k (λ e. n (omega arith) (omega arith)) (then b (8 + i * 6) v k (λ e. n (omega arith) (omega arith)) refl))) in
       let same : SameBut i b b₄ = λ k h g s n. apart k n in
       let idles : b₄ (10 + i * 6) + b₄ (11 + i * 6) * 4294967296 ≡ 0 → b₄ (9 + i * 6) ≡ 0 =
       λ e. put-other b₃ (11 + i * 6) 0 (9 + i * 6) (λ q. omega arith) ∙ (put-other b₂ (10 + i * 6) 0 (9 + i * 6) (λ q. omega arith) ∙ put-same b₁ (9 + i * 6) 0) in
@@ -171,6 +171,10 @@ module _ (c : ℕ) (b : Block) (i : ℕ) (within : i < c) (t : CleanBlock c b) w
       store-loose c b₄ (128 + i) 1 (loose-high (128 + i) (omega arith))
       (one-variable-changed c b b₄ i within t same idles
       (quiet-still c b b₄ i within t same idles (apart 7 (λ p q. omega arith)) (λ z. omega (arith, low, high))))
+
+  pub made-clean : CleanBlock c (madeBlock i b)
+  unfolding madeBlock
+  made-clean = overwritten-clean (b (9 + i * 6))
 
   pub due-clean : (m : ℕ) → CleanBlock c (dueBlock i m b)
   unfolding dueBlock

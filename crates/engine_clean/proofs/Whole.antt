@@ -11,9 +11,9 @@ use lib.ListN.{getD}
 use borrow.Author.Tests.{lt-ltb, le-leb, ltb-true}
 use Rattle.machine.specs.Words.{blockAt}
 use Rattle.engine_blocks.specs.Blocks.{Block, block}
-use Rattle.engine_blocks.specs.Changes.{InBlock, putIn, cleared, placedBlock, assignedBlock, scheduledBlock, queuedBlock, madeBlock, unmarkedBlock, dueBlock}
+use Rattle.engine_blocks.specs.Changes.{InBlock, putIn, cleared, placedBlock, assignedBlock, scheduledBlock, queuedBlock, overwrittenBlock, madeBlock, unmarkedBlock, dueBlock}
 use Rattle.engine_clean.specs.Clean.{CleanBlock, CleanSlot, CleanEnvironment, Clean}
-use Rattle.engine_clean.proofs.Changes.{put-other, loose-low, loose-high, store-loose, assigned-clean, scheduled-clean, unmarked-clean, made-clean}
+use Rattle.engine_clean.proofs.Changes.{put-other, loose-low, loose-high, store-loose, assigned-clean, scheduled-clean, unmarked-clean, overwritten-clean, made-clean}
 
 -- ── the other blocks stay ─────────────────────────────────────────────────────────────────────────
 module _ {s : ℕ} {before after : List ℕ} {b : Block} (change : InBlock s before after b) where
@@ -95,7 +95,7 @@ module _ (b : Block) (i : ℕ) (t : CleanSlot b) (within : i < b 4) where
   unmarked-slot = working-slot b (128 + i) 0 (omega arith) with-variables t
 
   pub made-slot : CleanSlot (madeBlock i b)
-  unfolding madeBlock
+  unfolding madeBlock overwrittenBlock
   made-slot = in-use b _ with-variables (first 0 (omega arith)) (first 4 (omega arith)) (unfold madeBlock in made-clean (b 4) b i within (t .clean))
     where
       first : (k : ℕ) → k < 8 → madeBlock i b k ≡ b k
@@ -154,15 +154,19 @@ module _ (n : ℕ) (b : Block) (i : ℕ) (t : CleanEnvironment n b) (within : i 
   unmarked-environment =
       record { clean = unfold unmarkedBlock in unmarked-clean n b i within (t .clean); before = λ k h. put-other b (128 + i) 0 k (λ e. omega arith) ∙ t .before k h }
 
-  pub made-environment : CleanEnvironment n (madeBlock i b)
-  unfolding madeBlock
-  made-environment =
+  pub overwritten-environment : (v : ℕ) → CleanEnvironment n (overwrittenBlock i v b)
+  unfolding overwrittenBlock
+  overwritten-environment v =
       record {
-        clean = unfold madeBlock in made-clean n b i within (t .clean);
+        clean = unfold overwrittenBlock in overwritten-clean n b i within (t .clean) v;
         before = λ k h.
             put-other _ (128 + i) 1 k (λ e. omega arith) ∙ (put-other _ (11 + i * 6) 0 k (λ e. omega arith) ∙ (put-other _ (10 + i * 6) 0 k (λ e. omega arith) ∙
-            (put-other _ (9 + i * 6) 0 k (λ e. omega arith) ∙ (put-other b (8 + i * 6) _ k (λ e. omega arith) ∙ t .before k h))));
+            (put-other _ (9 + i * 6) 0 k (λ e. omega arith) ∙ (put-other b (8 + i * 6) v k (λ e. omega arith) ∙ t .before k h))));
       }
+
+  pub made-environment : CleanEnvironment n (madeBlock i b)
+  unfolding madeBlock
+  made-environment = overwritten-environment (b (9 + i * 6))
 
   pub due-environment : (m : ℕ) → CleanEnvironment n (dueBlock i m b)
   unfolding dueBlock

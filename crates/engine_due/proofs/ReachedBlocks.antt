@@ -9,12 +9,12 @@ use native.Mathlib.Numerals.{add-one}
 use native.Mathlib.Omega.{arith}
 use lib.ListN.{length}
 use borrow.Author.Tests.{lt-ltb}
-use Rattle.walk.specs.State.{Variable, writtenTo, madeDue}
+use Rattle.walk.specs.State.{Variable, inputTo, madeDue}
 use Rattle.engine_rows.specs.Rows.{Owner, Row, rowsWith}
 use Rattle.engine_rows.specs.Ready.{insertAll}
 use Rattle.engine_blocks.specs.Blocks.{Block, block, variableIn, ownerAt, rowAt, rowsOf, environmentOf}
 use Rattle.engine_variables.specs.Bindings.{variablesBeside}
-use Rattle.engine_blocks.specs.Changes.{InBlock, Changes, dueBlock, assignedBlock}
+use Rattle.engine_blocks.specs.Changes.{InBlock, Changes, dueBlock, overwrittenBlock}
 use Rattle.engine_blocks.specs.Store.{Store, storeOf, variableFrom, withVariable}
 use Rattle.engine_variables.proofs.Readings.{variable-of, length-variables}
 use Rattle.engine_blocks.proofs.RowChanges.{row-of}
@@ -143,16 +143,16 @@ all-reach n t {m = m} few slots first outer N =
     reaches-then (first n N) (outer n (omega arith) (rw (slots .others 64 (omega arith) (omega arith)) (N .environment)))
 
 -- ── an input ──────────────────────────────────────────────────────────────────────────────────────
-assigned-marks : (moment : ℕ) (x : Variable) (v : ℕ) → (writtenTo moment x v) .written ≡ true
-unfolding writtenTo
-assigned-marks moment x v = refl
+input-marks : (moment : ℕ) (x : Variable) (v : ℕ) → (inputTo moment x v) .written ≡ true
+unfolding inputTo
+input-marks moment x v = refl
 
 pub input-reaches : (n i v : ℕ) {m m′ q q′ : List ℕ} → i < 16 → i < n →
-    ((moment : ℕ) → Changes 64 m m′ (assignedBlock i v (block m 64)) (withVariable (ownerAt 64 i) (λ x. writtenTo moment x v))) →
+    ((moment : ℕ) → Changes 64 m m′ (overwrittenBlock i v (block m 64)) (withVariable (ownerAt 64 i) (λ x. inputTo moment x v))) →
     q′ ≡ insertAll (rowsOf m′) (triggeredFrom (rowsOf m′) 0 (triggersAt m′ 64 i)) q → Reaches n m m′ q q′
 unfolding reachedIf
 input-reaches n i v {m} {m′} {q} {q′} few l C e =
     let size = port-length n m i in
     let x = variableFrom (storeOf n m) (ownerAt 64 i) in
-    reaches-one n m m′ 64 i (λ x. writtenTo 0 x v) (omega arith) few (C 0 .store n) (C 0 .triggers) (omega arith) (λ on. assigned-marks 0 x v) q q′ true
-    (sym (assigned-marks 0 x v)) e
+    reaches-one n m m′ 64 i (λ x. inputTo 0 x v) (omega arith) few (C 0 .store n) (C 0 .triggers) (omega arith) (λ on. input-marks 0 x v) q q′ true
+    (sym (input-marks 0 x v)) e

@@ -1,4 +1,4 @@
-// Rule 1 of document 01: "Then the call's inputs are written."
+// Rule 1 of document 01: "Then the call's inputs are written." Document 02: "An input now drops any waiting write on its variable".
 ghost use mathlib.Core.Path.{_≡_};
 ghost use Prim.Native.Nat.{ℕ};
 ghost use lib.ListN.{length};
@@ -12,7 +12,7 @@ ghost use Rattle.engine_due.specs.Reaching.{Reaches};
 use engine_ready::ReadyList;
 use machine::ENVIRONMENT;
 
-// Each input by its number and value; an input leaves a waiting write there, and passes along the trigger list of its variable.
+// Each input by its number and value: it drops the waiting write on its variable, and passes along the trigger list of it.
 pub fn write_inputs(m: &mut [u32], ready: ReadyList, numbers: &[u32], values: &[u32]) -> ReadyList
     requires { ⌜ HasMachine (now m) × (length (now numbers) ≡ length (now values)) × NumbersBelow 16 (now numbers) × (Ordered (rowsOf (now m)) (slotsOf ready)) ⌝ }
     ensures { λ r. ⌜ (Ordered (rowsOf (now (m .exit))) (slotsOf r))
@@ -25,7 +25,7 @@ pub fn write_inputs(m: &mut [u32], ready: ReadyList, numbers: &[u32], values: &[
     while k < numbers.len() {
         let number = numbers[k] as usize;
         let value = values[k];
-        engine_variable_changes::assign(m, ENVIRONMENT, number, value);
+        engine_make_due::overwrite(m, ENVIRONMENT, number, value);
         woken = engine_wake_all::wake_all(m, woken, ENVIRONMENT, number);
         k += 1;
     }

@@ -16,7 +16,7 @@ use machine::WAITING;
 use machine::WRITTEN;
 use words::Moment;
 
-// A write, at any moment: the value, and the mark of this instant.
+// A write by `S`, at any moment: the value, and the mark of this instant; the waiting write stays. (An input's: engine_make_due `overwrite`.)
 pub fn assign(m: &mut [u32], s: usize, index: usize, v: u32)
     requires { ⌜ HasMachine (now m) × (s ≤ 64) × (index < 16) ⌝ }
     ensures { λ _. ⌜ ((moment : ℕ) → Changes s (now (m .entry)) (now (m .exit)) (assignedBlock index v (block (now (m .entry)) s))

@@ -44,15 +44,15 @@ mul-value c = search needs
 shared-slice-read-value : tie.Need-shared-slice-read-value Inv-loop μ-loop
 shared-slice-read-value c = search needs
 
-assign-requires : tie.Need-assign-requires Inv-loop μ-loop
-assign-requires c κs =
+overwrite-requires : tie.Need-overwrite-requires Inv-loop μ-loop
+overwrite-requires c κs =
     (search needs, search needs, c .before .before .before .before .before .before .before .before .pre .2 .below (c .before .before .before .before .loop .k) (search needs))
 
 wake-all-requires : tie.Need-wake-all-requires Inv-loop μ-loop
 wake-all-requires c κs =
     let past = c .before .before .before .before .before .before .before .before in
     let v = past .loop in
-    (search needs, search needs, past .before .before .before .before .pre .2 .below (v .k) (search needs), order-kept _ _ (slotsOf (v .woken)) (c .before .before .before .assign .ensures 0) (v .inv .2))
+    (search needs, search needs, past .before .before .before .before .pre .2 .below (v .k) (search needs), order-kept _ _ (slotsOf (v .woken)) (c .before .before .before .overwrite .ensures 0) (v .inv .2))
 
 add-k : tie.Need-add-k Inv-loop μ-loop
 add-k c = search needs
@@ -68,9 +68,9 @@ loop-again c =
     let w = c .wake-all .ensures in
     let below = past .before .before .before .before .pre .2 .below (v .k) (search needs) in (
       search needs,
-      one-more-input (now (a .numbers)) (now (a .values)) (v .k) (search needs) (search needs) (v .inv .1) (c .before .before .before .before .assign .ensures),
+      one-more-input (now (a .numbers)) (now (a .values)) (v .k) (search needs) (search needs) (v .inv .1) (c .before .before .before .before .overwrite .ensures),
       w .1,
-      λ n h. reaches-then (v .inv .3 n h) (input-reaches n _ _ below (h .below (v .k) (search needs)) (c .before .before .before .before .assign .ensures) (w .0)),
+      λ n h. reaches-then (v .inv .3 n h) (input-reaches n _ _ below (h .below (v .k) (search needs)) (c .before .before .before .before .overwrite .ensures) (w .0)),
     )
 
 same-length : tie.Need-same-length Inv-loop μ-loop
@@ -86,5 +86,5 @@ returns c =
 pub write-inputs-spec : {M : Type 1} → statement M
 write-inputs-spec =
     tie.close
-    (tie.spec Inv-loop μ-loop loop-holds mul-number shared-slice-read-number cast-number mul-value shared-slice-read-value assign-requires wake-all-requires add-k
+    (tie.spec Inv-loop μ-loop loop-holds mul-number shared-slice-read-number cast-number mul-value shared-slice-read-value overwrite-requires wake-all-requires add-k
     loop-less loop-again same-length returns)

@@ -4,3 +4,4 @@ pub mod Demands
 pub mod Book
 pub mod Division
 pub mod ForkBits
+pub mod Press

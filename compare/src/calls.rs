@@ -1,11 +1,12 @@
 //! Starts and instants as calls: the model's answer to one, and calls at random.
 
 use crate::listing::Program;
+use crate::questions::allowance_in_range;
 use crate::random::Random;
-use crate::walk::{allowance_in_range, Answer, Machine};
+use crate::walk::{Answer, Machine, Variable};
 
 /// One start (`t` none) or instant, with its two lists of inputs.
-#[derive(Clone, Debug)]
+#[derive(Clone, Debug, PartialEq)]
 pub struct Call {
     pub t: Option<u64>,
     pub numbers: Vec<u32>,
@@ -56,7 +57,7 @@ pub fn random_call(random: &mut Random, program: &Program, model: Option<&Machin
         return Call { t: None, numbers: Vec::new(), values: Vec::new(), allowance };
     }
     let (moment, due) = model.map_or((0, None), |m| (m.moment, m.due()));
-    let (numbers, values) = random_inputs(random, program.inputs);
+    let (numbers, values) = random_inputs(random, program.inputs, model);
     Call { t: Some(random_time(random, moment, due)), numbers, values, allowance }
 }
 
@@ -74,8 +75,18 @@ fn random_time(random: &mut Random, moment: u64, due: Option<u64>) -> u64 {
     }
 }
 
-fn random_inputs(random: &mut Random, inputs: usize) -> (Vec<u32>, Vec<u32>) {
-    let mut numbers: Vec<u32> = (0..inputs as u32).filter(|_| random.once_in(2)).collect();
+/// Inputs that are there, rising: those that have a waiting write, one alone, or about half of all.
+fn rising_inputs(random: &mut Random, inputs: u32, model: Option<&Machine>) -> Vec<u32> {
+    let waits = |number| model.is_some_and(|m| m.waiting(Variable::from(number)).is_some());
+    match random.below(4) {
+        0 => (0..inputs).filter(|&number| waits(number)).collect(),
+        1 if inputs > 0 => vec![random.below(inputs as usize) as u32],
+        _ => (0..inputs).filter(|_| random.once_in(2)).collect(),
+    }
+}
+
+fn random_inputs(random: &mut Random, inputs: usize, model: Option<&Machine>) -> (Vec<u32>, Vec<u32>) {
+    let mut numbers = rising_inputs(random, inputs as u32, model);
     match random.below(40) {
         0 => numbers.push(inputs as u32),
         1 => numbers.extend_from_within(..),

@@ -6,6 +6,7 @@ use crate::calls::{answer, random_call, Call};
 use crate::damage::{change_piece, change_words, stopped_form};
 use crate::layout::{machine_standing, same_state, table_program, table_words, Standing, WORDS};
 use crate::listing::{self, Program};
+use crate::presses::{Met, Presses};
 use crate::random::Random;
 use crate::texts;
 use crate::walk::{Answer, Machine, NUMBERS};
@@ -21,6 +22,8 @@ pub struct Counts {
     /// Calls on a table or machine damaged on purpose: those that still passed 6 and 7.
     pub damaged: u64,
     pub damaged_passed: u64,
+    /// Inputs that met waiting writes, in calls on machines followed from their start.
+    pub presses: Presses,
 }
 
 impl Counts {
@@ -125,11 +128,13 @@ fn tracked(
         Some(machine) => Some(machine),
         None => standing(&side.memory.machine, program),
     };
+    let met = Met::new(&call, program.inputs, model.as_ref());
     let want = answer(&call, Some(program), &mut model);
     let mut after = side.memory.clone();
     let got = made(table, &mut after, &call);
     judge(&call, &side.memory, &after, got, &want, program, model.as_ref())?;
     counted(&call, &want, counts);
+    counts.presses.count(&call, &met, &want, model.as_ref());
     side.memory = after;
     side.model = model;
     Ok(())

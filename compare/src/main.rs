@@ -1,5 +1,5 @@
-//! An independent model of document 01 and of document 02's pages and divisions, compared with stored answers, with the
-//! library and with a session program; and the benchmark. See README.md beside Cargo.toml.
+//! An independent model of document 01 and of document 02's pages, divisions and presses, compared with stored answers,
+//! with the library and with a session program; and the benchmark. See README.md beside Cargo.toml.
 
 // Without the library only a part of the commands is there.
 #![cfg_attr(not(feature = "archive"), allow(dead_code))]
@@ -14,6 +14,7 @@ mod bench_pages;
 mod bench_queue;
 #[cfg(feature = "archive")]
 mod board;
+mod call_lists;
 mod calls;
 #[cfg(feature = "archive")]
 mod clock;
@@ -35,7 +36,9 @@ mod plain;
 #[cfg(feature = "archive")]
 mod plain_page;
 mod played;
+mod presses;
 mod programs;
+mod questions;
 mod queues;
 mod random;
 #[cfg(feature = "archive")]
@@ -53,7 +56,8 @@ use std::process::exit;
 
 const USAGE: &str = "usage: compare vectors FOLDER..
        compare data EXAMPLES OUT ADDED FOLDER [ADDED FOLDER]..
-                                              (the cases of FOLDER, ADDED put to their numbers)
+                                              (the cases of FOLDER, ADDED put to their numbers; a later folder's
+                                              stand for the same ones of an earlier, its base/ corrects the first)
        compare session LISTING TRACE          (the model's print)
        compare answers [COUNT [SEED]]         (built with the library)
        compare bench [DATE]                   (built with the library)

@@ -3,6 +3,7 @@
 use crate::calls::{answer, random_call, Call};
 use crate::listing;
 use crate::plain::Plain;
+use crate::presses::{Met, Presses};
 use crate::random::Random;
 use crate::texts;
 use crate::walk::{Answer, NUMBERS};
@@ -10,6 +11,7 @@ use crate::walk::{Answer, NUMBERS};
 /// So many answers; says whether all agreed.
 pub fn run(answers: u64, seed: u64) -> bool {
     let mut numbers = [0; NUMBERS];
+    let mut presses = Presses::default();
     let (mut compared, mut programs) = (0, 0);
     let mut one = seed;
     while compared < answers {
@@ -23,6 +25,7 @@ pub fn run(answers: u64, seed: u64) -> bool {
                 if k == 0 {
                     call = Call { t: None, numbers: Vec::new(), values: Vec::new(), allowance: 10_000 };
                 }
+                let met = Met::new(&call, program.inputs, model.as_ref());
                 let want = answer(&call, Some(&program), &mut model);
                 let got = given(&mut plain, &call);
                 if got != want {
@@ -30,6 +33,7 @@ pub fn run(answers: u64, seed: u64) -> bool {
                     println!("{}", String::from_utf8_lossy(&listing::text(&program)));
                     return false;
                 }
+                presses.count(&call, &met, &want, model.as_ref());
                 numbers[want.number as usize] += 1;
                 compared += 1;
             }
@@ -37,6 +41,7 @@ pub fn run(answers: u64, seed: u64) -> bool {
         one += 1;
     }
     println!("plain queue engine: {compared} answers on {programs} programs agree with the model");
+    presses.print();
     for (number, times) in numbers.iter().enumerate().filter(|(_, &times)| times > 0) {
         println!("{number:>6} {times:>10}");
     }

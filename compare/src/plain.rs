@@ -145,7 +145,7 @@ impl Plain {
             self.write(variable as usize, value);
         }
         for (&number, &value) in numbers.iter().zip(values) {
-            self.write(ENVIRONMENT + number as usize, value as i32);
+            self.press(ENVIRONMENT + number as usize, value as i32);
         }
         let went = self.run(None);
         self.close(allowance, went)
@@ -178,6 +178,12 @@ impl Plain {
         let variable = &mut self.variables[v % VARIABLES];
         (variable.value, variable.written) = (value, self.count);
         self.triggers.wake(variable.first, None, &mut self.ready);
+    }
+
+    /// An input: a write that drops the variable's waiting write. The heap knows its place in it, or that it has none.
+    fn press(&mut self, v: usize, value: i32) {
+        self.waiting.drop_variable(v as u16);
+        self.write(v, value);
     }
 
     /// Runs this routine, then the ready ones, until none is left.

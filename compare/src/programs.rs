@@ -20,6 +20,7 @@ pub fn program(random: &mut Random) -> Program {
         2..=5 => halved(random),
         6..=9 => ordered(random),
         10..=12 => shares(random),
+        13..=17 => timers(random),
         _ => common(random),
     }
 }
@@ -119,8 +120,14 @@ fn delay(random: &mut Random, names: usize) -> Vec<Piece> {
         0 => vec![Piece::Literal(i32::MAX)],
         1 => expression(random, names),
         2 => division(random, names),
+        3..=8 => long_delay(random),
         _ => vec![Piece::Literal(1 + random.below(9) as i32)],
     }
+}
+
+/// Long enough that calls come before the moment due.
+fn long_delay(random: &mut Random) -> Vec<Piece> {
+    vec![Piece::Literal(1 + random.below(40) as i32)]
 }
 
 /// A postfix expression of up to 8 held values.
@@ -197,6 +204,60 @@ fn shares(random: &mut Random) -> Program {
     code.push(Instruction::Go { target: 0 });
     let main = Routine { by_reference: vec![true; arguments], locals: names - arguments, code };
     Program { inputs, outputs, routines: vec![main] }
+}
+
+/// Waiting writes on the inputs' own names, by main or by children in which several names may be one variable.
+fn timers(random: &mut Random) -> Program {
+    let most = if random.once_in(2) { 12 } else { 3 };
+    let (inputs, outputs) = (1 + random.below(most), 1 + random.below(2));
+    let arguments = inputs + outputs;
+    let mut main = Routine { by_reference: vec![true; arguments], locals: 0, code: Vec::new() };
+    let children = random.below(6).saturating_sub(2);
+    if children == 0 {
+        main.code = timer(random, inputs, arguments);
+        return Program { inputs, outputs, routines: vec![main] };
+    }
+    let mut routines = vec![main];
+    let mut fields = Vec::new();
+    for routine in 1..=children {
+        let names = 1 + random.below(5);
+        let by_reference = (0..names).map(|_| !random.once_in(6)).collect();
+        routines.push(Routine { by_reference, locals: random.below(2), code: timer(random, names, names) });
+        fields.push(Child { routine, names: (0..names).map(|_| input_mostly(random, inputs, arguments)).collect() });
+    }
+    routines[0].code = vec![Instruction::Fork { children: fields }, Instruction::End];
+    Program { inputs, outputs, routines }
+}
+
+/// Timers set before the first wait, and others set anew after each; of `names` names the first are inputs.
+fn timer(random: &mut Random, inputs: usize, names: usize) -> Vec<Instruction> {
+    let first = if random.once_in(3) { random.below(inputs + 1) } else { inputs };
+    let mut code: Vec<Instruction> = (0..first).map(|name| set_timer(random, name, names)).collect();
+    let wait = code.len();
+    code.push(Instruction::Wait {
+        names: (0..1 + random.below(4)).map(|_| input_mostly(random, inputs, names)).collect(),
+    });
+    for _ in 0..random.below(4) {
+        code.push(match random.below(4) {
+            0 => Instruction::Set { name: random.below(names), value: expression(random, names) },
+            1 => Instruction::Unless { test: expression(random, names), target: wait },
+            _ => {
+                let name = input_mostly(random, inputs, names);
+                set_timer(random, name, names)
+            }
+        });
+    }
+    code.push(if random.once_in(12) { Instruction::End } else { Instruction::Go { target: wait } });
+    code
+}
+
+fn set_timer(random: &mut Random, name: usize, names: usize) -> Instruction {
+    Instruction::After { name, delay: long_delay(random), value: vec![operand(random, names)] }
+}
+
+fn input_mostly(random: &mut Random, inputs: usize, names: usize) -> usize {
+    let below = if random.once_in(4) { names } else { inputs };
+    random.below(below)
 }
 
 fn operand(random: &mut Random, names: usize) -> Piece {

@@ -19,6 +19,7 @@ pub fn run(answers: u64, seed: u64) -> bool {
     }
     println!("cases {cases} from seed {seed}, answers {}, {:.0} s", counts.answers(), began.elapsed().as_secs_f64());
     println!("damaged words: {} calls, of which {} still passed 6 and 7", counts.damaged, counts.damaged_passed);
+    counts.presses.print();
     println!("{:>6} {:>10} {:>10} {:>10} {:>10} {:>10}", "number", "load", "start", "instant", "alike", "look");
     for number in 0..NUMBERS {
         let row =

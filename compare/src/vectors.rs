@@ -8,7 +8,7 @@ use crate::plain::Plain;
 use crate::session::session;
 use crate::walk::Answer;
 use std::fs;
-use std::path::Path;
+use std::path::{Path, PathBuf};
 
 /// One stored case.
 pub struct Case {
@@ -22,15 +22,25 @@ pub struct Case {
 
 /// All cases of a folder, by name.
 pub fn cases(folder: &Path) -> std::io::Result<Vec<Case>> {
+    corrected_cases(folder, &[])
+}
+
+/// All cases of a folder, by name, with the corrections' files in place of those of the same name.
+pub fn corrected_cases(folder: &Path, corrections: &[PathBuf]) -> std::io::Result<Vec<Case>> {
     let mut names: Vec<String> = fs::read_dir(folder)?
         .filter_map(|entry| entry.ok()?.file_name().into_string().ok()?.strip_suffix(".listing").map(str::to_string))
         .collect();
     names.sort();
-    names.into_iter().map(|name| case(folder, name)).collect()
+    let file = |file: String| {
+        let corrected = corrections.iter().rev().map(|correction| correction.join(&file)).find(|path| path.exists());
+        corrected.unwrap_or(folder.join(file))
+    };
+    names.into_iter().map(|name| case(file, name)).collect()
 }
 
-fn case(folder: &Path, name: String) -> std::io::Result<Case> {
-    let part = |ending: &str| folder.join(format!("{name}.{ending}"));
+/// The case of this name; `file` finds its files.
+fn case(file: impl Fn(String) -> PathBuf, name: String) -> std::io::Result<Case> {
+    let part = |ending: &str| file(format!("{name}.{ending}"));
     let calls = match fs::read_to_string(part("calls")) {
         Ok(text) => Some((text.lines().map(call).collect(), fs::read_to_string(part("answers"))?)),
         Err(_) => None,
@@ -106,16 +116,16 @@ fn check(folder: &Path) -> std::io::Result<bool> {
     Ok(differing == 0 && agreed > 0)
 }
 
-fn load_agrees(case: &Case) -> Option<bool> {
+pub fn load_agrees(case: &Case) -> Option<bool> {
     let (number, place) = listing::load(&case.listing).map_or_else(|r| (r.number, r.place), |_| (0, 0));
     Some(format!("{number}\t{place}\n") == case.load)
 }
 
-fn session_agrees(case: &Case) -> Option<bool> {
+pub fn session_agrees(case: &Case) -> Option<bool> {
     Some(session(&case.listing, &case.trace, 1_000_000).as_ref() == Some(&case.expected))
 }
 
-fn calls_agree(case: &Case) -> Option<bool> {
+pub fn calls_agree(case: &Case) -> Option<bool> {
     let (calls, stored) = case.calls.as_ref()?;
     let given: String = answers(&case.listing, calls).iter().map(answer_line).collect();
     Some(given == *stored)

@@ -1,7 +1,7 @@
 //! The walk: instants on a tree of routines, without a queue.
 
 use crate::listing::{Child, Instruction, Piece, Program};
-use crate::signs::made;
+use crate::signs;
 use std::collections::BTreeMap;
 use std::ops::RangeInclusive;
 
@@ -14,8 +14,6 @@ pub type Variable = u64;
 pub const DEEPEST_LEVEL: usize = 10;
 /// "At most 64 routines live"
 pub const MOST_LIVE: usize = 64;
-/// "12 Is the allowance 1 to 1,000,000?"
-pub const MOST_STEPS: u32 = 1_000_000;
 /// The numbers that stop a machine: 13 to 17, and 18 of document 02's Change 2.
 pub const STOPS: RangeInclusive<Number> = 13..=18;
 /// All numbers: 0, the refusals and the stops.
@@ -100,7 +98,7 @@ impl Machine {
         self.moment = t;
         self.make_due_writes();
         for &(number, value) in inputs {
-            self.write(Variable::from(number), value);
+            self.press(Variable::from(number), value);
         }
         self.walk(program, allowance, false).unwrap_or_else(|number| {
             *self = Machine::stopped(number);
@@ -108,24 +106,15 @@ impl Machine {
         })
     }
 
-    /// Questions 8 to 12, in order.
-    fn refusal(&self, program: &Program, t: u64, inputs: &[(u32, i32)], allowance: u32) -> Option<Number> {
-        let below = inputs.iter().all(|&(n, _)| (n as usize) < program.inputs);
-        let rising = inputs.windows(2).all(|pair| pair[0].0 < pair[1].0);
-        let answers = [
-            (8, self.stopped.is_none()),
-            (9, t > self.moment),
-            (10, self.due().iter().all(|&due| due >= t)),
-            (11, below && rising),
-            (12, allowance_in_range(allowance)),
-        ];
-        answers.iter().find(|answer| !answer.1).map(|answer| answer.0)
-    }
-
     /// "the next moment due or none"
     pub fn due(&self) -> Option<u64> {
         let waiting = self.cells.values().filter_map(|cell| cell.waiting);
         waiting.map(|(due, _)| due).min()
+    }
+
+    /// The moment at which the variable's waiting write is due, if it has one.
+    pub fn waiting(&self, variable: Variable) -> Option<u64> {
+        self.cells.get(&variable)?.waiting.map(|(due, _)| due)
     }
 
     /// "Two running machines are alike when their present moments and the values of all
@@ -156,11 +145,19 @@ impl Machine {
         self.cells.get_mut(&variable).expect("a living variable")
     }
 
-    /// A write now: "`S` and inputs leave it there" (the waiting write).
+    /// What `S` does. Of the waiting write document 01 says "`S` .. leave it there", and document 02's
+    /// Change 4: "`S` still doesn't" drop it.
     fn write(&mut self, variable: Variable, value: i32) {
         let cell = self.cell(variable);
         cell.value = value;
         cell.written = true;
+    }
+
+    /// What an input does: it writes, and "An input now drops any waiting write on its variable"
+    /// (document 02, Change 4).
+    fn press(&mut self, variable: Variable, value: i32) {
+        self.write(variable, value);
+        self.cell(variable).waiting = None;
     }
 
     /// "New variables hold 0, or the passed value for `v`, and are not written."
@@ -234,11 +231,6 @@ impl Machine {
     pub fn stopped(number: Number) -> Machine {
         Machine { moment: 0, main: None, cells: BTreeMap::new(), next_variable: 0, stopped: Some(number) }
     }
-}
-
-/// "12 Is the allowance 1 to 1,000,000?"
-pub fn allowance_in_range(allowance: u32) -> bool {
-    (1..=MOST_STEPS).contains(&allowance)
 }
 
 /// Does the routine still live after its turn?
@@ -378,20 +370,6 @@ impl<'a> Walk<'a> {
 
     /// "Evaluating can now fail": with 18, at the first divisor that is 0, whatever becomes of the quotient.
     fn value(&self, live: &Live, pieces: &[Piece]) -> Result<i32, Number> {
-        let mut held: Vec<i32> = Vec::new();
-        for piece in pieces {
-            let value = match *piece {
-                Piece::Literal(value) => value,
-                Piece::Value(name) => self.machine.cells[&live.names[name]].value,
-                Piece::Written(name) => i32::from(self.written(live, name)),
-                sign => {
-                    let right = held.pop().expect("a second value");
-                    let left = held.pop().expect("a first value");
-                    made(sign, left, right).ok_or(18u32)?
-                }
-            };
-            held.push(value);
-        }
-        Ok(held[0])
+        signs::value(pieces, |name| self.machine.cells[&live.names[name]]).ok_or(18)
     }
 }

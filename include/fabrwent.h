@@ -72,10 +72,11 @@ extern "C" {
 
 /* The version of this header. MAJOR rises if a program that links the library must
  * change, or if words stored by an older one may be refused or mean something else;
- * MINOR if something is added. The archive has no version of its own: keep both of one
- * installation. */
+ * MINOR if something is added, or if the same calls on the same words may now answer
+ * otherwise (1.3: an input drops the write that waits on its variable). The archive has
+ * no version of its own: keep both of one installation. */
 #define FABRWENT_VERSION_MAJOR 1
-#define FABRWENT_VERSION_MINOR 2
+#define FABRWENT_VERSION_MINOR 3
 #define FABRWENT_VERSION (FABRWENT_VERSION_MAJOR * 1000 + FABRWENT_VERSION_MINOR)
 
 /* ---- Lengths ---------------------------------------------------------------------- */
@@ -211,8 +212,12 @@ fabrwent_ran fabrwent_start(const uint32_t *table, size_t table_words,
 /* Makes the instant at moment t, in milliseconds from the start. t is after the present
  * moment, and not after the moment that the call before gave as due: the caller's clock
  * wakes it at `due`, or before that with inputs. The input lists hold number and value,
- * strictly rising by number; both empty if there is none. Lists and machine are left as
- * by the start. Questions 1, 6 to 12; then 13 to 18 while it runs. */
+ * strictly rising by number; both empty if there is none. Writes due at t are made first;
+ * then each input gives its variable the value and drops the write that waits on that
+ * variable, so that `due` may be later than before, or none. A refused call drops
+ * nothing, and an input does not save a call that comes after a moment due (10). Lists
+ * and machine are left as by the start. Questions 1, 6 to 12; then 13 to 18 while it
+ * runs. */
 fabrwent_ran fabrwent_instant(const uint32_t *table, size_t table_words,
                               uint32_t *machine, size_t machine_words,
                               uint64_t t,

@@ -16,7 +16,7 @@ use Rattle.listing.proofs.Tests.{no_test, no_reading, and_left, and_right, all_h
 read_on-append : (n : ℕ) (v w : Bytes) → read_on n (v ++ w) ≡ read_on (read_on n v) w
 unfolding read_on
 read_on-append n [] w = refl
-read_on-append n (b ∷ v) w = read_on-append _ v w
+read_on-append n (b ∷ v) w = read_on-append (n * 10 + (b - 48)) v w
 
 digits_value : (most n : ℕ) → n < most → read_on 0 (digits most n) ≡ n
 unfolding digits read_on

@@ -1,5 +1,6 @@
 // Reading the machine's words: numbers, moments, variables and blocks at rest, with the soonest moment due.
 // Every function takes the 12,288 words, or an address in them; none changes anything.
+#![tactic(auto)]
 
 pub mod due;
 

@@ -1,5 +1,6 @@
 // Reading a table: the number of environment variables, an instruction by its routine and place, a routine's entry, a child field's head, a name, a sign.
 // `t` is a table's 12,288 words.
+#![tactic(auto)]
 
 ghost use Rattle.std.specs.Prelude.{◌≡◌, true, ℕ, ◌+◌, ◌<◌, ◌≤◌, length};
 ghost use Rattle.table.specs.Areas.{TableLong};

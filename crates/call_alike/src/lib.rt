@@ -15,7 +15,7 @@ use machine::{ENVIRONMENT_VARIABLES, MACHINE_WORDS, VARIABLE_WORDS};
 use table::TABLE_WORDS;
 use table_read::environment_size;
 
-#[derive(Drop)]
+#[derive(Clone, Copy)]
 pub enum Comparison {
     Refused(u32),
     Alike(bool),

@@ -17,7 +17,7 @@ use table::TABLE_WORDS;
 
 // Number and place; 1 and the next moment due, or 0 and 0 for none; the present moment.
 #[repr(C)]
-#[derive(Drop)]
+#[derive(Clone, Copy)]
 pub struct Sight {
     pub number: u32,
     pub place: u32,

@@ -12,7 +12,7 @@ use words_division::{signed_quotient, signed_remainder};
 pub const NO_VALUE: u64 = 4294967296;
 
 // How many values are held, and the one on top.
-#[derive(Drop)]
+#[derive(Clone, Copy)]
 pub struct Held {
     pub count: usize,
     pub top: u32,

@@ -13,7 +13,7 @@ use machine::{BINDINGS, DUE_HIGH, DUE_LOW, ENVIRONMENT, SLOTS, VALUE, VARIABLE_W
 pub const SIZE: u64 = 4294967296;
 
 // The variable that a name stands for.
-#[derive(Drop)]
+#[derive(Clone, Copy)]
 pub struct Binding {
     pub block: usize,
     pub index: usize,

@@ -21,7 +21,7 @@ use table::TABLE_WORDS;
 use table_read::environment_size;
 
 // The stop's number, or the next moment due (0: none).
-#[derive(Drop)]
+#[derive(Clone, Copy)]
 pub enum MachineCheck {
     NotAState,
     Stopped(u32),

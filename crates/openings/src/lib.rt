@@ -26,7 +26,7 @@ pub fn none_falls(moments: &[u64]) -> bool
 }
 
 // What 9 and 11 say of lists: they pass, and stand in the order of their rows or in another; or they are refused.
-#[derive(Drop)]
+#[derive(Clone, Copy)]
 pub enum Verdict {
     InOrder,
     AnyOrder,

@@ -23,7 +23,7 @@ const NO_OPENING: u64 = u64::MAX;
 
 // Number, place, and the number of pages; a refusal's place and pages are 0.
 #[repr(C)]
-#[derive(Drop)]
+#[derive(Clone, Copy)]
 pub struct Printed {
     pub number: u32,
     pub place: u32,

@@ -17,7 +17,7 @@ const WEEKDAYS: u64 = 7;
 const DAY_MINUTES: u64 = 1440;
 
 // A real date, the byte that closes its line, 0 at the end of the text, and the place past it.
-#[derive(Drop)]
+#[derive(Clone, Copy)]
 pub enum DateLine {
     // year, month, day
     Read(u64, u64, u64, u8, Place),
@@ -25,7 +25,7 @@ pub enum DateLine {
 }
 
 // A window, the byte that closes its line, 0 at the end of the text, and the place past it.
-#[derive(Drop)]
+#[derive(Clone, Copy)]
 pub enum WindowLine {
     // input, weekday, opening and closing minute
     Read(u64, u64, u64, u64, u8, Place),

@@ -25,9 +25,6 @@ offset_bounds-t-a c = let b = bounds c.args.t.now c.requires.0 in omega (arith, 
 pub bounds-t-a : goal.bounds-t-a
 bounds-t-a c = let b = bounds c.args.t.now c.requires.0 in omega (arith, b.words, b.few, c.requires.1)
 
-pub overflow_cast-arguments : goal.overflow_cast-arguments
-overflow_cast-arguments c = omega (arith, c.type_inv.t _)
-
 pub overflow_add-bits : goal.overflow_add-bits
 overflow_add-bits c = let b = bounds c.args.t.now c.requires.0 in omega (arith, b.words, b.few, c.requires.1)
 
@@ -46,9 +43,6 @@ offset_bounds-t-a-3 c = let b = bounds c.args.t.now c.requires.0 in omega (arith
 pub bounds-t-a-3 : goal.bounds-t-a-3
 bounds-t-a-3 c = let b = bounds c.args.t.now c.requires.0 in omega (arith, b.words, b.few, c.requires.1)
 
-pub overflow_cast-locals : goal.overflow_cast-locals
-overflow_cast-locals c = omega (arith, c.type_inv.t _)
-
 pub overflow_add-size : goal.overflow_add-size
 overflow_add-size c = let b = bounds c.args.t.now c.requires.0 in omega (arith, b.words, b.few, c.requires.1)
 
@@ -57,9 +51,6 @@ offset_bounds-t-a-4 c = let b = bounds c.args.t.now c.requires.0 in omega (arith
 
 pub bounds-t-a-4 : goal.bounds-t-a-4
 bounds-t-a-4 c = let b = bounds c.args.t.now c.requires.0 in omega (arith, b.words, b.few, c.requires.1)
-
-pub overflow_cast-size : goal.overflow_cast-size
-overflow_cast-size c = omega (arith, c.type_inv.t _)
 
 pub returns : goal.returns
 returns c =

@@ -12,7 +12,7 @@ pub loop-k-init : goal.loop-k-init
 loop-k-init c = (omega arith, refl)
 
 pub loop-k-preserved : goal.loop-k-preserved
-loop-k-preserved c = 
+loop-k-preserved c =
     let v = c.loop-k in
     let a = c.args in
     (omega (arith, c.loop-k-test.true), c.put_byte.ensures ∙ stores.byte_stored a.out.now a.at a.bytes.now v.k (omega (arith, c.loop-k-test.true)) v.invariant.1)

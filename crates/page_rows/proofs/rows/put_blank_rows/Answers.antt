@@ -15,7 +15,7 @@ unfolding joined
 loop-line-init c = (omega arith, refl)
 
 pub loop-line-preserved : goal.loop-line-preserved
-loop-line-preserved c = 
+loop-line-preserved c =
     let v = c.loop-line in
     let a = c.args in
     (omega (arith, c.loop-line-test.true), stores.row_stored a.out.now v.line 45 blank_row bytes.blank_length v.invariant.1 (bytes.blank_put v.out (v.line * 45) c.put_repeated.ensures c.put_byte.ensures))
@@ -24,6 +24,6 @@ pub shape_of-out : goal.shape_of-out
 shape_of-out c = ap length c.loop-line.invariant.1 ∙ simp length-sets
 
 pub returns : goal.returns
-returns c = 
+returns c =
     let e : c.loop-line.line ≡ 60 = omega arith in
     c.loop-line.invariant.1 ∙ ap (λ k. sets c.args.out.now 0 (joined (replicate k blank_row))) e

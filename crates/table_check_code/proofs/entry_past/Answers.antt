@@ -25,37 +25,51 @@ abbrev Law : ℕ → (List ℕ → ℕ → ℕ → ℕ → ℕ → ℕ) → Type
 Law k f =
     (w : List ℕ) → Words w → (names size e at : ℕ) → word w (e + 2) ≡ at → word w (e + 0) ≡ k → entry_past w names size e at ≡ f w names size e at
 
-past : (c : tie.Else1) {k r : ℕ} {f : List ℕ → ℕ → ℕ → ℕ → ℕ → ℕ} → Law k f
-    → (let a = c.before.before.before.before.before.before.before.args in
-    word a.t.now (a.e + 0) ≡ k → r ≡ f a.t.now a.names a.size a.e a.cells → r ≡ entry_past a.t.now a.names a.size a.e a.cells)
-past c law h z =
-    let earlier = c.before.before.before.before.before.before in
-    let a = earlier.before.args in
-    let w = a.t.now in
-    let x : word w (a.e + 2) ≡ a.cells = omega arith in
-    let small : Words w = λ j. omega (arith, earlier.shared-slice-known.given j) in
-    rw (law w small a.names a.size a.e a.cells x h) z
+past : (w : List ℕ) → Words w → (names size e at : ℕ) → word w (e + 2) ≡ at → {k r : ℕ} {f : List ℕ → ℕ → ℕ → ℕ → ℕ → ℕ} → Law k f → word w (e + 0) ≡ k → r ≡ f w names size e at →
+    r ≡ entry_past w names size e at
+past w small names size e at x law h z = rw (law w small names size e at x h) z
 
 pub returns-in-1 : goal.returns-in-1
-returns-in-1 c = past c entries.past_assign c.in-1.is c.expression_past.ensures
+returns-in-1 c =
+    let a = c.args in
+    let x : word a.t.now (a.e + 2) ≡ a.cells = omega arith in
+    past a.t.now (λ j. omega (arith, c.type_inv.t j)) a.names a.size a.e a.cells x entries.past_assign c.in-1.is c.expression_past.ensures
 
 pub returns-in-2 : goal.returns-in-2
-returns-in-2 c = past c entries.past_schedule c.in-2.is c.schedule_past.ensures
+returns-in-2 c =
+    let a = c.args in
+    let x : word a.t.now (a.e + 2) ≡ a.cells = omega arith in
+    past a.t.now (λ j. omega (arith, c.type_inv.t j)) a.names a.size a.e a.cells x entries.past_schedule c.in-2.is c.schedule_past.ensures
 
 pub returns-in-3 : goal.returns-in-3
-returns-in-3 c = past c entries.past_branch c.in-3.is c.expression_past-in-3.ensures
+returns-in-3 c =
+    let a = c.args in
+    let x : word a.t.now (a.e + 2) ≡ a.cells = omega arith in
+    past a.t.now (λ j. omega (arith, c.type_inv.t j)) a.names a.size a.e a.cells x entries.past_branch c.in-3.is c.expression_past-in-3.ensures
 
 pub returns-in-4 : goal.returns-in-4
-returns-in-4 c = past c entries.past_jump c.in-4.is c.plain_past.ensures
+returns-in-4 c =
+    let a = c.args in
+    let x : word a.t.now (a.e + 2) ≡ a.cells = omega arith in
+    past a.t.now (λ j. omega (arith, c.type_inv.t j)) a.names a.size a.e a.cells x entries.past_jump c.in-4.is c.plain_past.ensures
 
 pub returns-in-5 : goal.returns-in-5
-returns-in-5 c = past c entries.past_wait c.in-5.is c.wait_past.ensures
+returns-in-5 c =
+    let a = c.args in
+    let x : word a.t.now (a.e + 2) ≡ a.cells = omega arith in
+    past a.t.now (λ j. omega (arith, c.type_inv.t j)) a.names a.size a.e a.cells x entries.past_wait c.in-5.is c.wait_past.ensures
 
 pub returns-in-6 : goal.returns-in-6
-returns-in-6 c = past c entries.past_fork c.in-6.is c.fork_past.ensures
+returns-in-6 c =
+    let a = c.args in
+    let x : word a.t.now (a.e + 2) ≡ a.cells = omega arith in
+    past a.t.now (λ j. omega (arith, c.type_inv.t j)) a.names a.size a.e a.cells x entries.past_fork c.in-6.is c.fork_past.ensures
 
 pub returns-in-7 : goal.returns-in-7
-returns-in-7 c = past c entries.past_end c.in-7.is c.plain_past-in-7.ensures
+returns-in-7 c =
+    let a = c.args in
+    let x : word a.t.now (a.e + 2) ≡ a.cells = omega arith in
+    past a.t.now (λ j. omega (arith, c.type_inv.t j)) a.names a.size a.e a.cells x entries.past_end c.in-7.is c.plain_past-in-7.ensures
 
 pub returns-in_default : goal.returns-in_default
 returns-in_default c = 

@@ -9,7 +9,7 @@ use std::fs::Files;
 use std::io::Stderr;
 
 // Between two arguments: the number of the listing's, 0 if there is none yet; and whether a trace comes next.
-#[derive(Drop)]
+#[derive(Clone, Copy)]
 pub struct Held {
     pub listing: usize,
     pub flagged: bool,

@@ -12,7 +12,7 @@ use table::TABLE_WORDS;
 use text_questions::Loaded;
 
 // Whether a file can be read, and how many of its bytes were.
-#[derive(Drop)]
+#[derive(Clone, Copy)]
 pub struct Got {
     pub readable: bool,
     pub count: usize,
@@ -38,7 +38,7 @@ pub fn read_listing<R: Files>(files: &R, errors: Stderr, path: &[u8], listing: &
 }
 
 // Too long to be loaded, or the outcome of loading: the question that fails and its place.
-#[derive(Drop)]
+#[derive(Clone, Copy)]
 pub enum Verdict {
     TooLong,
     Loads,

@@ -15,7 +15,7 @@ pub const SCHEDULE_BYTES: usize = 262144;
 const MOST_DAYS: u64 = 9999;
 
 // What was read of a file: whether it could be read, and how many bytes were put into the lent ones.
-#[derive(Drop)]
+#[derive(Clone, Copy)]
 pub struct Taken {
     pub is_read: bool,
     pub count: usize,

@@ -39,7 +39,7 @@ fn piece() -> [u8; 1100]
 }
 
 // What was read of a file: whether it could be opened, and how many bytes were put into the lent ones.
-#[derive(Drop)]
+#[derive(Clone, Copy)]
 struct Taken {
     is_read: bool,
     count: usize,
@@ -88,7 +88,7 @@ fn is_over(phase: Phase) -> bool
 }
 
 // A turn: the next phase, and whether what it printed was written out, as the writer told it.
-#[derive(Drop)]
+#[derive(Clone, Copy)]
 struct Stepped {
     next: Phase,
     is_written: bool,
@@ -136,7 +136,7 @@ fn turn<W: Print>(
 }
 
 // How a session ended.
-#[derive(Drop)]
+#[derive(Clone, Copy)]
 pub enum Ending {
     // all is printed
     Ended,

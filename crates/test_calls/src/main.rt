@@ -44,7 +44,7 @@ fn put_failure(out: &mut [u8], name: u32, item: u64) -> usize
 }
 
 // How far a list of items has been run: the place after it, and how many failed.
-#[derive(Drop)]
+#[derive(Clone, Copy)]
 pub struct Run {
     pub next: usize,
     pub failed: u64,
@@ -112,7 +112,7 @@ fn run_case(stdout: Stdout, s: &[u8], at: usize) -> Run
 }
 
 // How many cases there were, and how many of them failed.
-#[derive(Drop)]
+#[derive(Clone, Copy)]
 pub struct Tally {
     pub cases: u64,
     pub failed: u64,

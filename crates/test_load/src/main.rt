@@ -24,7 +24,7 @@ const PATTERN: u32 = 2779096485;
 
 // A case of the file is its name (a word), its listing (a part), number and place (words). Here: the name, where the listing begins and ends,
 // the figures stored, and the place after the case.
-#[derive(Drop)]
+#[derive(Clone, Copy)]
 pub struct Case {
     pub name: u32,
     pub from: usize,
@@ -150,7 +150,7 @@ fn run_case(
 }
 
 // How many cases there were, and how many of them failed.
-#[derive(Drop)]
+#[derive(Clone, Copy)]
 pub struct Tally {
     pub cases: u64,
     pub failed: u64,

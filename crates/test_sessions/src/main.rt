@@ -21,7 +21,7 @@ use test_cases::frame::{part_at, past, word_at};
 use test_cases::report::{put_summary, read_file, stored_cases};
 
 // A case of the file: its name, where listing, trace and print begin and end. The next case follows the print.
-#[derive(Drop)]
+#[derive(Clone, Copy)]
 pub struct Case {
     pub name: u32,
     pub listing: usize,
@@ -87,7 +87,7 @@ fn run_case(
 }
 
 // How many cases there were, and how many of them failed.
-#[derive(Drop)]
+#[derive(Clone, Copy)]
 pub struct Tally {
     pub cases: u64,
     pub failed: u64,

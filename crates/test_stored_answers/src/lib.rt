@@ -21,7 +21,7 @@ use test_lending::machine::PATTERN;
 pub const ANSWER: usize = 24;
 
 // The number, the steps used, the outputs listed, and the next moment due, or 0 if none is (a moment due is at least 1).
-#[derive(Drop)]
+#[derive(Clone, Copy)]
 pub struct Report {
     pub number: u32,
     pub steps: u32,

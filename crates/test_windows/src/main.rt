@@ -101,7 +101,7 @@ fn put_failure(out: &mut [u8], name: u32) -> usize
 }
 
 // How many cases there were, and how many of them failed.
-#[derive(Drop)]
+#[derive(Clone, Copy)]
 pub struct Tally {
     pub cases: u64,
     pub failed: u64,

@@ -14,9 +14,6 @@ overflow_add-at c =
     let pre = c.requires in
     record { fits = omega (arith, c.loop-k-test.true, pre.0, pre.1) }
 
-pub put_byte-requires : goal.put_byte-requires
-put_byte-requires c = tt
-
 pub loop-k-preserved : goal.loop-k-preserved
 loop-k-preserved c = texts.putting_on _ _ _ _ _ c.loop-k.invariant c.loop-k-test.true _ c.put_byte.ensures
 

@@ -19,7 +19,7 @@ pub bounds-week-at : goal.bounds-week-at
 bounds-week-at c = omega (arith, in_week _ _ _ _ _ c.loop-k.invariant.1)
 
 pub overflow_add-count : goal.overflow_add-count
-overflow_add-count c = 
+overflow_add-count c =
     let v = c.loop-k in
     let a = c.args in
     omega (arith, minutes_most a.week.now a.minute v.k, v.invariant.2, c.count_changes-count.ensures.1)
@@ -28,7 +28,7 @@ pub next_minute-at-requires : goal.next_minute-at-requires
 next_minute-at-requires c = in_week _ _ _ _ _ c.loop-k.invariant.1
 
 pub loop-k-preserved : goal.loop-k-preserved
-loop-k-preserved c = 
+loop-k-preserved c =
     let v = c.loop-k in
     let a = c.args in
     let w = a.week.now in
@@ -36,7 +36,7 @@ loop-k-preserved c =
     (omega arith, stands_next w a.minute v.k _ _ s _ c.next_minute-at.ensures, count_next w a.minute v.k _ _ s _ _ v.invariant.2 (c.count_changes-count.ensures.0 _))
 
 pub returns : goal.returns
-returns c = 
+returns c =
     let v = c.loop-k in
     let a = c.args in
     let e : v.k ≡ a.minutes = omega arith in

@@ -10,10 +10,6 @@ use Rattle.schedule_list.specs.Lists.{Written}
 use Rattle.schedule_list.proofs.Lists as lists
 use Rattle.schedule_list.proofs.Minutes.{minutes_mono}
 use Rattle.schedule_list.proofs.Weeks as weeks
-use Rattle.schedule_list.proofs.list_edges.Reads as reads
-use Rattle.schedule_list.proofs.list_edges.Lts as lts
-use Rattle.schedule_list.proofs.list_again.Reads as list-again-reads
-use Rattle.schedule_list.proofs.list_minutes.Reads as list-minutes-reads
 use Rattle.schedule_list.proofs.list_edges.Goals as goal
 
 pub list_minutes-requires : goal.list_minutes-requires
@@ -69,36 +65,43 @@ loop-place-preserved c =
           (lists.fits_same {xs = minute_edges w (a.first / 60000) 10080} x begun c.requires.5) (v.invariant.2 l k u begun) (rw e at again.0) (rw e at again.1) (rw e at again.2),
     )
 
--- after the loop, and where the function began
-abbrev Looped : Type 0
-Looped = lts.After-loop (list-minutes-reads.Asked, list-minutes-reads.Learnt, list-again-reads.Asked, list-again-reads.Learnt) reads.Pre reads.Post invariant-loop decreases-loop
-
-abbrev start : Looped → lts.Start (list-minutes-reads.Asked, list-minutes-reads.Learnt, list-again-reads.Asked, list-again-reads.Learnt) reads.Pre reads.Post invariant-loop decreases-loop
-start c = c.before.before.before.before.before.before.before.before.before.before.before.before.before.before.before.before.before
-
--- all is written
-written : (c : Looped) →
-    Written (minute_edges (start c).args.week.now ((start c).args.first / 60000) (start c).args.minutes) 0 (start c).args.moments.now (start c).args.inputs.now (start c).args.values.now
-    c.before.loop.moments c.before.loop.inputs c.before.loop.values (start c).args.total
-written c =
-    let v = c.before.loop in
-    let s = start c in
-    let a = s.args in
-    let w = a.week.now in
-    let x = c.before.before.before.before.before.before.before.before.list-minutes2.ensures in
-    let so_far = v.invariant.2 _ _ _ (weeks.week_written w (a.first / 60000) a.minutes s.pre.2 (omega arith) x) in
-    let e : v.place ≡ a.total = omega arith in
-    let f : take v.place (minute_edges w (a.first / 60000) a.minutes) ≡ minute_edges w (a.first / 60000) a.minutes = take_all v.place (minute_edges w (a.first / 60000) a.minutes) (omega (arith, s.pre.4)) in
-    lists.written_all (rw f at so_far) a.total s.pre.4
-
 pub shape_of-moments : goal.shape_of-moments
-shape_of-moments c = lists.moments_size (written c)
+shape_of-moments c =
+    let v = c.loop-place in
+    let a = c.args in
+    let w = a.week.now in
+    let so_far = v.invariant.2 _ _ _ (weeks.week_written w (a.first / 60000) a.minutes c.requires.2 (omega arith) c.list_minutes-weekly.ensures) in
+    let e : v.place ≡ a.total = omega arith in
+    let f : take v.place (minute_edges w (a.first / 60000) a.minutes) ≡ minute_edges w (a.first / 60000) a.minutes = take_all v.place (minute_edges w (a.first / 60000) a.minutes) (omega (arith, c.requires.4)) in
+    lists.moments_size (lists.written_all (rw f at so_far) a.total c.requires.4)
 
 pub shape_of-inputs : goal.shape_of-inputs
-shape_of-inputs c = lists.inputs_size (written c)
+shape_of-inputs c =
+    let v = c.loop-place in
+    let a = c.args in
+    let w = a.week.now in
+    let so_far = v.invariant.2 _ _ _ (weeks.week_written w (a.first / 60000) a.minutes c.requires.2 (omega arith) c.list_minutes-weekly.ensures) in
+    let e : v.place ≡ a.total = omega arith in
+    let f : take v.place (minute_edges w (a.first / 60000) a.minutes) ≡ minute_edges w (a.first / 60000) a.minutes = take_all v.place (minute_edges w (a.first / 60000) a.minutes) (omega (arith, c.requires.4)) in
+    lists.inputs_size (lists.written_all (rw f at so_far) a.total c.requires.4)
 
 pub shape_of-values : goal.shape_of-values
-shape_of-values c = lists.values_size (written c)
+shape_of-values c =
+    let v = c.loop-place in
+    let a = c.args in
+    let w = a.week.now in
+    let so_far = v.invariant.2 _ _ _ (weeks.week_written w (a.first / 60000) a.minutes c.requires.2 (omega arith) c.list_minutes-weekly.ensures) in
+    let e : v.place ≡ a.total = omega arith in
+    let f : take v.place (minute_edges w (a.first / 60000) a.minutes) ≡ minute_edges w (a.first / 60000) a.minutes = take_all v.place (minute_edges w (a.first / 60000) a.minutes) (omega (arith, c.requires.4)) in
+    lists.values_size (lists.written_all (rw f at so_far) a.total c.requires.4)
 
 pub returns : goal.returns
-returns c = written c
+returns c =
+    -- all is written
+    let v = c.loop-place in
+    let a = c.args in
+    let w = a.week.now in
+    let so_far = v.invariant.2 _ _ _ (weeks.week_written w (a.first / 60000) a.minutes c.requires.2 (omega arith) c.list_minutes-weekly.ensures) in
+    let e : v.place ≡ a.total = omega arith in
+    let f : take v.place (minute_edges w (a.first / 60000) a.minutes) ≡ minute_edges w (a.first / 60000) a.minutes = take_all v.place (minute_edges w (a.first / 60000) a.minutes) (omega (arith, c.requires.4)) in
+    lists.written_all (rw f at so_far) a.total c.requires.4

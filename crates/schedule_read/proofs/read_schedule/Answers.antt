@@ -9,17 +9,6 @@ use Rattle.schedule_read.proofs.Answers as answers
 use Rattle.schedule_read.proofs.Reading as reading
 use Rattle.schedule_read.proofs.read_schedule.Goals as goal
 
--- the line that was read is a date
-date : (c : tie.After-known-told) → let r = c.before.year.given.0 in let a = c.before.before.before.before.before.before.args in
-    answers.LineRead read_date a.s.now (record { offset = 0; line = 1 }) (record { year = r.0; month = r.1.0; day = r.1.1.0 }) r.1.1.1.0 r.1.1.1.1.0
-    × (is_real_date (record { year = r.0; month = r.1.0; day = r.1.1.0 }) ≡ true)
-date c = answers.date_read _ _ _ _ _ _ _ (sym c.before.year.given.1 ∙ c.before.before.before.read-date.ensures)
-
--- and a line feed closes it
-closed : (c : tie.Else1) → let r = c.before.before.year.given.0 in let a = c.before.before.before.before.before.before.before.args in
-    answers.LineRead read_date a.s.now (record { offset = 0; line = 1 }) (record { year = r.0; month = r.1.0; day = r.1.1.0 }) 10 r.1.1.1.1.0
-closed c = let l = (date c.before).0 in record { is = l.is; stop_is = l.stop_is ∙ c.if1.false; next_is_lem = l.next_is_lem }
-
 pub returns-in_default : goal.returns-in_default
 returns-in_default c = 
     let s = c.args.s.now in
@@ -27,17 +16,28 @@ returns-in_default c =
 
 pub returns-then-stop-ne10 : goal.returns-then-stop-ne10
 returns-then-stop-ne10 c = 
-    let l = (date c).0 in
-    reading.dateless _ _ c.requires (λ e. absurd (c.if-stop-ne10.true (sym l.stop_is ∙ e)))
+    let date = answers.date_read c.args.s.now (record { offset = 0; line = 1 }) _ _ _ _ _ (sym c.in-Read.is ∙ c.read_date.ensures) in
+    let l = date.0 in
+    reading.dateless _ _ c.requires (λ e. absurd (c.if-stop-ne10.true (sym l.stop_is_lem ∙ e)))
 
 pub weekday_of-first-requires : goal.weekday_of-first-requires
-weekday_of-first-requires c = (date c).1
+weekday_of-first-requires c =
+    let date = answers.date_read c.args.s.now (record { offset = 0; line = 1 }) _ _ _ _ _ (sym c.in-Read.is ∙ c.read_date.ensures) in
+    date.1
 
 pub read_windows-requires : goal.read_windows-requires
 read_windows-requires c = 
-    let l = closed c in
+    let date = answers.date_read c.args.s.now (record { offset = 0; line = 1 }) _ _ _ _ _ (sym c.in-Read.is ∙ c.read_date.ensures) in
+    let l = date.0 in
+    let closed : answers.LineRead read_date c.args.s.now (record { offset = 0; line = 1 }) (record { year = c.in-Read.year; month = c.in-Read.month; day = c.in-Read.day }) 10 c.in-Read.next
+        = record { is = l.is; stop_is_lem = l.stop_is_lem ∙ c.if-stop-ne10.false; next_is_lem = l.next_is_lem } in
     let day = c.weekday_of-first.ensures in
-    (answers.next_within l (record { inside = omega arith; counted = omega arith }), answers.next_numbered l, day.1, day.2, c.requires)
+    (answers.next_within closed (record { inside = omega arith; counted = omega arith }), answers.next_numbered closed, day.1, day.2, c.requires)
 
 pub returns : goal.returns
-returns c = reading.dated _ _ _ _ _ (closed c) (rw c.weekday_of-first.ensures.0 at c.read_windows.ensures)
+returns c =
+    let date = answers.date_read c.args.s.now (record { offset = 0; line = 1 }) _ _ _ _ _ (sym c.in-Read.is ∙ c.read_date.ensures) in
+    let l = date.0 in
+    let closed : answers.LineRead read_date c.args.s.now (record { offset = 0; line = 1 }) (record { year = c.in-Read.year; month = c.in-Read.month; day = c.in-Read.day }) 10 c.in-Read.next
+        = record { is = l.is; stop_is_lem = l.stop_is_lem ∙ c.if-stop-ne10.false; next_is_lem = l.next_is_lem } in
+    reading.dated _ _ _ _ _ closed (rw c.weekday_of-first.ensures.0 at c.read_windows.ensures)

@@ -11,19 +11,6 @@ use Rattle.schedule_read.proofs.Answers as answers
 use Rattle.schedule_read.proofs.Reading as reading
 use Rattle.schedule_read.proofs.read_windows.Goals as goal
 
--- the line that was read is a window
-window : (c : tie.After-known-told invariant-loop decreases-loop) → let r = c.before.input.given.0 in let v = c.before.before.before.before.before.loop in
-    let a = c.before.before.before.before.before.before.before.before.args in
-    answers.LineRead read_window a.s.now (record { offset = v.at; line = v.line }) (record { input = r.0; weekday = r.1.0; opening = r.1.1.0; closing = r.1.1.1.0 }) r.1.1.1.1.0 r.1.1.1.1.1.0
-    × (is_window (record { input = r.0; weekday = r.1.0; opening = r.1.1.0; closing = r.1.1.1.0 }) ≡ true)
-window c = answers.window_read _ _ _ _ _ _ _ _ (sym c.before.input.given.1 ∙ c.before.before.before.read-window.ensures)
-
--- and a line feed closes it
-closed : (c : tie.Else1 invariant-loop decreases-loop) → let r = c.before.before.input.given.0 in let v = c.before.before.before.before.before.before.loop in
-    let a = c.before.before.before.before.before.before.before.before.before.args in
-    answers.LineRead read_window a.s.now (record { offset = v.at; line = v.line }) (record { input = r.0; weekday = r.1.0; opening = r.1.1.0; closing = r.1.1.1.0 }) 10 r.1.1.1.1.1.0
-closed c = let l = (window c.before).0 in record { is = l.is; stop_is = l.stop_is ∙ c.if1.false; next_is_lem = l.next_is_lem }
-
 pub loop-at-init : goal.loop-at-init
 loop-at-init c = reading.begun _ _ _ _ _ c.requires.0 c.requires.4
 
@@ -47,24 +34,34 @@ pub returns-then-stop-ne10 : goal.returns-then-stop-ne10
 returns-then-stop-ne10 c = 
     let v = c.loop-at in
     let s = c.args.s.now in
-    let l = (window c).0 in
-    reading.ended _ _ _ _ _ _ _ _ v.invariant _ (reading.ends_open s v.at v.line c.loop-at-test.true (λ e. c.if-stop-ne10.true (sym l.stop_is ∙ e)))
+    let window = answers.window_read c.args.s.now (record { offset = c.loop-at.at; line = c.loop-at.line }) _ _ _ _ _ _ (sym c.in-Read.is ∙ c.read_window.ensures) in
+    let l = window.0 in
+    reading.ended _ _ _ _ _ _ _ _ v.invariant _ (reading.ends_open s v.at v.line c.loop-at-test.true (λ e. c.if-stop-ne10.true (sym l.stop_is_lem ∙ e)))
 
 pub mark_window-requires : goal.mark_window-requires
 mark_window-requires c = 
     let v = c.loop-at in
-    (c.requires.2, c.requires.3, (window c).1, v.invariant.week_is.size)
+    let window = answers.window_read c.args.s.now (record { offset = c.loop-at.at; line = c.loop-at.line }) _ _ _ _ _ _ (sym c.in-Read.is ∙ c.read_window.ensures) in
+    (c.requires.2, c.requires.3, window.1, v.invariant.week_is.size)
 
 pub loop-at-smaller : goal.loop-at-smaller
 loop-at-smaller c = 
     let v = c.loop-at in
-    let further = answers.next_further (closed c) in
+    let window = answers.window_read c.args.s.now (record { offset = c.loop-at.at; line = c.loop-at.line }) _ _ _ _ _ _ (sym c.in-Read.is ∙ c.read_window.ensures) in
+    let l = window.0 in
+    let closed : answers.LineRead read_window c.args.s.now (record { offset = v.at; line = v.line }) (record { input = c.in-Read.input; weekday = c.in-Read.weekday; opening = c.in-Read.opening; closing = c.in-Read.closing }) 10 c.in-Read.next
+        = record { is = l.is; stop_is_lem = l.stop_is_lem ∙ c.if-stop-ne10.false; next_is_lem = l.next_is_lem } in
+    let further = answers.next_further closed in
     omega (arith, c.loop-at-test.true)
 
 pub loop-at-preserved : goal.loop-at-preserved
 loop-at-preserved c = 
     let v = c.loop-at in
-    reading.passed_on _ _ _ _ _ _ _ _ v.invariant _ _ (closed c) _ c.mark_window.ensures
+    let window = answers.window_read c.args.s.now (record { offset = c.loop-at.at; line = c.loop-at.line }) _ _ _ _ _ _ (sym c.in-Read.is ∙ c.read_window.ensures) in
+    let l = window.0 in
+    let closed : answers.LineRead read_window c.args.s.now (record { offset = v.at; line = v.line }) (record { input = c.in-Read.input; weekday = c.in-Read.weekday; opening = c.in-Read.opening; closing = c.in-Read.closing }) 10 c.in-Read.next
+        = record { is = l.is; stop_is_lem = l.stop_is_lem ∙ c.if-stop-ne10.false; next_is_lem = l.next_is_lem } in
+    reading.passed_on _ _ _ _ _ _ _ _ v.invariant _ _ closed _ c.mark_window.ensures
 
 pub shape_of-week : goal.shape_of-week
 shape_of-week c = c.loop-at.invariant.size

@@ -8,25 +8,15 @@ use Rattle.engine_rows.specs.Ready.{insert_all_lem}
 use Rattle.engine_blocks.specs.Blocks.{rows_of}
 use Rattle.engine_ready.specs.Slots.{slots_of}
 use Rattle.engine_wake.proofs.Waking.{triggered_by}
-use Rattle.engine_wake.proofs.wake.Statement.{statement}
 use Rattle.engine_triggers.specs.Chains.{triggers_at}
 use Rattle.engine_wake.specs.Wakes.{triggered_from}
-use Rattle.engine_wake.proofs.wake.Tie as tie
+use Rattle.engine_wake.proofs.wake.Goals as goal
 
-add-wake-from : tie.Need-overflow-add-wake-from
-add-wake-from c = search rules
-
-wake-from-requires : tie.Need-wake-from-requires
-wake-from-requires c κs = search rules
-
-returns : tie.Need-returns
-returns c =
-    let a = c.before.before.args in
+pub returns : goal.returns
+returns c = 
+    let a = c.args in
     let m = a.m.now in
     let ss = triggers_at m a.s a.index in
     let next : a.low + 1 ≡ suc a.low = omega arith in
     let whom = ap (λ (k : ℕ). triggered_from (rows_of m) k ss) next ∙ triggered_by (rows_of m) a.low ss in
-    (c.wake-from.ensures.0 ∙ ap (λ (l : List ℕ). insert_all_lem (rows_of m) l (slots_of a.q)) whom, c.wake-from.ensures.1)
-
-pub wake_spec : {M : Type 1} → statement M
-wake_spec = tie.close (tie.spec add-wake-from wake-from-requires returns)
+    (c.wake_from.ensures.0 ∙ ap (λ (l : List ℕ). insert_all_lem (rows_of m) l (slots_of a.q)) whom, c.wake_from.ensures.1)

@@ -15,8 +15,8 @@ put_input_lines-requires c =
     let b = c.word_list-inputs.ensures in
     let d = c.word_list-values.ensures in
     let few = (hour_held _ _ _ _ _ _ _ _ _ _ pre (sym a) (sym b) (sym d) call.ensures).few in
-    let kept = call.auto.1.1.1 in
-    (few, omega (arith, few, a, kept.0), omega (arith, few, b, kept.1.0), omega (arith, few, d, kept.1.1.0))
+    let kept = call.auto in
+    (few, omega (arith, few, a, kept.moments), omega (arith, few, b, kept.inputs), omega (arith, few, d, kept.values))
 
 pub returns : goal.returns
 returns c = 

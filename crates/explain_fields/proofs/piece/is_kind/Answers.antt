@@ -6,20 +6,16 @@ use mathlib.Core.Path.{◌≡◌, refl}
 use Rattle.listing.specs.Lists.{is_some}
 use Rattle.listing.specs.Listing.{by_value}
 use Rattle.listing.specs.Form.{read_kind}
-use Rattle.explain_fields.proofs.piece.is_kind.Statement.{statement}
-use Rattle.explain_fields.proofs.piece.is_kind.Tie as tie
+use Rattle.explain_fields.proofs.piece.is_kind.Goals as goal
 
 go : (t : Bool) → t ≡ is_some (cond t (some by_value) none)
 go true = refl
 go false = refl
 
-returns : tie.Need-returns
+pub returns-then-b-eq114 : goal.returns-then-b-eq114
 unfolding read_kind
-returns c = rw c.if1.true
+returns-then-b-eq114 c = rw c.if-b-eq114.true
 
-returns-2 : tie.Need-returns-2
+pub returns : goal.returns
 unfolding read_kind
-returns-2 c = rw (ne_eqb _ 114 c.if1.false) (go _)
-
-pub is_kind_spec : {M : Type 1} → statement M
-is_kind_spec = tie.close (tie.spec returns returns-2)
+returns c = rw (ne_eqb _ 114 c.if-b-eq114.false) (go _)

@@ -9,7 +9,7 @@ use session_trace::{Next, next_call};
 pub const PLACES: usize = 16384;
 
 // How many writes stand in the lists, and whether these are all.
-#[derive(Drop)]
+#[derive(Clone, Copy)]
 pub struct Gathered {
     pub count: usize,
     pub all: bool,

@@ -1,4 +1,6 @@
 // The comparison of two machines: "1, 6, then 7 for both machines, then 8 for both".
+#![tactic(auto)]
+
 ghost use Rattle.std.specs.Prelude.{true, ◌≡◌, ◌≤◌};
 ghost use Rattle.table.specs.Areas.{HasTable};
 ghost use Rattle.walk.specs.Calls.{first_words};
@@ -15,7 +17,7 @@ use machine::{ENVIRONMENT_VARIABLES, MACHINE_WORDS, VARIABLE_WORDS};
 use table::TABLE_WORDS;
 use table_read::environment_size;
 
-#[derive(Drop)]
+#[derive(Clone, Copy)]
 pub enum Comparison {
     Refused(u32),
     Alike(bool),

@@ -1,14 +1,14 @@
 // The answer of a start or an instant call.
 
 // "the next moment due or none": a figure of the result, which the caller reads as a number.
-#[derive(Drop)]
+#[derive(Clone, Copy)]
 pub enum Due {
     Never,
     At(u64),
 }
 
 // Of a call that goes through: steps used, output writes listed, the next moment due.
-#[derive(Drop)]
+#[derive(Clone, Copy)]
 pub struct Figures {
     pub steps: u32,
     pub listed: u32,
@@ -16,7 +16,7 @@ pub struct Figures {
 }
 
 // Refused or stopped under a number, or done.
-#[derive(Drop)]
+#[derive(Clone, Copy)]
 pub enum Answer {
     Refused(u32),
     Stopped(u32),

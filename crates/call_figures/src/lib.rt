@@ -11,7 +11,7 @@ pub use loading::{FabrwentLoad, load_figures};
 
 // Number, place, steps used, output writes listed; 1 and the next moment due, or 0 and 0 for none.
 #[repr(C)]
-#[derive(Drop)]
+#[derive(Clone, Copy)]
 pub struct FabrwentCall {
     pub number: u32,
     pub place: u32,
@@ -23,7 +23,7 @@ pub struct FabrwentCall {
 
 // Number, place, and 1 if the machines are alike.
 #[repr(C)]
-#[derive(Drop)]
+#[derive(Clone, Copy)]
 pub struct FabrwentAlike {
     pub number: u32,
     pub place: u32,

@@ -6,7 +6,7 @@ use text_questions::Loaded;
 
 // Document 01's number and place: 0 and 0, or the question that refuses and the line.
 #[repr(C)]
-#[derive(Drop)]
+#[derive(Clone, Copy)]
 pub struct FabrwentLoad {
     pub number: u32,
     pub place: u64,

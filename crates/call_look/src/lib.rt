@@ -1,4 +1,6 @@
 // A look at a machine that was found: its present moment and its next moment due. It puts 1, 6, 7 and 8, and writes nothing.
+#![tactic(auto)]
+
 ghost use Rattle.std.specs.Prelude.{true, ◌≡◌};
 ghost use Rattle.table.specs.Areas.{HasTable};
 ghost use Rattle.walk.specs.Calls.{first_words};
@@ -17,7 +19,7 @@ use table::TABLE_WORDS;
 
 // Number and place; 1 and the next moment due, or 0 and 0 for none; the present moment.
 #[repr(C)]
-#[derive(Drop)]
+#[derive(Clone, Copy)]
 pub struct Sight {
     pub number: u32,
     pub place: u32,

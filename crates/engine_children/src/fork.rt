@@ -28,7 +28,7 @@ pub fn new_child(t: &[u32], m: &mut [u32], me: usize, head: usize, i: u32, s: us
 }
 
 // The slots of a fork's children, in order.
-#[derive(Drop)]
+#[derive(Clone, Copy)]
 pub struct NewSlots {
     pub places: [u8; 8],
     pub count: usize,

@@ -13,7 +13,7 @@ use table::WAIT;
 use table_read::{fetch, head_after, head_at};
 
 // A child field: the address of its head, its routine, and how many child fields its `F` has.
-#[derive(Drop)]
+#[derive(Clone, Copy)]
 pub struct Field {
     pub head: usize,
     pub callee: usize,

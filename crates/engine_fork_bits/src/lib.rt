@@ -1,5 +1,7 @@
 // The bits of a fork, from a table. Document 01: "A fork of n children divides its priority range by the fewest bits that number n
 // children". Document 02: "Every fork takes them from a table of the answers for 1 to 8 children".
+#![tactic(auto)]
+
 ghost use Rattle.std.specs.Prelude.{◌≡◌, ◌≤◌};
 ghost use Rattle.engine_fork_bits.specs.ForkBits.{NumbersFewest, fork_bits};
 

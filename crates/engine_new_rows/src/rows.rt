@@ -11,7 +11,7 @@ use machine::{ASLEEP, BASE, BITS, CHILD, CHILDREN, IN_USE, LEVEL, LOW, OWN, PARE
 
 // What a new routine's row takes from its parent: the parent's slot (main's is 64), the new routine's level, the address of its
 // first own variable, the lowest of the parent's priorities, the bits of each child's range.
-#[derive(Drop)]
+#[derive(Clone, Copy)]
 pub struct Parent {
     pub slot: usize,
     pub level: u32,

@@ -170,7 +170,7 @@ module _ (listing : Listing) where
       go (that h) deep = deep h
   scan_from σ environment j {p} m rg (rests_join {x = x} {y = u} {k = k} {g = g} {f = f} b y rk r) (held_put z q e hk hf) (brief_put l wk wf) S i =
       go (in_cases (ready listing (m ++ x.own) (put u k g)) (ready listing m f) i)
-      (scan_from σ environment j (m ++ x.own) (parts rg).children rk (rw (← length-append m x.own) at hk) (rw (← length-append m x.own) at wk)
+      (scan_from σ environment j {p = record { slot = x.slot; base = length m } ∷ p} (m ++ x.own) (parts rg).children rk (rw (← length-append m x.own) at hk) (rw (← length-append m x.own) at wk)
       (sees_in σ environment p m x.slot x.own (row_own σ z p (length m) (root_count (put u k g)) x e) S))
       (scan_from σ environment j m (parts rg).siblings r hf wf S)
     where

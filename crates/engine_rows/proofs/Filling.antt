@@ -36,6 +36,7 @@ distinct_right (s ∷ a) b (distinct_put n d) = distinct_right a b d
 pub distinct_apart : (a b : List ℕ) (s : ℕ) → Distinct (a ++ b) → In s a → In s b → ⊥
 distinct_apart (x ∷ a) b s (distinct_put n d) (here e) j = n (in_right a b (subst (λ z. In z b) e j))
 distinct_apart (x ∷ a) b s (distinct_put n d) (there i) j = distinct_apart a b s d i j
+distinct_apart [] b s _ x4 j = elim x4 [ ]
 
 -- a tree keeps its rows where its slots keep theirs
 pub held_same : {σ : Rows} (σ' : Rows) {d : Bool} {p : List Entry} {b : ℕ} {t : Tree} → ((s : ℕ) → In s (slots_of t) → σ' s ≡ σ s) → Held σ d p b t →

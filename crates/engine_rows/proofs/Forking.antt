@@ -88,11 +88,11 @@ unfoldable pub root_slots : Tree → List ℕ
 root_slots nil = []
 root_slots (put x k f) = x.slot ∷ root_slots f
 
-root_slots_lem : {lo hi : ℕ} {t : Tree} → Range lo hi t → slots_in (keys t) ≡ root_slots t
+root_slots_lem : {t : Tree} {lo hi : ℕ} → Range lo hi t → slots_in (keys t) ≡ root_slots t
 unfolding keys root_slots slots_in key
 root_slots_lem {t = nil} r = refl
 root_slots_lem {t = put x k f} r = let h : x.slot < 64 = (parts r).slots in let e : (x.low * 64 + x.slot) % 64 ≡ x.slot =
-    omega arith in ap₂ ◌∷◌ e (root_slots_lem (parts r).siblings)
+    omega arith in ap₂ ◌∷◌ e (root_slots_lem {t = f} (parts r).siblings)
 
 module _ (listing : Listing) where
   fresh_ready : {p : List Entry} {b : ℕ} {σ : Rows} {t : Tree} (m : List Variable) → FreeFor p b σ t → keys t ≡ ready listing m t

@@ -359,12 +359,12 @@ marked_of listing {σ} {environment} {n} {f} {fs} lo hi r H K = record { pending
     go s a l (that i) = let g : f.self.low ≤ (σ s).low = omega arith in up_pend lo hi nil r H i a g
 
 -- slots in a ranged tree are small
-pub slots_small : {lo hi : ℕ} {t : Tree} (s : ℕ) → Range lo hi t → In s (slots_of t) → s < 64
+pub slots_small : {t : Tree} {lo hi : ℕ} (s : ℕ) → Range lo hi t → In s (slots_of t) → s < 64
 unfolding slots_of
 slots_small {t = nil} s r i = elim i [ ]
 slots_small {t = put x k f} s r (here e) = let h = (parts r).slots in omega arith
-slots_small {t = put x k f} s r (there i) = go (in_cases (slots_of k) (slots_of f) i) (slots_small s (parts r).children)
-    (slots_small s (parts r).siblings)
+slots_small {t = put x k f} s r (there i) = go (in_cases (slots_of k) (slots_of f) i) (slots_small {t = k} s (parts r).children)
+    (slots_small {t = f} s (parts r).siblings)
   where
     go : Either (In s (slots_of k)) (In s (slots_of f)) → (In s (slots_of k) → s < 64) → (In s (slots_of f) → s < 64) → s < 64
     go (this i) a b = a i

@@ -33,7 +33,7 @@ key_in σ s _ (here e) = here (ap (λ z. order_key (σ z)) e)
 key_in σ s _ (there {l = l} i) = there (key_in σ s l i)
 
 -- two lists in strict order with the same members are equal
-pub same_order : (σ : Rows) {a b a' b' : ℕ} (l m : List ℕ) → Rising a b (order_keys σ l) → Rising a' b' (order_keys σ m) → ((s : ℕ) → In s l → In s m) →
+pub same_order : (σ : Rows) (l m : List ℕ) {a b a' b' : ℕ} → Rising a b (order_keys σ l) → Rising a' b' (order_keys σ m) → ((s : ℕ) → In s l → In s m) →
     ((s : ℕ) → In s m → In s l) → l ≡ m
 unfolding order_keys
 same_order σ [] [] r q f g = refl

@@ -63,8 +63,8 @@ pub record Split (lo hi : ℕ) (t f : Tree) : Type 0 where
 pub range_split : {lo hi : ℕ} (t f : Tree) → Range lo hi (t ⋈ f) → Split lo hi t f
 unfolding ◌⋈◌
 range_split {lo} nil f r = record { mid = lo; left = range_nil (le_refl lo); right = r }
-range_split (put x k t) f (range_put e w s c r) =
-    let p = range_split t f r in record { mid = p.mid; left = range_put e w s c p.left; right = p.right }
+range_split {lo = lo} {hi = hi} (put x k t) f (range_put e w s c r) =
+    let p = range_split {lo = x.low + width x} t f r in record { mid = p.mid; left = range_put e w s c p.left; right = p.right }
 
 pub record Parts (lo hi : ℕ) (x : Record) (k f : Tree) : Type 0 where
   pub lowest : lo ≤ x.low

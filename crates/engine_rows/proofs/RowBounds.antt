@@ -71,7 +71,7 @@ keys_rise σ {a} (k ∷ ks) (spread_put e s) h =
     let low : k / 64 ≡ (σ (k % 64)).low = low_of_key σ k (h k (here refl)) in
     let small : k % 64 < 64 = omega arith in
     let from : a ≤ (σ (k % 64)).low = omega (arith, e, low) in
-    rise_put small from (subst (λ z. LowsRise σ (suc z) (slots_in ks)) low (keys_rise σ ks s (λ j i. h j (there i))))
+    rise_put small from (subst (λ z. LowsRise σ (suc z) (slots_in ks)) low (keys_rise σ {a = suc (k / 64)} ks s (λ j i. h j (there i))))
 
 -- In every state that is reached the ready list rises, above the routine that runs.
 pub ready_rises : (listing : Listing) (now : ℕ) (triggers : Owner →

@@ -7,7 +7,7 @@ use Prim.Native.Nat.{ℕ, suc, ◌/◌, ◌%◌, ◌≤◌, ◌<◌}
 use native.Mathlib.Omega.{arith}
 use lib.Dec.{ltb, eqb}
 use borrow.Author.Tests.{ltb-true, ltb-false, eqb-true, eqb-false}
-use Rattle.engine_rows.proofs.Priority.{Spread, spread_put, Rising, rising_nil, rising_put, rising_le}
+use Rattle.engine_rows.proofs.Priority.{Spread, spread_nil, spread_put, Rising, rising_nil, rising_put, rising_le}
 pub use Rattle.engine_rows.specs.Tree.{In, here, there}
 unfoldable pub use Rattle.engine_rows.specs.Reached.{slots_in}
 
@@ -48,6 +48,7 @@ insert_keys (k ∷ ks) l = insert_keys ks (insert_key k l)
 pub rising_above : {a b k : ℕ} {l : List ℕ} → Rising a b l → In k l → (a ≤ k) × (k < b)
 rising_above (rising_put {a = a} {b = b} {k = x} e r) (here {x = _} h) = let q : suc x ≤ b = rising_le r in (omega arith, omega arith)
 rising_above (rising_put {a = a} {k = x} e r) (there h) = let q = rising_above r h in (omega (arith, q.0), q.1)
+rising_above {k = k} (rising_nil {a = a} {b = b} _) x6 = elim x6 [ ]
 
 pub insert_rising : {a b : ℕ} {l : List ℕ} (k : ℕ) → Rising a b l → a ≤ k → k < b → Rising a b (insert_key k l)
 unfolding insert_key put_key
@@ -156,6 +157,7 @@ same_members (rising_put {b = b} {k = x} {l = l} e r) (rising_put {b = b'} {k = 
 spread_above : {a b k : ℕ} {l : List ℕ} → Spread a b l → In k l → a ≤ k / 64
 spread_above {k = k} (spread_put {k = x} e r) (here h) = rw h e
 spread_above {a} {k = k} (spread_put {k = x} e r) (there h) = let q : suc (x / 64) ≤ k / 64 = spread_above r h in omega arith
+spread_above {k = k} (spread_nil {a = a} {b = b} _) x6 = elim x6 [ ]
 
 -- at most one of each priority
 pub spread_one : {a b j k : ℕ} {l : List ℕ} → Spread a b l → In j l → In k l → j / 64 ≡ k / 64 → j ≡ k
@@ -165,6 +167,7 @@ spread_one {j = j} {k = k} (spread_put {k = x} e r) (here p) (there q) h = let u
 spread_one {j = j} {k = k} (spread_put {k = x} e r) (there p) (here q) h = let u : suc (x / 64) ≤ j / 64 =
     spread_above r p in let v : k / 64 ≡ x / 64 = ap (λ z. z / 64) q in absurd (omega arith)
 spread_one (spread_put e r) (there p) (there q) h = spread_one r p q h
+spread_one {j = j} {k = k} (spread_nil {a = a} {b = b} _) x14 _ h = elim x14 [ ]
 
 pub slots_in-append : (ks l : List ℕ) → slots_in (ks ++ l) ≡ slots_in ks ++ slots_in l
 unfolding slots_in

@@ -187,7 +187,7 @@ module _ (listing : Listing) where
   owned_few (by_reference ∷ ks) loc = let d = owned_few ks loc in omega arith
   owned_few (by_value ∷ ks) loc = let d = owned_few ks loc in omega arith
 
-  pub names_near : {ks : List Kind} {xs : List ℕ} (ns : List ℕ) (loc b : ℕ) → ((x : ℕ) → x < length ns → address_of ns x < b) → (b' : ℕ) → b ≤ b' →
+  pub names_near : (ns : List ℕ) {ks : List Kind} {xs : List ℕ} (loc b : ℕ) → ((x : ℕ) → x < length ns → address_of ns x < b) → (b' : ℕ) → b ≤ b' →
       Passed (length ns) ks xs → (n : ℕ) → n < length (bind_names ks (addresses_of ns xs) loc b') →
       address_of (bind_names ks (addresses_of ns xs) loc b') n < b' + owned_count ks loc
   unfolding bind_names addresses_of address_of owned_count

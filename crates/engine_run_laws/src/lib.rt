@@ -1,7 +1,7 @@
 // Definitions and theorems: what a run asks of the words, and that each step keeps it; and how a run ends.
 
 // The instant ended: the steps left, the live routines, the waits passed.
-#[derive(Drop)]
+#[derive(Clone, Copy)]
 pub struct Left {
     pub left: u32,
     pub live: u32,
@@ -9,7 +9,7 @@ pub struct Left {
 }
 
 // Ended, or stopped under a number.
-#[derive(Drop)]
+#[derive(Clone, Copy)]
 pub enum Ran {
     Ended(Left),
     Stopped(u32),

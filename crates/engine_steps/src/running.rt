@@ -5,7 +5,7 @@ ghost use Rattle.engine_steps.specs.Outcome.{Pops};
 use engine_ready::ReadyList;
 
 // Who is ready, how many routines live, how many waits were passed, the slot of the routine that runs.
-#[derive(Drop)]
+#[derive(Clone, Copy)]
 pub struct Running {
     pub ready: ReadyList,
     pub live: u32,
@@ -14,14 +14,14 @@ pub struct Running {
 }
 
 // Somebody runs; the instant ends; the machine stops under a number.
-#[derive(Drop)]
+#[derive(Clone, Copy)]
 pub enum Answer {
     Goes,
     Ends,
     Stops(u32),
 }
 
-#[derive(Drop)]
+#[derive(Clone, Copy)]
 pub struct Stepped {
     pub answer: Answer,
     pub running: Running,
@@ -29,7 +29,7 @@ pub struct Stepped {
 
 // A step made without the ready list: the routine goes on at this place; the machine stops under a number; it was not made, since it
 // may change the ready list.
-#[derive(Drop)]
+#[derive(Clone, Copy)]
 pub enum Onward {
     To(u32),
     StopsWith(u32),

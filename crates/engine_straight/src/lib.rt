@@ -14,7 +14,7 @@ use table_read::Entry;
 use words::{Moment, number};
 
 // So many steps are left, and the next needs the ready list, or none is left; or the machine stops under a number.
-#[derive(Drop)]
+#[derive(Clone, Copy)]
 pub enum Straight {
     At(u32),
     StopsWith(u32),

@@ -1,5 +1,7 @@
 // Variables by block s and index (block 64 has the environment's), and the names bound to them, read. Every contract says what the
 // words stand for as rows and environment. `m` is the machine's memory, `s` a slot or 64.
+#![tactic(auto)]
+
 ghost use Rattle.std.specs.Prelude.{◌≤◌, ◌<◌};
 ghost use Rattle.machine.specs.Words.{HasMachine};
 ghost use Rattle.machine.specs.Layout.{waiting_moment};
@@ -13,7 +15,7 @@ use machine::{BINDINGS, DUE_HIGH, DUE_LOW, ENVIRONMENT, SLOTS, VALUE, VARIABLE_W
 pub const SIZE: u64 = 4294967296;
 
 // The variable that a name stands for.
-#[derive(Drop)]
+#[derive(Clone, Copy)]
 pub struct Binding {
     pub block: usize,
     pub index: usize,

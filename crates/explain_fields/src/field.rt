@@ -7,7 +7,7 @@ use crate::reasons::{FIFTH_NAME, FINE, LEAVES_SEVERAL, SECOND_PIECE};
 use explain_parts::part_end;
 
 // What a field holds: a figure, the kinds of arguments, an expression, names to wait on, a child's routine and arguments.
-#[derive(Drop)]
+#[derive(Clone, Copy)]
 pub enum Role {
     Number,
     Kinds,
@@ -17,7 +17,7 @@ pub enum Role {
 }
 
 // The reason, 0 if there is none, and the number of the piece, from 1; 0 if it is about the whole field.
-#[derive(Drop)]
+#[derive(Clone, Copy)]
 pub struct Found {
     pub why: u32,
     pub piece: usize,

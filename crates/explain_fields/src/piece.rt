@@ -19,7 +19,7 @@ const MOST_HELD: u8 = 8;
 const ASCII: u8 = 128;
 
 // The reason of a piece, and what is held after it: values of an expression, or pieces.
-#[derive(Drop)]
+#[derive(Clone, Copy)]
 pub struct Told {
     pub why: u32,
     pub held: u8,

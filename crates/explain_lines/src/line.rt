@@ -8,7 +8,7 @@ use explain_fields::reasons::FINE;
 use explain_parts::{count_parts, part_after};
 
 // The reason, 0 if there is none; the field and its piece, each from 1, 0 if it is about more than one.
-#[derive(Drop)]
+#[derive(Clone, Copy)]
 pub struct Fault {
     pub why: u32,
     pub field: usize,

@@ -4,7 +4,7 @@ ghost use Rattle.listing.specs.Bytes.{split};
 ghost use Rattle.explain_parts.specs.Parts.{part_end, IsPart};
 
 // A part goes from one offset up to another, without its separator.
-#[derive(Drop)]
+#[derive(Clone, Copy)]
 pub struct Part {
     pub from: usize,
     pub to: usize,

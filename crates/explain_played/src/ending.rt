@@ -8,7 +8,7 @@ use crate::spot::spot_of;
 use table::TABLE_WORDS;
 
 // The code; the line of the trace, from 1, that was played, and the instant that was made last or refused.
-#[derive(Drop)]
+#[derive(Clone, Copy)]
 pub struct Ended {
     pub code: u32,
     pub line: usize,

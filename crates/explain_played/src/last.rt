@@ -12,7 +12,7 @@ use session_replay::{Advanced, Phase, advance};
 use session_trace_lines::figure::{Bounded, MOST_32, figure_up_to};
 
 // The phase from which the last step was made, and how many bytes it printed.
-#[derive(Drop)]
+#[derive(Clone, Copy)]
 pub struct Last {
     pub phase: Phase,
     pub printed: usize,

@@ -11,7 +11,7 @@ use session_trace_lines::{TraceLine, read_trace_line};
 use text_place::Place;
 
 // A line of the trace, from 1, and a moment.
-#[derive(Drop)]
+#[derive(Clone, Copy)]
 pub struct Spot {
     pub line: usize,
     pub moment: u64,

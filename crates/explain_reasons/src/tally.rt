@@ -8,7 +8,7 @@ use explain_fields::reasons::{
 use explain_lines::letter::first_byte;
 use explain_parts::{count_parts, part_end};
 
-#[derive(Drop)]
+#[derive(Clone, Copy)]
 pub struct Tally {
     pub bytes: usize,
     pub routines: usize,

@@ -20,7 +20,7 @@ const WEEKDAYS: u64 = 7;
 const DAY_MINUTES: u64 = 1440;
 
 // The reason, 0 if there is none; the field and its piece, each from 1, 0 if it is about the whole line; the figure behind the reason.
-#[derive(Drop)]
+#[derive(Clone, Copy)]
 pub struct LineFault {
     pub why: u32,
     pub field: usize,

@@ -9,7 +9,7 @@ use explain_parts::{part_after, part_end};
 use text_piece::{Figure, figure_of};
 
 // The lines so far; the routines; how many lines come before the `R` of the routine looked for, and its instructions; whether a later routine began.
-#[derive(Drop)]
+#[derive(Clone, Copy)]
 pub struct Around {
     pub lines: usize,
     pub routines: usize,
@@ -129,7 +129,7 @@ fn names_on(line: &[u8]) -> usize
 }
 
 // What a line's names, jumps and calls may point to: numbers below these.
-#[derive(Drop)]
+#[derive(Clone, Copy)]
 pub struct Scope {
     pub names: usize,
     pub size: usize,

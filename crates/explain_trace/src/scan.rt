@@ -13,7 +13,7 @@ use session_trace_lines::{TraceLine, read_trace_line};
 use text_place::Place;
 
 // The line, from 1; the reason, 0 if there is none; the field, 0 if it is about more than one; the figure behind the reason.
-#[derive(Drop)]
+#[derive(Clone, Copy)]
 pub struct TraceFault {
     pub line: usize,
     pub why: u32,
@@ -22,7 +22,7 @@ pub struct TraceFault {
 }
 
 // After a line: the time of its call, and the least number that may come next in it; or the fault.
-#[derive(Drop)]
+#[derive(Clone, Copy)]
 pub enum Judged {
     Goes(u64, u64),
     Ends(TraceFault),

@@ -1,9 +1,11 @@
 // The words of explain's command line: which are flags, and what each makes the next one.
+#![tactic(auto)]
+
 ghost use Rattle.std.specs.Prelude.{◌≡◌};
 ghost use Rattle.explain_words.specs.Words.{letter_flag, flag_of, after_flag, held_after};
 
 // What the next word is: a flag or a listing, or the file that a flag speaks of.
-#[derive(Drop)]
+#[derive(Clone, Copy)]
 pub enum Awaited {
     Word,
     Trace,
@@ -11,7 +13,7 @@ pub enum Awaited {
 }
 
 // Between two arguments: the number of the listing's, 0 if there is none yet; and what comes next.
-#[derive(Drop)]
+#[derive(Clone, Copy)]
 pub struct Held {
     pub listing: usize,
     pub awaited: Awaited,

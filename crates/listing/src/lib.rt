@@ -1,4 +1,5 @@
 // The listing of document 01, its text and what loading it gives: definitions and theorems; and the limits.
+#![tactic(auto)]
 
 // "listing 49,152 bytes; 64 routines; 512 instructions in all; 16 names a routine; 4,096 pieces after the letters of instruction lines."
 pub const MOST_BYTES: usize = 49152;

@@ -1,11 +1,13 @@
 // What a piece does to the values that an expression holds. Document 01: "It leaves one value and never holds more than 8; both belong to its form."
 // For the reader of a text and the check of a table alike: each says by its own pieces which effect they have.
+#![tactic(auto)]
+
 ghost use Rattle.std.specs.Prelude.{◌≡◌};
 ghost use Rattle.listing.specs.Expressions.{adds, joins};
 ghost use Rattle.listing_effect.specs.Held.{held_by, held_after};
 
 // It adds a value, takes two and leaves one, or is no piece.
-#[derive(Drop)]
+#[derive(Clone, Copy)]
 pub enum Effect {
     Adds,
     Joins,

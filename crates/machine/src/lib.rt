@@ -1,4 +1,5 @@
 // The machine's words: what they stand for, and when they pass question 7. Definitions and theorems; and the layout's constants (docs/LAYOUT.md).
+#![tactic(auto)]
 
 // The words of a machine that are read or written.
 pub const MACHINE_WORDS: usize = 12288;

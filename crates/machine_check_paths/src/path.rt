@@ -14,7 +14,7 @@ use table_child_fields::pick::Maker;
 use table_child_fields::routines::line_at;
 use words::number;
 
-#[derive(Drop)]
+#[derive(Clone, Copy)]
 pub struct Path {
     // Does the list pass so far?
     pub good: bool,

@@ -1,5 +1,7 @@
 // The stopped form of a machine's memory, and the blank memory that the start begins with.
 // "The machine's first word holds the number (0 while running), its other 12,287 words are 0 .. Words past 12,288 are never touched."
+#![tactic(auto)]
+
 ghost use Rattle.std.specs.Prelude.{◌≡◌, ◌++◌, ◌≤◌, drop};
 ghost use Rattle.machine.specs.Words.{HasMachine};
 ghost use Rattle.walk.specs.Calls.{halted_words};

@@ -1,5 +1,6 @@
 // Reading the machine's words: numbers, moments, variables and blocks at rest, with the soonest moment due.
 // Every function takes the 12,288 words, or an address in them; none changes anything.
+#![tactic(auto)]
 
 pub mod due;
 
@@ -15,7 +16,7 @@ use words::Moment;
 
 // A test that looks for the next moment due on the way: with the soonest found, 0 if there is none. The tests of all blocks also keep
 // the soonest of each: place s of 65 is block s's, 64 being the environment's.
-#[derive(Drop)]
+#[derive(Clone, Copy)]
 pub enum Test {
     Fails,
     Passes(u64),

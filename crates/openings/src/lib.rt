@@ -1,5 +1,7 @@
 // The openings of a session's valves, from the lists of its writes: definitions and laws, and the questions put to the lists.
 // Document 02: "9 a moment that falls, 11 an output of 16 or more or listed twice in a moment."
+#![tactic(auto)]
+
 ghost use Rattle.std.specs.Prelude.{List, ◌≡◌, ℕ, length};
 ghost use Rattle.openings.specs.Questions.{none_falls};
 ghost use Rattle.openings.specs.Verdicts.{verdict};
@@ -24,7 +26,7 @@ pub fn none_falls(moments: &[u64]) -> bool
 }
 
 // What 9 and 11 say of lists: they pass, and stand in the order of their rows or in another; or they are refused.
-#[derive(Drop)]
+#[derive(Clone, Copy)]
 pub enum Verdict {
     InOrder,
     AnyOrder,

@@ -4,6 +4,8 @@
 // rising output, so that an opening's row comes behind all rows before it. `lines` has for each output the line of its open valve's row,
 // 0 if the valve is closed, ELSEWHERE if the row stands on another page; `opened` the moment of its last opening; `first` is the number
 // of the page's first opening.
+#![tactic(auto)]
+
 pub mod order;
 pub mod valves;
 

@@ -1,4 +1,6 @@
 // The calendar of a schedule: is a date real, and on which weekday does it fall? Any numbers are taken where a date may still be none.
+#![tactic(auto)]
+
 ghost use Rattle.std.specs.Prelude.{true, ◌≡◌, ◌+◌, ◌-◌, ◌<◌, ◌≤◌};
 ghost use Rattle.schedule.specs.Calendar.{is_leap, month_days, year_days, is_real_date, days_of_years, days_of_months, weekday_after};
 

@@ -1,6 +1,8 @@
 // Reads the lines of a schedule by places: the date's line, and a window's. Document 02: "input number, weekday 1 (Monday) to 7, opening
 // and closing minute, 0 to 1,440 with opening below closing, parted by tabs".
 // Any bytes may come; a line out of form, or with a number that is none of its kind, is an answer. It writes nothing.
+#![tactic(auto)]
+
 ghost use Rattle.std.specs.Prelude.{◌≡◌};
 ghost use Rattle.text_place.specs.Texts.{Within};
 ghost use Rattle.schedule.specs.Schedule.{is_window};
@@ -17,7 +19,7 @@ const WEEKDAYS: u64 = 7;
 const DAY_MINUTES: u64 = 1440;
 
 // A real date, the byte that closes its line, 0 at the end of the text, and the place past it.
-#[derive(Drop)]
+#[derive(Clone, Copy)]
 pub enum DateLine {
     // year, month, day
     Read(u64, u64, u64, u8, Place),
@@ -25,7 +27,7 @@ pub enum DateLine {
 }
 
 // A window, the byte that closes its line, 0 at the end of the text, and the place past it.
-#[derive(Drop)]
+#[derive(Clone, Copy)]
 pub enum WindowLine {
     // input, weekday, opening and closing minute
     Read(u64, u64, u64, u64, u8, Place),

@@ -13,7 +13,7 @@ use words::Moment;
 const ALLOWANCE: u32 = 10000;
 
 // What came of a call.
-#[derive(Drop)]
+#[derive(Clone, Copy)]
 pub enum Called {
     // the number of the refusal or stop, which ends the session
     Ended(u32),
@@ -22,7 +22,7 @@ pub enum Called {
 }
 
 // What of an answer the session needs.
-#[derive(Drop)]
+#[derive(Clone, Copy)]
 pub struct Told {
     pub number: u32,
     pub listed: u32,

@@ -6,7 +6,7 @@ ghost use Rattle.session_calls.specs.Clock.{Soon};
 use call_engine::Due;
 
 // What the last call's result gave: the present moment, and the next moment due. The session's moments are the trace's numbers.
-#[derive(Drop)]
+#[derive(Clone, Copy)]
 pub struct Clock {
     pub now: u64,
     pub due: Due,

@@ -9,7 +9,7 @@ use session_calls::{Called, Clock, make_instant, make_start};
 use session_print::{put_end_line, put_write_lines};
 
 // How many bytes were printed: the session's end, or the writes of a call that went through.
-#[derive(Drop)]
+#[derive(Clone, Copy)]
 pub enum Made {
     Ended(usize),
     Went(Clock, usize),

@@ -1,7 +1,7 @@
 // Where a session stands between two of its steps.
 use session_calls::Clock;
 
-#[derive(Drop)]
+#[derive(Clone, Copy)]
 pub enum Phase {
     // nothing is done yet
     Opening,
@@ -14,13 +14,13 @@ pub enum Phase {
 }
 
 // A step: the next phase, and how many bytes were printed.
-#[derive(Drop)]
+#[derive(Clone, Copy)]
 pub struct Step {
     pub phase: Phase,
     pub printed: usize,
 }
 
-#[derive(Drop)]
+#[derive(Clone, Copy)]
 pub enum Advanced {
     // the next phase, and how many bytes were printed
     Went(Phase, usize),

@@ -6,7 +6,7 @@ use session_trace_lines::{TraceLine, read_trace_line};
 use text_place::Place;
 
 // What is next in a trace.
-#[derive(Drop)]
+#[derive(Clone, Copy)]
 pub enum Next {
     // the time of a call, how many of its inputs were put into the lists, and the offset of the line after its last
     Call(u64, usize, usize),
@@ -17,7 +17,7 @@ pub enum Next {
 }
 
 // Whether a line is a further input of a call: its number and value, and the offset of the line after it.
-#[derive(Drop)]
+#[derive(Clone, Copy)]
 pub enum Joins {
     Yes(u32, u32, usize),
     No,

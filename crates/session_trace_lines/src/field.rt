@@ -8,14 +8,14 @@ use crate::figure::{Bounded, figure_up_to, value_of};
 use text_place::{Place, take_piece};
 
 // A field's one piece, from one offset up to another; the byte that closes the field, and the place past it.
-#[derive(Drop)]
+#[derive(Clone, Copy)]
 pub enum OnePiece {
     Read(usize, usize, u8, Place),
     Bad,
 }
 
 // A field's number, the byte that closes the field, and the place past it.
-#[derive(Drop)]
+#[derive(Clone, Copy)]
 pub enum Figure {
     Read(u64, u8, Place),
     Bad,

@@ -19,7 +19,7 @@ const MOST_NEGATED: u64 = 2147483648;
 const SIZE: u64 = 4294967296;
 
 // A number within a bound, or none.
-#[derive(Drop)]
+#[derive(Clone, Copy)]
 pub enum Bounded {
     Value(u64),
     Bad,

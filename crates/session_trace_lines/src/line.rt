@@ -9,7 +9,7 @@ use crate::figure::{MOST_32, MOST_64};
 use text_place::Place;
 
 // What a line says, the byte that closes it, 0 at the end of the text, and the place past it.
-#[derive(Drop)]
+#[derive(Clone, Copy)]
 pub enum TraceLine {
     // a time, an input's number and its value
     Input(u64, u32, u32, u8, Place),

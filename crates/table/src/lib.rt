@@ -1,4 +1,5 @@
 // Definitions and theorems: a table's words, the listing that they stand for, question 6; and the layout's constants (docs/LAYOUT.md).
+#![tactic(auto)]
 
 // The words of a table that are read or written.
 pub const TABLE_WORDS: usize = 12288;

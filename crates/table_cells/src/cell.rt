@@ -9,7 +9,7 @@ use text_piece::{Piece, piece_of};
 use text_place::{Place, take_piece};
 
 // How many cells were written, the byte that closes the field, and the place past it.
-#[derive(Drop)]
+#[derive(Clone, Copy)]
 pub struct Cells {
     pub count: usize,
     pub stop: u8,

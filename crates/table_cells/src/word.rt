@@ -8,7 +8,7 @@ use text_fields::{Number, number_field};
 use text_place::Place;
 
 // The word, the byte that closes the field, and the place past it.
-#[derive(Drop)]
+#[derive(Clone, Copy)]
 pub struct Word {
     pub value: u32,
     pub stop: u8,

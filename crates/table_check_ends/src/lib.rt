@@ -1,4 +1,6 @@
 // Question 6 at the ends: the instruction that ends a routine, and what is behind the routines.
+#![tactic(auto)]
+
 ghost use Rattle.std.specs.Prelude.{◌≡◌, ◌+◌, ◌*◌, ◌-◌, ◌≤◌, length};
 ghost use Rattle.listing.specs.Questions.{may_be_last};
 ghost use Rattle.table.specs.Areas.{operands, TableLong};

@@ -1,6 +1,8 @@
 // Question 6 of one instruction, by its kind: its operand, its counts and its cells.
 // `t` is a table's 12,288 words, `names` is the number of the routine's names.
 // A function named `.._past` gives the address behind the cells that it looks at, or 0 if the answer is no.
+#![tactic(auto)]
+
 ghost use Rattle.std.specs.Prelude.{◌≡◌, true, cond, ◌&&◌, ◌+◌, ◌*◌, ◌≤◌, eqb, ltb, leb};
 ghost use Rattle.table.specs.Areas.{TableLong};
 ghost use Rattle.table.specs.Decode.{word};

@@ -7,7 +7,7 @@ ghost use Rattle.table_child_fields.specs.Picking.{no_maker, maker_of};
 use table_read::{head_after, head_at, next_head};
 
 // What made a record: its routine, and behind its child field the next head and how many are left; all 0 if nothing did.
-#[derive(Drop)]
+#[derive(Clone, Copy)]
 pub struct Maker {
     pub found: bool,
     pub routine: usize,

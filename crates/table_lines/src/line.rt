@@ -2,7 +2,7 @@
 use text_place::Place;
 
 // What a line holds that a table's header or a routine's entry needs; an instruction's cells and entry are written.
-#[derive(Drop)]
+#[derive(Clone, Copy)]
 pub enum Holds {
     // inputs and outputs
     Ports(u32, u32),
@@ -13,7 +13,7 @@ pub enum Holds {
 }
 
 // What the line holds, and the place past it.
-#[derive(Drop)]
+#[derive(Clone, Copy)]
 pub struct WrittenLine {
     pub holds: Holds,
     pub next: Place,

@@ -12,7 +12,7 @@ use table_cells::word::word_field;
 use text_place::{Place, take_piece};
 
 // How many kinds, and one bit for each.
-#[derive(Drop)]
+#[derive(Clone, Copy)]
 pub struct Kinds {
     pub count: u32,
     pub bits: u32,

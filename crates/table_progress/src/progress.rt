@@ -7,7 +7,7 @@ use table_lines::Holds;
 use text_place::Place;
 
 // The reading place (offset, line); the routines, instructions and words of cells so far; the instructions of the last routine.
-#[derive(Drop)]
+#[derive(Clone, Copy)]
 pub struct Progress {
     pub at: usize,
     pub line: usize,

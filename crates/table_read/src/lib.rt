@@ -1,5 +1,6 @@
 // Reading a table: the number of environment variables, an instruction by its routine and place, a routine's entry, a child field's head, a name, a sign.
 // `t` is a table's 12,288 words.
+#![tactic(auto)]
 
 ghost use Rattle.std.specs.Prelude.{◌≡◌, true, ℕ, ◌+◌, ◌<◌, ◌≤◌, length};
 ghost use Rattle.table.specs.Areas.{TableLong};
@@ -22,7 +23,7 @@ pub fn environment_size(t: &[u32]) -> usize
 }
 
 // An instruction's entry: its kind (1 `S`, 2 `A`, 3 `U`, 4 `G`, 5 `W`, 6 `F`, 7 `E`), the name or the jump, the word address of its cells, two counts.
-#[derive(Drop)]
+#[derive(Clone, Copy)]
 pub struct Entry {
     pub kind: u32,
     pub operand: usize,
@@ -68,7 +69,7 @@ pub fn entry_at(t: &[u32], e: usize) -> Entry
 }
 
 // A routine's entry: its arguments, their kinds as bits (argument k is bit k, 1 by reference), its locals, its instructions.
-#[derive(Drop)]
+#[derive(Clone, Copy)]
 pub struct Opening {
     pub arguments: usize,
     pub bits: u32,
@@ -94,7 +95,7 @@ pub fn opening_of(t: &[u32], r: usize) -> Opening
 }
 
 // The head of a child field: its number of arguments, its routine.
-#[derive(Drop)]
+#[derive(Clone, Copy)]
 pub struct Head {
     pub arguments: usize,
     pub callee: usize,

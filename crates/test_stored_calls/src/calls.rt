@@ -12,7 +12,7 @@ use test_stored_answers::Report;
 use test_stored_answers::inputs::read_pairs;
 
 // The kind (0 the start, 1 an instant), what is spoilt, the moment, the allowance, how many inputs, and where they stand.
-#[derive(Drop)]
+#[derive(Clone, Copy)]
 pub struct Call {
     pub kind: u32,
     pub spoil: u32,

@@ -22,7 +22,7 @@ fn count_at(s: &[u8], at: usize, most: usize) -> usize
 }
 
 // A stored case without its lists: its name, their lengths, the page, the memory's length and the byte that fills it; the place past it.
-#[derive(Drop)]
+#[derive(Clone, Copy)]
 pub struct Case {
     pub name: u32,
     pub moments: usize,

@@ -25,7 +25,7 @@ fn room_at(s: &[u8], at: usize) -> usize
 }
 
 // The span, and the lengths of the lists for moments, inputs and values.
-#[derive(Drop)]
+#[derive(Clone, Copy)]
 struct Asked {
     first: u64,
     end: u64,
@@ -52,7 +52,7 @@ fn asked_at(s: &[u8], at: usize) -> Asked
 }
 
 // Number, place, how many inputs are listed; and the first line where question 19 says no, or 0.
-#[derive(Drop)]
+#[derive(Clone, Copy)]
 struct Answer {
     number: u32,
     place: u32,
@@ -77,7 +77,7 @@ fn answer_at(s: &[u8], at: usize) -> Answer
 
 // A case of the file is its name (a word), its schedule (a part), what is asked, the answer's figures, and of the inputs listed first the
 // moments and then the pairs of input and value. Here: where the schedule begins and ends, where moments and pairs stand, and the next case.
-#[derive(Drop)]
+#[derive(Clone, Copy)]
 pub struct Case {
     pub name: u32,
     pub from: usize,

@@ -9,28 +9,28 @@ use text_piece::{Figure, figure_of, piece_of};
 use text_place::{Place, take_piece};
 
 // A field of one figure: its number, the byte that closes the field, and the place past it.
-#[derive(Drop)]
+#[derive(Clone, Copy)]
 pub enum Number {
     Read(u64, u8, Place),
     Bad,
 }
 
 // A field's pieces, gathered.
-#[derive(Drop)]
+#[derive(Clone, Copy)]
 pub enum Pieces {
     Read(Gathering, u8, Place),
     Bad,
 }
 
 // An expression: how many pieces, and whether its names are there.
-#[derive(Drop)]
+#[derive(Clone, Copy)]
 pub enum Expression {
     Read(u64, bool, u8, Place),
     Bad,
 }
 
 // A row of figures, gathered.
-#[derive(Drop)]
+#[derive(Clone, Copy)]
 pub enum Figures {
     Read(Gathering, u8, Place),
     Bad,

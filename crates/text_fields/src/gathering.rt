@@ -6,7 +6,7 @@ use crate::answers::both;
 use listing_effect::held_after;
 use text_piece::{Piece, effect_of};
 
-#[derive(Drop)]
+#[derive(Clone, Copy)]
 pub struct Gathering {
     // how many pieces
     pub count: u64,

@@ -9,13 +9,13 @@ use crate::answers::both;
 use text_place::{Place, take_piece};
 
 // How many, and whether all are by reference.
-#[derive(Drop)]
+#[derive(Clone, Copy)]
 pub enum Kinds {
     Read(u64, bool),
     Bad,
 }
 
-#[derive(Drop)]
+#[derive(Clone, Copy)]
 pub enum KindsField {
     Read(u64, bool, u8, Place),
     Bad,

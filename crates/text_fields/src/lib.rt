@@ -1,6 +1,8 @@
 // Reads the fields of a listing's line by places: numbers, kinds, expressions and rows of figures. Document 01: "Plain ASCII, one record a line,
 // fields parted by one tab .., pieces inside a field by one space, each line closed by a line feed."
 // Any bytes may come; a text out of form is an answer. It writes nothing.
+#![tactic(auto)]
+
 pub mod answers;
 pub mod field;
 pub mod gathering;

@@ -2,7 +2,7 @@
 use text_place::Place;
 
 // What questions 3 to 5 ask of a record.
-#[derive(Drop)]
+#[derive(Clone, Copy)]
 pub enum Record {
     // inputs and outputs
     Ports(u64, u64),
@@ -13,7 +13,7 @@ pub enum Record {
 }
 
 // A record, the byte that closes its line, and the place past it.
-#[derive(Drop)]
+#[derive(Clone, Copy)]
 pub enum Rest {
     Is(Record, u8, Place),
     Bad,

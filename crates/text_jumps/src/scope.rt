@@ -5,7 +5,7 @@ ghost use Rattle.text_jumps.specs.Records.{call_by};
 use text_fields::Gathering;
 
 // The names and the instructions of the line's routine, and the number of routines.
-#[derive(Drop)]
+#[derive(Clone, Copy)]
 pub struct Scope {
     pub names: u8,
     pub size: u16,

@@ -6,7 +6,7 @@ ghost use Rattle.text_limits.specs.Counting.{WithinLimits, count_opens, count_in
 use listing::{MOST_BYTES, MOST_INSTRUCTIONS, MOST_NAMES, MOST_PIECES, MOST_ROUTINES};
 use text_jumps::Record;
 
-#[derive(Drop)]
+#[derive(Clone, Copy)]
 pub struct Counts {
     pub routines: u64,
     pub instructions: u64,
@@ -14,7 +14,7 @@ pub struct Counts {
 }
 
 // The counts with one line more, unless it passes a limit.
-#[derive(Drop)]
+#[derive(Clone, Copy)]
 pub enum Counting {
     Within(Counts),
     Past,

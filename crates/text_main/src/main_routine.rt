@@ -3,7 +3,7 @@ ghost use Rattle.std.specs.Prelude.{◌≡◌};
 ghost use Rattle.text_main.specs.Stated.{is_stated};
 
 // Where the pass is: the inputs and outputs, whether main is still to come, and the names and instructions of the routine.
-#[derive(Drop)]
+#[derive(Clone, Copy)]
 pub struct Here {
     pub inputs: u64,
     pub outputs: u64,

@@ -8,7 +8,7 @@ ghost use Rattle.text_piece.specs.Pieces.{cap, figure_answer};
 // 2 to the 40.
 const CAP: u64 = 1099511627776;
 
-#[derive(Drop)]
+#[derive(Clone, Copy)]
 pub enum Figure {
     Value(u64),
     Bad,

@@ -1,4 +1,6 @@
 // What a piece's bytes give: a figure, a piece of an expression. Any bytes may come; it writes nothing.
+#![tactic(auto)]
+
 pub mod figure;
 pub mod piece;
 

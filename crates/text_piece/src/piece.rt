@@ -8,7 +8,7 @@ ghost use Rattle.text_piece.specs.Pieces.{as_piece, piece_answer, effect_in, if_
 use crate::figure::{Figure, figure_of};
 use listing_effect::Effect;
 
-#[derive(Drop)]
+#[derive(Clone, Copy)]
 pub enum Piece {
     Literal(u32),
     Value(u64),

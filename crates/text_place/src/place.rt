@@ -6,14 +6,14 @@ ghost use Rattle.text_place.specs.Places.{taken_at};
 use crate::past::{closing_byte, place_past};
 
 // The offset of the next byte, and the number of its line, from 1.
-#[derive(Drop)]
+#[derive(Clone, Copy)]
 pub struct Place {
     pub offset: usize,
     pub line: usize,
 }
 
 // A piece, from one offset up to another; the byte that closes it, 0 at the end of the text; and the place past both.
-#[derive(Drop)]
+#[derive(Clone, Copy)]
 pub struct Taken {
     pub from: usize,
     pub to: usize,

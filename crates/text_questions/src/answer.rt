@@ -9,7 +9,7 @@ use text_limits::limit_place;
 use text_survey::there_place;
 
 // What loading gives: the table, or a refusal with the number of the question and the place.
-#[derive(Drop)]
+#[derive(Clone, Copy)]
 pub enum Loaded {
     Done,
     Refused(u32, usize),

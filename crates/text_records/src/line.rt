@@ -9,7 +9,7 @@ use text_jumps::{Record, Rest, Scope};
 use text_place::{Place, take_piece};
 
 // A line's record, the byte that closes the line, and the place past it.
-#[derive(Drop)]
+#[derive(Clone, Copy)]
 pub enum Line {
     Is(Record, u8, Place),
     Bad,

@@ -10,7 +10,7 @@ use text_place::Place;
 use text_records::{Line, read_line};
 
 // How many arguments each routine takes, 0 behind the last, and the number of routines.
-#[derive(Drop)]
+#[derive(Clone, Copy)]
 pub struct Survey {
     pub counts: [u8; 64],
     pub routines: u8,

@@ -53,6 +53,7 @@ fork_without_child_is_no_state s = refuted s.tree
     refuted : Tree forks_two (main_with empty) → ⊥
     refuted (lives (waits made at) rest) = true≢false (sym (ap is_wait at))
     refuted (lives (joins made at shallow alive children) rest) = true≢false (sym alive)
+    refuted (ended x7) = elim x7 [ ]
 
 -- ── "of at most 64 routines" ──────────────────────────────────────────────────────────────────────
 -- A child field that calls routine r with the caller's first name.
@@ -122,7 +123,8 @@ first_live (lives {c = c} a children) = (c, a)
 tower_ends : {level base : ℕ} {names : List ℕ} {c : Call} (k : ℕ) → Asleep forks_itself (Question7.all_at_rest 0) level base names c (tower (suc k)) → level + k ≤ 9
 unfolding tower
 tower_ends zero (joins made at shallow alive children) = omega (arith, shallow)
-tower_ends (suc k) (joins made at shallow alive children) = let below = tower_ends k (first_live children).1 in omega (arith, below)
+tower_ends {level = level} (suc k) (joins made at shallow alive children) =
+    let below = tower_ends {level = suc level} k (first_live children).1 in omega (arith, below)
 
 pub asleep_at_level_11_is_no_state : ¬ IsState forks_itself (down_to 11)
 asleep_at_level_11_is_no_state s = let deep : 0 + 10 ≤ 9 = tower_ends 10 (first_live s.tree).1 in omega arith

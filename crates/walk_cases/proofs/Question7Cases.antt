@@ -77,6 +77,7 @@ at_a_jump_is_no_state s = refuted s.tree
     refuted : Tree waits_for_ever (main_at 1 (0 ∷ [])) → ⊥
     refuted (lives (waits made at) rest) = true≢false (sym (ap is_wait at))
     refuted (lives (joins made at shallow alive children) rest) = true≢false (sym (ap is_fork at))
+    refuted (ended x7) = elim x7 [ ]
 
 -- "children and their names as that `F` binds them, main's as the start does": main's one name is the input.
 pub other_names_are_no_state : ¬ IsState waits_for_ever (main_at 0 (1 ∷ []))
@@ -86,6 +87,7 @@ other_names_are_no_state s = refuted s.tree
     refuted : Tree waits_for_ever (main_at 0 (1 ∷ [])) → ⊥
     refuted (lives (waits made at) rest) = let wrong : ◌≡◌ {A = ℕ} 1 0 = ap top made.bound in omega arith
     refuted (lives (joins made at shallow alive children) rest) = true≢false (sym (ap is_fork at))
+    refuted (ended x7) = elim x7 [ ]
 
 -- ── "of at most 64 routines" ──────────────────────────────────────────────────────────────────────
 module _ (fields : List Call) where

@@ -34,10 +34,10 @@ unfoldable pub closed_in : Listing → List ℕ → List ℕ → Bool
 closed_in listing rs [] = true
 closed_in listing rs (r ∷ some) = code_in rs (routine_at listing r).code && closed_in listing rs some
 
-callee_in : (rs : List ℕ) (cs : List Call) (d : Call) → callees_in rs cs ≡ true → Memᴰ d cs → among d.callee rs ≡ true
+callee_in : (rs : List ℕ) (d : Call) (cs : List Call) → callees_in rs cs ≡ true → Memᴰ d cs → among d.callee rs ≡ true
 unfolding callees_in
-callee_in rs _ d h (Memᴰ.head {x = c} e) = ap (λ (x : Call). among x.callee rs) e ∙ and_left (among c.callee rs) _ h
-callee_in rs _ d h (Memᴰ.tail {x = c} {xs = cs} m) = callee_in rs cs d (and_right (among c.callee rs) _ h) m
+callee_in rs d _ h (Memᴰ.head {x = c} e) = ap (λ (x : Call). among x.callee rs) e ∙ and_left (among c.callee rs) _ h
+callee_in rs d _ h (Memᴰ.tail {x = c} {xs = cs} m) = callee_in rs d cs (and_right (among c.callee rs) _ h) m
 
 fork_in : (rs : List ℕ) (code : List Instruction) (place : ℕ) → code_in rs code ≡ true → forks_in rs (get_or code place end) ≡ true
 unfolding code_in forks_in
@@ -60,7 +60,7 @@ pub all_among : (listing : Listing) (c : Call) (rs : List ℕ) → among c.calle
     RoutineOf listing c r → among r rs ≡ true
 all_among listing c rs own h _ its_own = own
 all_among listing c rs own h _ (forked {r = r} place {cs = cs} {d = d} i e m) =
-    callee_in rs cs d (forks e (fork_in rs (routine_at listing r).code place (code_of listing rs rs r h (all_among listing c rs own h r i)))) m
+    callee_in rs d cs (forks e (fork_in rs (routine_at listing r).code place (code_of listing rs rs r h (all_among listing c rs own h r i)))) m
   where
     forks : instruction_at listing r place ≡ fork cs → forks_in rs (get_or (routine_at listing r).code place end) ≡ true → callees_in rs cs ≡ true
     forks p q = unfold forks_in instruction_at in (ap (forks_in rs) (sym p) ∙ q)

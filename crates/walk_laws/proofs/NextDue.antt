@@ -126,6 +126,7 @@ pub data DueOnlyAfter (t : ℕ) : NextDue → Type 0 where
 
 not_both : {t : ℕ} (x : NextDue) → DueOnlyAfter t x → NoLaterThan t x → ⊥
 not_both _ (due_later l) (no_later l') = omega arith
+not_both {t = t} _ never_due x4 = elim x4 [ ]
 
 pub nothing_due_at : (t : ℕ) (s : State) → DueOnlyAfter t (next_due s) → ¬ WriteDueIn t s
 nothing_due_at t s h w = not_both _ h (none_due_before_next t s w)

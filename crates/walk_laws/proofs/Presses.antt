@@ -62,6 +62,7 @@ each_input_does t i least (v ∷ ws) m r l w (Memᴰ.head e) =
 each_input_does t i least (v ∷ ws) m r l w (Memᴰ.tail h) =
     let rest = and_right (ltb v.number i) _ (and_right (leb least v.number) _ r) in
     each_input_does t i (suc v.number) ws (input_at t m v.number v.value) rest (unfold input_at in simp length-set l) w h
+each_input_does t i least [] m r l w x3 = elim x3 [ ]
 
 -- "`S` still doesn't": a write by `S` leaves every waiting write there.
 pub assignments_drop_none : (now a v k : ℕ) (m : List Variable) → (variable_at (write_at now m a v) k).waiting ≡ (variable_at m k).waiting

@@ -4,7 +4,7 @@ ghost use Rattle.windows.specs.Call.{refusal};
 
 // Number, place, and how many inputs are listed; a refusal's place and count are 0.
 #[repr(C)]
-#[derive(Drop)]
+#[derive(Clone, Copy)]
 pub struct Listed {
     pub number: u32,
     pub place: u32,

@@ -1,5 +1,7 @@
 // The numbers of a board: words of 32 bits and their arithmetic, moments and delays.
 // It may use the wrapping sums and differences that std supplies, and no other crate.
+#![tactic(auto)]
+
 pub mod moment;
 pub mod word;
 

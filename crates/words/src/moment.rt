@@ -4,15 +4,15 @@ ghost use Rattle.std.specs.Prelude.{◌≡◌};
 ghost use Rattle.words.specs.Moments.{later_moment, later_of};
 
 // Milliseconds from the start.
-#[derive(Drop)]
+#[derive(Clone, Copy)]
 pub struct Moment(pub u64);
 
 // Milliseconds from the present instant.
-#[derive(Drop)]
+#[derive(Clone, Copy)]
 pub struct Delay(pub u32);
 
 // Where a delay leads: to a moment, or to 2 to the 64 and beyond, where there is none.
-#[derive(Drop)]
+#[derive(Clone, Copy)]
 pub enum Later {
     At(Moment),
     TooLate,

@@ -1,5 +1,7 @@
 // Division of words, each of which stands for a signed number. Document 02: "rounding toward zero, the remainder with the
 // dividend's sign; -2147483648 divided by -1 wraps to itself and its remainder is 0." Each is one unsigned division.
+#![tactic(auto)]
+
 ghost use Rattle.std.specs.Prelude.{◌<◌, ◌≡◌};
 ghost use Rattle.words_division.specs.Division.{is_negative, magnitude, with_sign, signed_quotient, signed_remainder};
 

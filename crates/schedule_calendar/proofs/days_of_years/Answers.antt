@@ -1,0 +1,23 @@
+-- `schedule_calendar::days_of_years` meets its contract.
+use Prim.Native.Nat.{◌≤◌, ◌-◌, ◌*◌}
+use mathlib.Core.Path.{◌≡◌, refl}
+use native.Mathlib.Omega.{arith}
+use borrow.Author.Rules.{rules}
+use Rattle.schedule.specs.Calendar.{days_of_years}
+use Rattle.schedule_calendar.proofs.Dates.{year_passed}
+use Rattle.schedule_calendar.proofs.days_of_years.Goals as goal
+
+pub loop-y-init : goal.loop-y-init
+unfolding days_of_years
+loop-y-init c = (refl, omega arith, omega arith, omega arith)
+
+pub loop-y-preserved : goal.loop-y-preserved
+loop-y-preserved c =
+    let v = c.loop-y in
+    (cc (year_passed v.y v.invariant.2), omega arith, omega arith, omega arith)
+
+pub returns : goal.returns
+returns c =
+    let v = c.loop-y in
+    let end : v.y ≡ c.args.year = omega arith in
+    (rw (← end) v.invariant.0, omega arith)

@@ -1,0 +1,63 @@
+-- `text_fields::number_field` meets its contract.
+use Prim.Native.Nat.{◌-◌}
+use mathlib.Core.Path.{◌≡◌, sym, ap, ◌∙◌}
+use lib.ListN.{drop, get_or}
+use lib.Seq.{slice}
+use Rattle.text_place.specs.Texts.{first_piece_lem, ends_piece, piece_end}
+use Rattle.text_place.specs.Places.{passed, taken_at}
+use Rattle.text_piece.specs.Pieces.{figure_answer}
+use Rattle.text_place.specs.declared.place.Taken.{Taken}
+use Rattle.text_place.proofs.Places as places
+use Rattle.text_fields.proofs.Numbers as numbers
+use Rattle.text_fields.specs.declared.field.Number.TheVariants as NV
+use borrow.Author.Rules.{rules}
+use Rattle.text_fields.proofs.field.number_field.Goals as goal
+
+pub returns-then-b-eq32 : goal.returns-then-b-eq32
+returns-then-b-eq32 c =
+    let a = c.args in
+    let s = a.s.now in
+    let r = c.take_piece-t.result in
+    let ens : r ≡ taken_at s a.place = c.take_piece-t.ensures in
+    let stop_is : r.stop ≡ get_or s (piece_end s a.place.offset) 0 = ap (λ (t : Taken). t.stop) ens in
+    let next_is_lem : r.next ≡ passed s a.place.line (piece_end s a.place.offset) = ap (λ (t : Taken). t.next) ens in
+    sym (numbers.number_space s a.place a.stop c.if-stop-eq9.true (sym stop_is ∙ c.if-b-eq32.true))
+
+pub figure_of-requires : goal.figure_of-requires
+figure_of-requires c =
+    let a = c.args in
+    let s = a.s.now in
+    let r = c.take_piece-t.result in
+    let ens : r ≡ taken_at s a.place = c.take_piece-t.ensures in
+    let stop_is : r.stop ≡ get_or s (piece_end s a.place.offset) 0 = ap (λ (t : Taken). t.stop) ens in
+    let next_is_lem : r.next ≡ passed s a.place.line (piece_end s a.place.offset) = ap (λ (t : Taken). t.next) ens in
+    let t = places.taken_in s a.place c.requires in
+    let f : r.from ≡ (taken_at s a.place).from = ap (λ (t : Taken). t.from) ens in
+    let g : r.to ≡ (taken_at s a.place).to = ap (λ (t : Taken). t.to) ens in
+    (rw (f, g) t.0, rw g t.1)
+
+pub returns-in_default : goal.returns-in_default
+returns-in_default c =
+    let a = c.args in
+    let s = a.s.now in
+    let r = c.take_piece-t.result in
+    let ens : r ≡ taken_at s a.place = c.take_piece-t.ensures in
+    let stop_is : r.stop ≡ get_or s (piece_end s a.place.offset) 0 = ap (λ (t : Taken). t.stop) ens in
+    let next_is_lem : r.next ≡ passed s a.place.line (piece_end s a.place.offset) = ap (λ (t : Taken). t.next) ens in
+    let sl : slice r.from r.to s ≡ first_piece_lem (drop a.place.offset s) = rw ens (places.before_slice ends_piece s a.place.offset c.requires.inside) in
+    let fg : figure_answer (first_piece_lem (drop a.place.offset s)) ≡ c.figure_of.result = ap figure_answer (sym sl) ∙ sym c.figure_of.ensures in
+    sym (numbers.number_piece s a.place a.stop c.if-stop-eq9.true (λ e. c.if-b-eq32.false (stop_is ∙ e)) ∙ rw (fg, c.in_default.is))
+
+pub returns-then-stop-eq9 : goal.returns-then-stop-eq9
+returns-then-stop-eq9 c =
+    let a = c.args in
+    let s = a.s.now in
+    let r = c.take_piece-t.result in
+    let ens : r ≡ taken_at s a.place = c.take_piece-t.ensures in
+    let stop_is : r.stop ≡ get_or s (piece_end s a.place.offset) 0 = ap (λ (t : Taken). t.stop) ens in
+    let sl : slice r.from r.to s ≡ first_piece_lem (drop a.place.offset s) = rw ens (places.before_slice ends_piece s a.place.offset c.requires.inside) in
+    let fg : figure_answer (first_piece_lem (drop a.place.offset s)) ≡ c.figure_of.result = ap figure_answer (sym sl) ∙ sym c.figure_of.ensures in
+    sym (numbers.number_piece s a.place a.stop c.if-stop-eq9.true (λ e. c.if-b-eq32.false (stop_is ∙ e)) ∙ rw (fg, c.in-Value.is) (ap (λ (t : Taken). NV.Read c.in-Value.n t.stop t.next) (sym ens)))
+
+pub returns : goal.returns
+returns c = sym (numbers.number_shut c.args.s.now c.args.place c.args.stop c.if-stop-eq9.false)

@@ -1,0 +1,13 @@
+use Prim.Native.Nat.{◌<◌, ◌-◌}
+use mathlib.Core.Path.{◌≡◌, sym, ◌∙◌}
+use native.Mathlib.Omega.{arith}
+use Rattle.text_fields.proofs.Letters as letters
+use Rattle.text_fields.proofs.Letters.{LettersLeft}
+use borrow.Author.Rules.{rules}
+use Rattle.text_fields.proofs.kinds.kinds_of.Given as goal
+
+abbrev pub invariant-loop-i : goal.invariant-loop-i
+invariant-loop-i l = LettersLeft l.s l.from l.to l.i l.n l.by_reference
+
+abbrev pub decreases-loop-i : goal.decreases-loop-i
+decreases-loop-i l = l.to - l.i

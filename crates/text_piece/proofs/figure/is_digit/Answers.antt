@@ -1,0 +1,10 @@
+-- `text_piece::is_digit` meets its contract.
+use Prim.Native.Nat.{◌-◌}
+use borrow.Author.Tests.{le-leb, lt-leb}
+use Rattle.text_piece.proofs.figure.is_digit.Goals as goal
+
+pub returns-then-b-lt48 : goal.returns-then-b-lt48
+returns-then-b-lt48 c = rw (lt-leb 48 _ c.if-b-lt48.true)
+
+pub returns : goal.returns
+returns c = rw (le-leb 48 _ c.if-b-lt48.false)

@@ -1,4 +1,4 @@
-// Links the archive that `rt staticlib fabrwent` writes, or the one that FABRWENT_ARCHIVE_DIR has.
+// Links the archive that `tools/build --library fabrwent` writes, or the one that FABRWENT_ARCHIVE_DIR has.
 use std::env;
 
 fn main() {

@@ -1,14 +1,17 @@
 // Prints the valve book of a session, all pages one behind another: the session's print comes on standard input, as
 // `session LISTING TRACE` writes it, and lines that are no writes end it. What it reads and prints, the stored run shows; the writes
 // are gathered by book_writes and the pages written by `page`, with their promises.
+#![tactic(auto)]
+
 ghost use Rattle.std.specs.Prelude.{length, take, ◌≡◌, ◌≤◌};
 ghost use Rattle.page.specs.Call.{PageFigures};
 ghost use Rattle.session_print.specs.Puts.{Puts};
 ghost use Rattle.book.specs.Reasons.{why_none};
 
 use book_writes::{PLACES, gather, make_trace};
-use libc::{STDERR_FILENO, STDIN_FILENO, STDOUT_FILENO};
 use page::{Printed, print_page};
+use std::io;
+use streams::{buffer, read_full, say};
 use test_cases::report::put_text;
 
 // A print of so many bytes or more is not read.
@@ -86,9 +89,10 @@ fn put_reason(out: &mut [u8], read: usize, all: bool, number: u32) -> usize
     )
 }
 
-fn main() {
+fn main(rt: HostRuntime) -> io::Result<()> {
     let mut print = text();
-    let read = io::read_full(STDIN_FILENO, &mut print);
+    let mut input = rt.stdin();
+    let read = read_full(&mut input, &mut print);
     make_trace(&mut print);
     let mut moments = moment_list();
     let mut outputs = word_list();
@@ -97,16 +101,17 @@ fn main() {
     let count = gathered.count;
     let mut memory = [0u8; PAGE_BYTES];
     let first = put_page(&moments, &outputs, &values, count, 1, &mut memory);
-    let mut out = io::buffer();
+    let mut out = buffer();
     let n = put_reason(&mut out, read, gathered.all, first.number);
     if n != 0 {
-        io::write_all(STDERR_FILENO, &out[..n]);
-        return;
+        say(&rt.stderr(), &out[..n]);
+        return Ok(());
     }
     let mut page: u64 = 0;
     while page < first.pages {
         page += 1;
         put_page(&moments, &outputs, &values, count, page, &mut memory);
-        io::write_all(STDOUT_FILENO, &memory);
+        rt.write_all(&memory)?;
     }
+    Ok(())
 }

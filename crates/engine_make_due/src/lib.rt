@@ -1,5 +1,7 @@
 // A write of a variable, by block s and index (block 64 has the environment's), after which no waiting write is there: an input's, and
 // that of a waiting write made. `m` is the machine's memory, `s` a slot or 64.
+#![tactic(auto)]
+
 ghost use Rattle.std.specs.Prelude.{ℕ, ◌≤◌, ◌<◌};
 ghost use Rattle.machine.specs.Words.{HasMachine};
 ghost use Rattle.walk.specs.State.{input_to, made_due};

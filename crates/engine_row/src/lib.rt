@@ -1,4 +1,6 @@
 // The fields of a slot's row, read. `m` is the machine's memory, `s` a slot.
+#![tactic(auto)]
+
 pub mod row;
 
 pub use row::{

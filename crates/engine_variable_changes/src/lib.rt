@@ -1,5 +1,7 @@
 // Variables by block s and index (block 64 has the environment's), changed. Every contract says what the words stand for as rows and
 // environment. `m` is the machine's memory, `s` a slot or 64.
+#![tactic(auto)]
+
 ghost use Rattle.std.specs.Prelude.{ℕ, ◌≤◌, ◌<◌};
 ghost use Rattle.machine.specs.Words.{HasMachine};
 ghost use Rattle.walk.specs.State.{written_to, scheduled_on, unmarked_of};

@@ -16,7 +16,7 @@ pub data PlayedSaid (path trace listingPath listing before after : Bytes) (count
   fails : {number place : ℕ} → VerdictOn listing (VV.Fails number place) → Puts before 0 (named path unplayed) after count → PlayedSaid path trace listingPath listing before after count
   played : VerdictOn listing VV.Loads → SessionSaid path trace listingPath listing before after count → PlayedSaid path trace listingPath listing before after count
 
--- of two files: nothing if one cannot be read; which bytes they have, the kit's `io` does not promise
+-- of two files: nothing if one cannot be read; which bytes they have, std does not promise
 pub data TraceSaid (path listingPath before after : Bytes) : ℕ → Type 0 where
   unread : after ≡ before → TraceSaid path listingPath before after 0
   read : {trace listing : Bytes} {count : ℕ} → PlayedSaid path trace listingPath listing before after count → TraceSaid path listingPath before after count

@@ -5,9 +5,11 @@ ghost use Rattle.explain.specs.Arguments.{is_flag, held_after, WordSaid, at_end}
 
 use crate::traced::put_traced;
 use explain_listing::said::{put_file, put_usage};
+use std::fs::Files;
+use std::io::Stderr;
 
 // Between two arguments: the number of the listing's, 0 if there is none yet; and whether a trace comes next.
-#[derive(Drop)]
+#[derive(Clone, Copy)]
 pub struct Held {
     pub listing: usize,
     pub flagged: bool,
@@ -50,19 +52,26 @@ pub fn held_after(k: usize, word: &[u8], held: Held) -> Held
 }
 
 // What is said at a word, on the listing that an argument names; how many bytes.
-pub fn put_word(out: &mut [u8], word: &[u8], name: &[u8], held: Held) -> usize
+pub fn put_word<R: Files>(
+    files: &R,
+    errors: Stderr,
+    out: &mut [u8],
+    word: &[u8],
+    name: &[u8],
+    held: Held,
+) -> usize
     ensures { WordSaid held word.now name.now out.old out.new result × (result ≤ 50000) }
 {
     if held.flagged {
         if held.listing == 0 {
             return put_usage(out);
         }
-        return put_traced(out, word, name);
+        return put_traced(files, errors, out, word, name);
     }
     if is_flag(word) {
         return 0;
     }
-    put_file(out, word)
+    put_file(files, errors, out, word)
 }
 
 // How to call the program, if a trace is still to come or there was no argument; how many bytes.

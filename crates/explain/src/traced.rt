@@ -5,6 +5,8 @@ ghost use Rattle.explain.specs.Traced.{PlayedSaid, TraceSaid};
 use explain_listing::said::{put_named, text};
 use explain_listing::verdict::{Verdict, judge, read_listing};
 use explain_session::put_session;
+use std::fs::Files;
+use std::io::Stderr;
 
 // Of a trace on a listing; how many bytes.
 fn put_played(
@@ -35,17 +37,23 @@ fn put_played(
 }
 
 // Of two files, if both can be read; how many bytes.
-pub fn put_traced(out: &mut [u8], path: &[u8], listing_path: &[u8]) -> usize
+pub fn put_traced<R: Files>(
+    files: &R,
+    errors: Stderr,
+    out: &mut [u8],
+    path: &[u8],
+    listing_path: &[u8],
+) -> usize
     ensures { TraceSaid path.now listing_path.now out.old out.new result × (result ≤ 50000) }
 {
     let mut listing = text();
-    let one = read_listing(listing_path, &mut listing);
+    let one = read_listing(files, errors, listing_path, &mut listing);
     let m = one.count;
     if !one.readable {
         return 0;
     }
     let mut trace = text();
-    let other = read_listing(path, &mut trace);
+    let other = read_listing(files, errors, path, &mut trace);
     let n = other.count;
     if !other.readable {
         return 0;

@@ -52,7 +52,7 @@ pub record VerdictSaid (path listing before after : Bytes) (count : ℕ) : Type 
   pub puts : Puts before 0 (verdict_line path listing verdict) after count
   pub few : count ≤ 50000
 
--- what is said of a file: nothing if it cannot be read; which bytes it has, the kit's `io` does not promise
+-- what is said of a file: nothing if it cannot be read; which bytes it has, std does not promise
 pub data FileSaid (path before after : Bytes) : ℕ → Type 0 where
   unread : after ≡ before → FileSaid path before after 0
   read : {listing : Bytes} {count : ℕ} → VerdictSaid path listing before after count → FileSaid path before after count

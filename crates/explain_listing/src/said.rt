@@ -11,6 +11,8 @@ use explain_reasons::reason_at;
 use explain_said::{put_allowed, put_fault, put_sentence};
 use explain_there::allowed_at;
 use session_print::figure::{put_byte, put_figure};
+use std::fs::Files;
+use std::io::Stderr;
 use test_cases::report::put_text;
 
 // The questions that the loader puts.
@@ -126,11 +128,11 @@ fn put_verdict(out: &mut [u8], path: &[u8], listing: &[u8]) -> usize
 }
 
 // What loading says of a file, if it can be read; how many bytes.
-pub fn put_file(out: &mut [u8], path: &[u8]) -> usize
+pub fn put_file<R: Files>(files: &R, errors: Stderr, out: &mut [u8], path: &[u8]) -> usize
     ensures { FileSaid path.now out.old out.new result × (result ≤ 50000) }
 {
     let mut bytes = text();
-    let got = read_listing(path, &mut bytes);
+    let got = read_listing(files, errors, path, &mut bytes);
     let count = got.count;
     if !got.readable {
         return 0;

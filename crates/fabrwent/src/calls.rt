@@ -4,8 +4,7 @@ ghost use Rattle.fabrwent.specs.Figures.{StartFigures, InstantFigures, AlikeFigu
 use call_figures::{FabrwentAlike, FabrwentCall, alike_figures, figures_of};
 use words::Moment;
 
-#[unsafe(no_mangle)]
-pub extern "C" fn fabrwent_start(
+pub fn fabrwent_start(
     table: &[u32],
     machine: &mut [u32],
     out_numbers: &mut [u32],
@@ -19,8 +18,7 @@ pub extern "C" fn fabrwent_start(
 }
 
 // Here, at the boundary, a number is made a moment.
-#[unsafe(no_mangle)]
-pub extern "C" fn fabrwent_instant(
+pub fn fabrwent_instant(
     table: &[u32],
     machine: &mut [u32],
     t: u64,
@@ -46,8 +44,7 @@ pub extern "C" fn fabrwent_instant(
     ))
 }
 
-#[unsafe(no_mangle)]
-pub extern "C" fn fabrwent_alike(table: &[u32], a: &[u32], b: &[u32]) -> FabrwentAlike
+pub fn fabrwent_alike(table: &[u32], a: &[u32], b: &[u32]) -> FabrwentAlike
     ensures { AlikeFigures table.now a.now b.now result }
 {
     alike_figures(call_alike::alike(table, a, b))

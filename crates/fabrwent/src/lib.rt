@@ -1,5 +1,7 @@
-// The exported library: what a program in C or Rust calls (include/fabrwent.h). A slice passes as a pointer and a length.
+// The library's calls, as a program in C or Rust has them (include/fabrwent.h; `fabrwent_c` exports them).
 // No call asks anything of its caller; each takes any memory, and ends.
+#![tactic(auto)]
+
 pub mod calls;
 pub mod loading;
 pub mod looking;

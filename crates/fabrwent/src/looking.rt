@@ -6,8 +6,7 @@ ghost use Rattle.call_look.specs.Figures.{figures_of};
 
 use call_look::Sight;
 
-#[unsafe(no_mangle)]
-pub extern "C" fn fabrwent_look(table: &[u32], machine: &[u32]) -> Sight
+pub fn fabrwent_look(table: &[u32], machine: &[u32]) -> Sight
     ensures { result ≡ figures_of (look_call layout table.now machine.now) }
 {
     call_look::look(table, machine)

@@ -4,8 +4,7 @@ ghost use Rattle.page.specs.Call.{PageFigures};
 
 use page::{Printed, print_page};
 
-#[unsafe(no_mangle)]
-pub extern "C" fn fabrwent_page(
+pub fn fabrwent_page(
     moments: &[u64],
     outputs: &[u32],
     values: &[u32],

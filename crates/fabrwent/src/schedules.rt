@@ -4,8 +4,7 @@ ghost use Rattle.windows.specs.Call.{WindowsFigures};
 
 use windows::{Listed, list_windows};
 
-#[unsafe(no_mangle)]
-pub extern "C" fn fabrwent_windows(
+pub fn fabrwent_windows(
     schedule: &[u8],
     from: u64,
     to: u64,

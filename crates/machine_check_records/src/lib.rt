@@ -1,5 +1,7 @@
 // Are the machine's words in place? The part of question 7 that needs no table: the header, the order list, the slots and the blocks.
 // Every function takes the 12,288 words, or an address in them; none changes them.
+#![tactic(auto)]
+
 ghost use Rattle.std.specs.Prelude.{◌≡◌, ◌≤◌, ◌<◌, length, get_or, true};
 ghost use Rattle.machine.specs.Words.{knows_place, know_places, header_in_place, blocks_in_place, words_in_place, MachineLong};
 ghost use Rattle.machine.specs.ReadMachine.{stopped_words};

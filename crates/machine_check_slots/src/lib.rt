@@ -1,5 +1,7 @@
 // Question 7, slot by slot: a slot is free and all 0, or holds a record that the order list leads to, at rest. `m` is the machine's
 // memory; nothing is changed.
+#![tactic(auto)]
+
 ghost use Rattle.std.specs.Prelude.{◌≡◌, ◌≤◌, ◌<◌, length, true};
 ghost use Rattle.machine.specs.Words.{slot_holds, slots_hold, MachineLong};
 ghost use Rattle.machine.specs.Due.{due_at};

@@ -23,7 +23,7 @@ module _ (k m : ℕ) where
   pub last_append : (v : ℕ) (xs ys : List Edge) → last_value k m v (xs ++ ys) ≡ last_value k m (last_value k m v xs) ys
   unfolding last_value
   last_append v [] ys = refl
-  last_append v (e ∷ xs) ys = last_append _ xs ys
+  last_append v (e ∷ xs) ys = last_append (cond (eqb e.input k && leb e.moment m) e.value v) xs ys
 
   -- ── one moment ─────────────────────────────────────────────────────────────────
   -- a change of another input, or after the moment, leaves the value

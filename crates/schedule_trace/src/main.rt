@@ -1,6 +1,8 @@
 // Prints a schedule's inputs as a session's trace, from moment 0 on for so many days: `schedule_trace SCHEDULE DAYS`.
 // Document 01: "lines `I|time|input|value` .. and last `Q|time`". The lines are put by windows_trace, with their promises; if question 19 says no
 // nothing is printed, and the first line that it stops at is named on standard error.
+#![tactic(auto)]
+
 pub mod arguments;
 
 ghost use Rattle.std.specs.Prelude.{length, ◌≡◌, ◌≤◌};
@@ -8,8 +10,9 @@ ghost use Rattle.session_print.specs.Puts.{Puts};
 ghost use Rattle.schedule_trace.specs.Reasons.{why_none};
 
 use crate::arguments::{SCHEDULE_BYTES, days_argument, read_argument};
-use libc::{STDERR_FILENO, STDOUT_FILENO};
 use session_print::figure::put_figure;
+use std::io;
+use streams::{large_buffer, say};
 use test_cases::report::put_text;
 use windows_trace::hours::put_hour;
 use windows_trace::lines::put_last_line;
@@ -54,31 +57,32 @@ fn put_reason(out: &mut [u8], read: usize, line: usize) -> usize
     )
 }
 
-fn main() {
+fn main(rt: HostRuntime) -> io::Result<()> {
+    let errors = rt.stderr();
     let mut schedule = text();
-    let taken = read_argument(1, &mut schedule);
-    let days = days_argument(2);
+    let taken = read_argument(&rt, errors, 1, &mut schedule);
+    let days = days_argument(&rt, 2);
     if !taken.is_read || days == 0 {
-        io::write_all(
-            STDERR_FILENO,
+        say(
+            &errors,
             b"usage: schedule_trace SCHEDULE DAYS\nSCHEDULE is a file that can be read, DAYS a number from 1 to 9999.\n",
         );
-        return;
+        return Ok(());
     }
     let n = taken.count;
-    let mut out = io::large_buffer();
+    let mut out = large_buffer();
     let told = put_reason(&mut out, n, first_bad_line(&schedule[..n]));
     if told != 0 {
-        io::write_all(STDERR_FILENO, &out[..told]);
-        return;
+        say(&errors, &out[..told]);
+        return Ok(());
     }
     let hours = days * 24;
     let mut hour: u64 = 0;
     while hour < hours {
         let put = put_hour(&mut out, &schedule[..n], hour * HOUR, hour * HOUR + HOUR);
-        io::write_all(STDOUT_FILENO, &out[..put]);
+        rt.write_all(&out[..put])?;
         hour += 1;
     }
     let last = put_last_line(&mut out, hours * HOUR);
-    io::write_all(STDOUT_FILENO, &out[..last]);
+    rt.write_all(&out[..last])
 }

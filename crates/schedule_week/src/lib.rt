@@ -1,5 +1,7 @@
 // The minutes of a week from moment 0 on: in each, a bit for every input that is open. The week repeats.
 // A window is marked in the minutes that it covers, so that windows which touch or overlap make one stretch by themselves.
+#![tactic(auto)]
+
 ghost use Rattle.std.specs.Prelude.{true, ◌≡◌, ◌<◌, ◌≤◌, length};
 ghost use Rattle.schedule.specs.Schedule.{is_window};
 ghost use Rattle.schedule_week.specs.Week.{Marked, begin_of, end_of};

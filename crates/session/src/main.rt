@@ -1,13 +1,16 @@
 // Plays a session: `session LISTING TRACE`. Document 01: "A session program reads a listing file and a trace file and prints the writes."
-use libc::{STDERR_FILENO, STDOUT_FILENO};
-use session_files::Ending;
+#![tactic(auto)]
+
+use session_files::{Ending, play_files};
+use streams::say;
 
 // It has no result and is lent nothing, so there is nothing that it could promise: what it does, the stored output shows.
-fn main() {
-    let ending = session_files::play_files(1, 2, STDOUT_FILENO);
+fn main(rt: HostRuntime) {
+    let errors = rt.stderr();
+    let ending = play_files(&rt, errors, 1, 2, &rt.stdout());
     if let Ending::NotRead = ending {
-        io::write_all(
-            STDERR_FILENO,
+        say(
+            &errors,
             b"usage: session LISTING TRACE\nLISTING and TRACE are files that can be read.\n",
         );
     }

@@ -1,4 +1,4 @@
--- What the program does between its opening and its end. What is written out no contract can say: the kit's `io` promises nothing of it.
+-- What the program does between its opening and its end. What is written out no contract says: std's `Print` promises nothing of it.
 use Rattle.std.specs.Prelude.{List, ℕ, suc}
 use Rattle.listing.specs.Bytes.{Bytes}
 use Rattle.walk.specs.Session.{session}

@@ -1,15 +1,20 @@
 // A session played from files. Document 01: "A session program reads a listing file and a trace file and prints the writes."
 // Every byte that it prints is printed by `session_replay::advance`, whose steps from the opening to the end print the session.
+#![tactic(auto)]
+
 ghost use Rattle.std.specs.Prelude.{◌≡◌, length, true};
-ghost use Rattle.io.specs.Counts.{IsPrefixLen};
+ghost use Rattle.streams.specs.Counts.{IsPrefixLen};
 ghost use Rattle.walk.specs.Calls.{memory_words};
 ghost use Rattle.session_replay.specs.Advancing.{long_enough};
 ghost use Rattle.session_replay.specs.Ending.{is_over};
 ghost use Rattle.session_replay.specs.Phases.{memories};
 ghost use Rattle.session_files.specs.Turning.{Turned, Ran, Played, FilesPlayed};
 
-use libc::STDERR_FILENO;
 use session_replay::{Advanced, Phase};
+use std::env::Env;
+use std::fs::Files;
+use std::io::Stderr;
+use streams::{buffer, read_file, say, say_failed};
 use table::TABLE_WORDS;
 
 // A byte more than the 49,152 that a listing or a trace may have: a longer file is cut there, and its length alone decides.
@@ -34,45 +39,40 @@ fn piece() -> [u8; 1100]
 }
 
 // What was read of a file: whether it could be opened, and how many bytes were put into the lent ones.
-#[derive(Drop)]
+#[derive(Clone, Copy)]
 struct Taken {
     is_read: bool,
     count: usize,
 }
 
-// Reads the file that an argument names; having said why, if it cannot. Which bytes a file has, the kit's `io` does not promise.
-fn read_argument(i: usize, text: &mut [u8]) -> Taken
+// Reads the file that an argument names; having said why, if it cannot. Which bytes a file has, std does not promise.
+fn read_argument<R: Env + Files>(rt: &R, errors: Stderr, i: usize, text: &mut [u8]) -> Taken
     ensures { IsPrefixLen result.count text.new }
 {
-    let mut path = io::buffer();
-    let length = os::arg(i, &mut path);
-    if os::errno() != 0 {
-        io::write_all(
-            STDERR_FILENO,
+    let mut path = buffer();
+    let Ok(length) = rt.arg(i, &mut path) else {
+        say(
+            &errors,
             b"session: two file names are wanted, the listing's and the trace's\n",
         );
         return Taken {
             is_read: false,
             count: 0,
         };
+    };
+    match read_file(rt, &path[..length], text) {
+        Ok(count) => Taken {
+            is_read: true,
+            count,
+        },
+        Err(why) => {
+            say_failed(&errors, &path[..length], why);
+            Taken {
+                is_read: false,
+                count: 0,
+            }
+        }
     }
-    let fd = os::open_read(&path[..length]);
-    if fd < 0 {
-        os::fail(&path[..length]);
-        return Taken {
-            is_read: false,
-            count: 0,
-        };
-    }
-    let count = io::read_full(fd, text);
-    // A file that was read can be read on, be it past its end: a directory, for one, cannot.
-    let mut next = io::buffer();
-    let is_read = libc::read(fd, &mut next) >= 0;
-    if !is_read {
-        os::fail(&path[..length]);
-    }
-    libc::close(fd);
-    Taken { is_read, count }
 }
 
 // Is all printed?
@@ -87,16 +87,28 @@ fn is_over(phase: Phase) -> bool
     }
 }
 
-// A turn: the next phase, and whether what it printed was written out, as the kit's `io` told it.
-#[derive(Drop)]
+// A turn: the next phase, and whether what it printed was written out, as the writer told it.
+#[derive(Clone, Copy)]
 struct Stepped {
     next: Phase,
     is_written: bool,
 }
 
-// One step, and what it prints is written out to a descriptor.
-fn turn(
-    fd: i32,
+// What a step printed is written out; having said why, if it cannot be.
+fn write_out<W: Print>(writer: &W, errors: Stderr, printed: &[u8]) -> bool {
+    match writer.write_all(printed) {
+        Ok(()) => true,
+        Err(why) => {
+            say_failed(&errors, b"session: writing", why);
+            false
+        }
+    }
+}
+
+// One step, and what it prints is written out to a writer.
+fn turn<W: Print>(
+    writer: &W,
+    errors: Stderr,
     listing: &[u8],
     trace: &[u8],
     table: &mut [u32],
@@ -112,7 +124,7 @@ fn turn(
     let answer = session_replay::advance(listing, trace, table, machine, out, phase);
     match answer {
         Advanced::Went(next, printed) => {
-            let is_written = io::write_all(fd, &out[..printed]);
+            let is_written = write_out(writer, errors, &out[..printed]);
             Stepped { next, is_written }
         }
         // never: the memories are long enough
@@ -124,7 +136,7 @@ fn turn(
 }
 
 // How a session ended.
-#[derive(Drop)]
+#[derive(Clone, Copy)]
 pub enum Ending {
     // all is printed
     Ended,
@@ -135,8 +147,9 @@ pub enum Ending {
 }
 
 // The steps to the end: each leaves fewer to be made, so that no turns are counted.
-fn run(
-    fd: i32,
+fn run<W: Print>(
+    writer: &W,
+    errors: Stderr,
     listing: &[u8],
     trace: &[u8],
     table: &mut [u32],
@@ -150,7 +163,7 @@ fn run(
 {
     let mut phase = Phase::Opening;
     while !is_over(phase) {
-        let made = turn(fd, listing, trace, table, machine, out, phase);
+        let made = turn(writer, errors, listing, trace, table, machine, out, phase);
         if !made.is_written {
             return Ending::NotWritten;
         }
@@ -161,34 +174,44 @@ fn run(
 }
 
 // The session on memories of its own.
-fn play(fd: i32, listing: &[u8], trace: &[u8]) -> Ending
+fn play<W: Print>(writer: &W, errors: Stderr, listing: &[u8], trace: &[u8]) -> Ending
     ensures { Played listing.now trace.now result }
 {
     let mut table = memory();
     let mut machine = memory();
     let mut out = piece();
-    run(fd, listing, trace, &mut table, &mut machine, &mut out)
+    run(
+        writer,
+        errors,
+        listing,
+        trace,
+        &mut table,
+        &mut machine,
+        &mut out,
+    )
 }
 
-// The session of the files that two arguments name, printed to a descriptor; having said why, if it is not.
-pub fn play_files(first: usize, second: usize, fd: i32) -> Ending
+// The session of the files that two arguments name, printed to a writer; having said why, if it is not.
+pub fn play_files<R: Env + Files, W: Print>(
+    rt: &R,
+    errors: Stderr,
+    first: usize,
+    second: usize,
+    writer: &W,
+) -> Ending
     ensures { FilesPlayed result }
 {
     let mut listing = text();
-    let one = read_argument(first, &mut listing);
+    let one = read_argument(rt, errors, first, &mut listing);
     if !one.is_read {
         return Ending::NotRead;
     }
     let mut trace = text();
-    let other = read_argument(second, &mut trace);
+    let other = read_argument(rt, errors, second, &mut trace);
     if !other.is_read {
         return Ending::NotRead;
     }
     let m = one.count;
     let n = other.count;
-    let ending = play(fd, &listing[..m], &trace[..n]);
-    if let Ending::NotWritten = ending {
-        os::fail(b"session: writing");
-    }
-    ending
+    play(writer, errors, &listing[..m], &trace[..n])
 }

@@ -1,6 +1,7 @@
 // Question 6, "Is the table one that loading some listing leaves?": one pass over a table's words.
 // The routines' entries are taken in order, each with its instructions and their cells, by a running number of the instructions and a
 // running address of the cells; then the unused words must be 0. Names, jumps, counts, kinds and limits are asked where they stand.
+#![tactic(auto)]
 
 ghost use Rattle.std.specs.Prelude.{◌≡◌, ◌+◌, ◌<◌, ◌≤◌, length, take, eqb};
 ghost use Rattle.listing.specs.Lists.{all};

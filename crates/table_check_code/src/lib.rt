@@ -1,6 +1,8 @@
 // Question 6 of a routine's instructions: one pass over their entries, with a running address of the cells.
 // `t` is a table's 12,288 words, `names` and `size` are the numbers of the routine's names and instructions.
 // A function named `.._past` gives the address behind the cells that it looks at, or 0 if the answer is no.
+#![tactic(auto)]
+
 ghost use Rattle.std.specs.Prelude.{◌≡◌, ◌+◌, ◌*◌, ◌≤◌};
 ghost use Rattle.table.specs.Areas.{TableLong};
 ghost use Rattle.table.specs.Decode.{word};

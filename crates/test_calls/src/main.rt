@@ -1,14 +1,18 @@
 // Lists of calls with the answer stored for each: a listing is loaded, and start, instant and comparison are called on its table.
 // Prints each item that fails, with what was expected and what was found, and then how many lists agree.
 // "Spoil" in the file says what is wrong with the memories lent to one call.
+#![tactic(auto)]
+
 ghost use Rattle.std.specs.Prelude.{◌≡◌, ◌≤◌};
 ghost use Rattle.session_print.specs.Puts.{Puts};
 ghost use Rattle.test_calls.specs.Failures.{failure_line};
 ghost use Rattle.test_calls.specs.Cases.{LoadsInto, RanItems, RanCase, RanFile};
 
 use call_load::load;
-use libc::STDOUT_FILENO;
 use session_print::figure::put_figure;
+use std::io;
+use std::io::Stdout;
+use streams::{buffer, say};
 use test_cases::frame::{part_at, past, word_at};
 use test_cases::report::{put_summary, put_text, read_file, stored_cases};
 use test_lending::machine::unused_memory;
@@ -16,13 +20,13 @@ use test_stored_items::items::{after_item, run_item};
 use text_questions::Loaded;
 
 // Loads a listing: 0, or 1 if it does not load, which is then said.
-fn refusals(listing: &[u8], table: &mut [u32]) -> u64
+fn refusals(stdout: Stdout, listing: &[u8], table: &mut [u32]) -> u64
     ensures { LoadsInto listing.now table.old table.new result }
 {
     match load(listing, table) {
         Loaded::Done => 0,
         Loaded::Refused(_, _) => {
-            io::write_all(STDOUT_FILENO, b"a listing does not load\n");
+            say(&stdout, b"a listing does not load\n");
             1
         }
     }
@@ -40,7 +44,7 @@ fn put_failure(out: &mut [u8], name: u32, item: u64) -> usize
 }
 
 // How far a list of items has been run: the place after it, and how many failed.
-#[derive(Drop)]
+#[derive(Clone, Copy)]
 pub struct Run {
     pub next: usize,
     pub failed: u64,
@@ -48,6 +52,7 @@ pub struct Run {
 
 // The items of a case, one after the other, on one table and one machine, each as the item before left it.
 fn run_items(
+    stdout: Stdout,
     s: &[u8],
     from: usize,
     name: u32,
@@ -64,10 +69,10 @@ fn run_items(
     let mut done: u64 = 0;
     let mut failed: u64 = 0;
     while done < items {
-        if !run_item(s, at, table, machine, kept) {
-            let mut line = io::buffer();
+        if !run_item(stdout, s, at, table, machine, kept) {
+            let mut line = buffer();
             let n = put_failure(&mut line, name, done);
-            io::write_all(STDOUT_FILENO, &line[..n]);
+            say(&stdout, &line[..n]);
             failed += 1;
         }
         at = after_item(s, at);
@@ -77,7 +82,7 @@ fn run_items(
 }
 
 // A case: its name, its listing, the number of its items and the items. A listing that does not load counts as a failure too.
-fn run_case(s: &[u8], at: usize) -> Run
+fn run_case(stdout: Stdout, s: &[u8], at: usize) -> Run
     ensures { RanCase s.now at result }
 {
     let name = word_at(s, at);
@@ -87,10 +92,19 @@ fn run_case(s: &[u8], at: usize) -> Run
     let mut table = unused_memory();
     let mut machine = unused_memory();
     let mut kept = unused_memory();
-    let refused = refusals(&s[from..to], &mut table);
+    let refused = refusals(stdout, &s[from..to], &mut table);
     let count = word_at(s, to);
     let first = past(s, to, 4);
-    let run = run_items(s, first, name, count, &mut table, &mut machine, &mut kept);
+    let run = run_items(
+        stdout,
+        s,
+        first,
+        name,
+        count,
+        &mut table,
+        &mut machine,
+        &mut kept,
+    );
     Run {
         next: run.next,
         failed: refused + run.failed,
@@ -98,14 +112,14 @@ fn run_case(s: &[u8], at: usize) -> Run
 }
 
 // How many cases there were, and how many of them failed.
-#[derive(Drop)]
+#[derive(Clone, Copy)]
 pub struct Tally {
     pub cases: u64,
     pub failed: u64,
 }
 
 // All cases of a file: their number, then each of them.
-fn run_file(s: &[u8]) -> Tally
+fn run_file(stdout: Stdout, s: &[u8]) -> Tally
     ensures { RanFile s.now result }
 {
     let count = word_at(s, 0) as u64;
@@ -113,7 +127,7 @@ fn run_file(s: &[u8]) -> Tally
     let mut done: u64 = 0;
     let mut failed: u64 = 0;
     while done < count {
-        let run = run_case(s, at);
+        let run = run_case(stdout, s, at);
         if run.failed != 0 {
             failed += 1;
         }
@@ -126,11 +140,11 @@ fn run_file(s: &[u8]) -> Tally
     }
 }
 
-fn main() {
+fn main(rt: HostRuntime) -> io::Result<()> {
     let mut file = stored_cases();
-    let length = read_file(b"calls.dat", &mut file);
-    let tally = run_file(&file[..length]);
-    let mut line = io::buffer();
+    let length = read_file(&rt, rt.stderr(), b"calls.dat", &mut file);
+    let tally = run_file(rt.stdout(), &file[..length]);
+    let mut line = buffer();
     let n = put_summary(&mut line, b"calls: ", tally.cases, tally.failed);
-    io::write_all(STDOUT_FILENO, &line[..n]);
+    rt.write_all(&line[..n])
 }

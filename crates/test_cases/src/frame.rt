@@ -47,7 +47,7 @@ pub fn past(s: &[u8], at: usize, count: usize) -> usize
 }
 
 // Where the bytes of a part begin and end.
-#[derive(Drop)]
+#[derive(Clone, Copy)]
 pub struct Part {
     pub from: usize,
     pub to: usize,

@@ -1,10 +1,13 @@
 // Texts of a test program's report, put into lent bytes; and the bytes of a file.
 ghost use Rattle.std.specs.Prelude.{◌≡◌, ◌+◌, ◌≤◌, length};
-ghost use Rattle.io.specs.Counts.{IsPrefixLen};
 ghost use Rattle.session_print.specs.Puts.{Puts};
+ghost use Rattle.streams.specs.Counts.{IsPrefixLen};
 ghost use Rattle.test_cases.specs.Summaries.{summary};
 
 use session_print::figure::{put_byte, put_figure};
+use std::fs::Files;
+use std::io::Stderr;
+use streams::{open, read_full, say_failed};
 
 // A text put into lent bytes at a place; the place past it.
 pub fn put_text(out: &mut [u8], at: usize, text: &[u8]) -> usize
@@ -43,15 +46,14 @@ pub fn stored_cases() -> [u8; 300000]
 }
 
 // The bytes of a file, as many as the buffer holds; none if it cannot be opened, which is then said.
-pub fn read_file(path: &[u8], buffer: &mut [u8]) -> usize
+pub fn read_file<R: Files>(files: &R, errors: Stderr, path: &[u8], buffer: &mut [u8]) -> usize
     ensures { IsPrefixLen result buffer.new × (length buffer.new ≡ length buffer.old) }
 {
-    let file = os::open_read(path);
-    if file < 0 {
-        os::fail(path);
-        return 0;
+    match open(files, path) {
+        Ok(mut file) => read_full(&mut file, buffer),
+        Err(why) => {
+            say_failed(&errors, path, why);
+            0
+        }
     }
-    let length = io::read_full(file, buffer);
-    libc::close(file);
-    length
 }

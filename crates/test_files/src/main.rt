@@ -1,15 +1,36 @@
-// The session program's ends that its own stored run does not show: no argument, no such file, a file that cannot be read, a failing write, and a file
-// that gets the descriptor 0. What a run prints stands before the line that says how it ended.
+// The session program's ends that its own stored run does not show: no argument, no such file, a file that cannot be read, a failing write, and a
+// session after all of these. What a run prints stands before the line that says how it ended.
+#![tactic(auto)]
+
 ghost use Rattle.std.specs.Prelude.{◌≤◌};
 ghost use Rattle.session_print.specs.Puts.{Puts};
 ghost use Rattle.test_files.specs.Endings.{ending_line, EndingSaid};
 
-use libc::{STDIN_FILENO, STDOUT_FILENO};
-use session_files::Ending;
+use session_files::{Ending, play_files};
+use std::env::Env;
+use std::fmt::Display;
+use std::fs::Files;
+use std::io;
+use std::io::{ErrorKind, Stderr};
+use streams::buffer;
 use test_cases::report::put_text;
 
-// A descriptor that is never open.
-const CLOSED: i32 = -1;
+// A writer that is closed: every write fails.
+struct Closed;
+
+impl Print for Closed {
+    fn print<D: Display + Drop>(&self, _value: D) -> io::Result<()> {
+        Err(io::Error::from(ErrorKind::BrokenPipe))
+    }
+
+    fn println<D: Display + Drop>(&self, _value: D) -> io::Result<()> {
+        Err(io::Error::from(ErrorKind::BrokenPipe))
+    }
+
+    fn write_all(&self, _bytes: &[u8]) -> io::Result<()> {
+        Err(io::Error::from(ErrorKind::BrokenPipe))
+    }
+}
 
 // How a run ended, as a line put into lent bytes; how many bytes.
 fn put_ending(out: &mut [u8], ending: Ending) -> usize
@@ -23,30 +44,37 @@ fn put_ending(out: &mut [u8], ending: Ending) -> usize
 }
 
 // Plays the files that two arguments name, and puts how it ended; how many bytes.
-fn play(out: &mut [u8], first: usize, second: usize, fd: i32) -> usize
+fn play<R: Env + Files, W: Print>(
+    rt: &R,
+    errors: Stderr,
+    out: &mut [u8],
+    first: usize,
+    second: usize,
+    writer: &W,
+) -> usize
     ensures { EndingSaid out.old out.new result × (result ≤ 12) }
 {
-    put_ending(out, session_files::play_files(first, second, fd))
+    put_ending(out, play_files(rt, errors, first, second, writer))
 }
 
 // Arguments 1 and 2 are a listing and a trace, 3 names no file, 4 is a directory, and there is no fifth.
-fn main() {
-    let mut out = io::buffer();
-    let a = play(&mut out, 1, 5, STDOUT_FILENO);
-    io::write_all(STDOUT_FILENO, &out[..a]);
-    let b = play(&mut out, 5, 2, STDOUT_FILENO);
-    io::write_all(STDOUT_FILENO, &out[..b]);
-    let c = play(&mut out, 1, 3, STDOUT_FILENO);
-    io::write_all(STDOUT_FILENO, &out[..c]);
-    let d = play(&mut out, 3, 2, STDOUT_FILENO);
-    io::write_all(STDOUT_FILENO, &out[..d]);
-    let e = play(&mut out, 1, 4, STDOUT_FILENO);
-    io::write_all(STDOUT_FILENO, &out[..e]);
-    let f = play(&mut out, 4, 2, STDOUT_FILENO);
-    io::write_all(STDOUT_FILENO, &out[..f]);
-    let g = play(&mut out, 1, 2, CLOSED);
-    io::write_all(STDOUT_FILENO, &out[..g]);
-    libc::close(STDIN_FILENO);
-    let h = play(&mut out, 1, 2, STDOUT_FILENO);
-    io::write_all(STDOUT_FILENO, &out[..h]);
+fn main(rt: HostRuntime) -> io::Result<()> {
+    let errors = rt.stderr();
+    let mut out = buffer();
+    let a = play(&rt, errors, &mut out, 1, 5, &rt);
+    rt.write_all(&out[..a])?;
+    let b = play(&rt, errors, &mut out, 5, 2, &rt);
+    rt.write_all(&out[..b])?;
+    let c = play(&rt, errors, &mut out, 1, 3, &rt);
+    rt.write_all(&out[..c])?;
+    let d = play(&rt, errors, &mut out, 3, 2, &rt);
+    rt.write_all(&out[..d])?;
+    let e = play(&rt, errors, &mut out, 1, 4, &rt);
+    rt.write_all(&out[..e])?;
+    let f = play(&rt, errors, &mut out, 4, 2, &rt);
+    rt.write_all(&out[..f])?;
+    let g = play(&rt, errors, &mut out, 1, 2, &Closed);
+    rt.write_all(&out[..g])?;
+    let h = play(&rt, errors, &mut out, 1, 2, &rt);
+    rt.write_all(&out[..h])
 }

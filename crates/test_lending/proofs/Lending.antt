@@ -8,7 +8,7 @@ use lib.Dec.{eqb, leb}
 use lib.ListN.{length, get_or, set, take, drop}
 use lib.Seq.{length-take-le, take_all, take-append-le}
 use borrow.Author.Tests.{leb-true, leb-false, eq-eqb, ne_eqb}
-use Rattle.io.specs.Counts.{IsPrefixLen}
+use Rattle.streams.specs.Counts.{IsPrefixLen}
 use Rattle.test_cases.specs.Words.{copied}
 use Rattle.test_lending.specs.Places.{lent_places, spoilt_first}
 

@@ -3,7 +3,8 @@ ghost use Rattle.std.specs.Prelude.{◌≡◌, min, length, take};
 ghost use Rattle.test_cases.specs.Words.{Tells};
 ghost use Rattle.test_lending.specs.Memories.{StoppedForm, MachineRight, unused_memory};
 
-use libc::STDOUT_FILENO;
+use std::io::Stdout;
+use streams::say;
 use test_cases::memories::{all_are, all_from, copy, same};
 
 // The word that lists and memories are filled with before they are lent, and the length of the memories asked for.
@@ -57,12 +58,12 @@ fn is_right(machine: &[u32], before: &[u32], number: u32) -> bool
 }
 
 // The same; if it is not right this is said.
-pub fn machine_right(machine: &[u32], before: &[u32], number: u32) -> bool
+pub fn machine_right(stdout: Stdout, machine: &[u32], before: &[u32], number: u32) -> bool
     ensures { Tells result (MachineRight machine.now before.now number) }
 {
     let right = is_right(machine, before, number);
     if !right {
-        io::write_all(STDOUT_FILENO, b"the machine is not as it must be\n");
+        say(&stdout, b"the machine is not as it must be\n");
     }
     right
 }

@@ -1,6 +1,6 @@
 // How much of a memory is lent, and a first word that no table and no machine has.
 ghost use Rattle.std.specs.Prelude.{◌≡◌, ◌-◌, min, length, get_or, set};
-ghost use Rattle.io.specs.Counts.{IsPrefixLen};
+ghost use Rattle.streams.specs.Counts.{IsPrefixLen};
 ghost use Rattle.test_lending.specs.Places.{lent_places, spoilt_first};
 
 // How much of a memory is lent: all, or only so many places if this is what is spoilt.

@@ -6,7 +6,7 @@ ghost use Rattle.listing.specs.Load.{loading, is_long_enough};
 ghost use Rattle.walk.specs.Promises.{TableAfter};
 ghost use Rattle.test_load.specs.Cases.{FiguresOf};
 
-#[derive(Drop)]
+#[derive(Clone, Copy)]
 pub struct Figures {
     pub number: u32,
     pub place: u64,

@@ -1,5 +1,7 @@
 // Listings with the number and place stored for each, run through the loader.
 // Prints each case that fails, with what was expected and what was found, and then how many agree.
+#![tactic(auto)]
+
 pub mod figures;
 
 ghost use Rattle.std.specs.Prelude.{◌≡◌};
@@ -8,7 +10,10 @@ ghost use Rattle.test_load.specs.Cases.{CaseAt, Untouched, Written, TablesRight,
 ghost use Rattle.test_load.specs.Files.{RanFile, RanSome, RanShort};
 
 use crate::figures::{Figures, load_figures, same_figures};
-use libc::STDOUT_FILENO;
+use std::fs::Files;
+use std::io;
+use std::io::{Stderr, Stdout};
+use streams::{buffer, say, say_figure};
 use table::{CELL_END, TABLE_WORDS};
 use test_cases::frame::{part_at, past, word_at};
 use test_cases::memories::{all_are, all_from, fill, same_to};
@@ -19,7 +24,7 @@ const PATTERN: u32 = 2779096485;
 
 // A case of the file is its name (a word), its listing (a part), number and place (words). Here: the name, where the listing begins and ends,
 // the figures stored, and the place after the case.
-#[derive(Drop)]
+#[derive(Clone, Copy)]
 pub struct Case {
     pub name: u32,
     pub from: usize,
@@ -51,22 +56,22 @@ fn case_at(s: &[u8], at: usize) -> Case
 }
 
 // Are the figures those expected? If not it says so.
-fn agree(name: u32, expected: Figures, found: Figures) -> bool
+fn agree(stdout: Stdout, name: u32, expected: Figures, found: Figures) -> bool
     ensures { Tells result (expected ≡ found) }
 {
     let same = same_figures(expected, found);
     if !same {
-        io::write_all(STDOUT_FILENO, b"case ");
-        io::print_decimal(STDOUT_FILENO, name as u64);
-        io::write_all(STDOUT_FILENO, b": expected ");
-        io::print_decimal(STDOUT_FILENO, expected.number as u64);
-        io::write_all(STDOUT_FILENO, b" at ");
-        io::print_decimal(STDOUT_FILENO, expected.place);
-        io::write_all(STDOUT_FILENO, b", found ");
-        io::print_decimal(STDOUT_FILENO, found.number as u64);
-        io::write_all(STDOUT_FILENO, b" at ");
-        io::print_decimal(STDOUT_FILENO, found.place);
-        io::write_all(STDOUT_FILENO, b"\n");
+        say(&stdout, b"case ");
+        say_figure(&stdout, name as u64);
+        say(&stdout, b": expected ");
+        say_figure(&stdout, expected.number as u64);
+        say(&stdout, b" at ");
+        say_figure(&stdout, expected.place);
+        say(&stdout, b", found ");
+        say_figure(&stdout, found.number as u64);
+        say(&stdout, b" at ");
+        say_figure(&stdout, found.place);
+        say(&stdout, b"\n");
     }
     same
 }
@@ -108,20 +113,21 @@ fn as_left(table: &[u32], other: &[u32], number: u32) -> bool
 }
 
 // The same; if they are not, it says so.
-fn tables_right(name: u32, table: &[u32], other: &[u32], number: u32) -> bool
+fn tables_right(stdout: Stdout, name: u32, table: &[u32], other: &[u32], number: u32) -> bool
     ensures { Tells result (TablesRight number table.now other.now) }
 {
     let right = as_left(table, other, number);
     if !right {
-        io::write_all(STDOUT_FILENO, b"case ");
-        io::print_decimal(STDOUT_FILENO, name as u64);
-        io::write_all(STDOUT_FILENO, b": a table is not as it must be\n");
+        say(&stdout, b"case ");
+        say_figure(&stdout, name as u64);
+        say(&stdout, b": a table is not as it must be\n");
     }
     right
 }
 
 // Loads a listing into two tables. Are the figures those expected, and the tables as they must be?
 fn run_case(
+    stdout: Stdout,
     listing: &[u8],
     table: &mut [u32],
     other: &mut [u32],
@@ -134,24 +140,24 @@ fn run_case(
     fill(other, 0);
     let found = load_figures(listing, table);
     let again = load_figures(listing, other);
-    if !agree(name, expected, found) {
+    if !agree(stdout, name, expected, found) {
         return false;
     }
-    if !agree(name, expected, again) {
+    if !agree(stdout, name, expected, again) {
         return false;
     }
-    tables_right(name, table, other, found.number)
+    tables_right(stdout, name, table, other, found.number)
 }
 
 // How many cases there were, and how many of them failed.
-#[derive(Drop)]
+#[derive(Clone, Copy)]
 pub struct Tally {
     pub cases: u64,
     pub failed: u64,
 }
 
 // All cases of a file: their number, then each of them.
-fn run_file(s: &[u8], table: &mut [u32], other: &mut [u32]) -> Tally
+fn run_file(stdout: Stdout, s: &[u8], table: &mut [u32], other: &mut [u32]) -> Tally
     ensures { RanFile s.now table.old other.old table.new other.new result }
 {
     let count = word_at(s, 0) as u64;
@@ -166,7 +172,7 @@ fn run_file(s: &[u8], table: &mut [u32], other: &mut [u32]) -> Tally
             number: case.number,
             place: case.place,
         };
-        if !run_case(&s[from..to], table, other, case.name, expected) {
+        if !run_case(stdout, &s[from..to], table, other, case.name, expected) {
             failed += 1;
         }
         at = case.next;
@@ -178,16 +184,23 @@ fn run_file(s: &[u8], table: &mut [u32], other: &mut [u32]) -> Tally
     }
 }
 
-fn run_path(path: &[u8], table: &mut [u32], other: &mut [u32]) -> Tally
+fn run_path<R: Files>(
+    files: &R,
+    errors: Stderr,
+    stdout: Stdout,
+    path: &[u8],
+    table: &mut [u32],
+    other: &mut [u32],
+) -> Tally
     ensures { RanSome table.old other.old table.new other.new result }
 {
     let mut file = stored_cases();
-    let length = read_file(path, &mut file);
-    run_file(&file[..length], table, other)
+    let length = read_file(files, errors, path, &mut file);
+    run_file(stdout, &file[..length], table, other)
 }
 
 // Question 1: "Table 12,288 words of 32 bits", one word too few. 1 if the case fails.
-fn short_tables(table: &mut [u32], other: &mut [u32]) -> u64
+fn short_tables(stdout: Stdout, table: &mut [u32], other: &mut [u32]) -> u64
     ensures { RanShort table.old other.old table.new other.new result }
 {
     if table.len() < 12287 {
@@ -202,6 +215,7 @@ fn short_tables(table: &mut [u32], other: &mut [u32]) -> u64
     };
     let listing = b"P\t1\t1\nR\trr\t0\nW\t0\nS\t1\t#1\nA\t1\t#60000\t#0\nW\t1\nG\t0\n";
     if run_case(
+        stdout,
         listing,
         &mut table[..12287],
         &mut other[..12287],
@@ -213,15 +227,17 @@ fn short_tables(table: &mut [u32], other: &mut [u32]) -> u64
     1
 }
 
-fn main() {
+fn main(rt: HostRuntime) -> io::Result<()> {
+    let stdout = rt.stdout();
+    let errors = rt.stderr();
     let mut table = [0u32; 12300];
     let mut other = [0u32; 12300];
-    let short = short_tables(&mut table, &mut other);
-    let many = run_path(b"loads.dat", &mut table, &mut other);
-    let long = run_path(b"long.dat", &mut table, &mut other);
+    let short = short_tables(stdout, &mut table, &mut other);
+    let many = run_path(&rt, errors, stdout, b"loads.dat", &mut table, &mut other);
+    let long = run_path(&rt, errors, stdout, b"long.dat", &mut table, &mut other);
     let cases = 1 + many.cases + long.cases;
     let failed = short + many.failed + long.failed;
-    let mut line = io::buffer();
+    let mut line = buffer();
     let n = put_summary(&mut line, b"load: ", cases, failed);
-    io::write_all(STDOUT_FILENO, &line[..n]);
+    rt.write_all(&line[..n])
 }

@@ -1,8 +1,11 @@
 // The stored cases of the valve book's pages: each is run, and what is put of it (test_page_prints) is printed, and held against the
 // answers in the file `stdout`.
+#![tactic(auto)]
+
 ghost use Rattle.std.specs.Prelude.{length, ◌≡◌};
 
-use libc::STDOUT_FILENO;
+use std::io;
+use streams::buffer;
 use test_cases::frame::{past, word_at};
 use test_cases::report::read_file;
 use test_page_prints::run_case;
@@ -36,22 +39,23 @@ fn page_memory() -> [u8; 2800]
 }
 
 // All cases of a file: their number (a word), then each of them.
-fn main() {
+fn main(rt: HostRuntime) -> io::Result<()> {
     let mut file = text();
     let mut moments = moment_list();
     let mut outputs = word_list();
     let mut values = word_list();
     let mut memory = page_memory();
-    let mut out = io::buffer();
-    let read = read_file(b"pages.dat", &mut file);
+    let mut out = buffer();
+    let read = read_file(&rt, rt.stderr(), b"pages.dat", &mut file);
     let count = word_at(&file[..read], 0) as u64;
     let mut at = past(&file[..read], 0, 4);
     let mut done: u64 = 0;
     while done < count {
         let case = read_case(&file[..read], at, &mut moments, &mut outputs, &mut values);
         let n = run_case(&mut out, case, &moments, &outputs, &values, &mut memory);
-        io::write_all(STDOUT_FILENO, &out[..n]);
+        rt.write_all(&out[..n])?;
         at = case.next;
         done += 1;
     }
+    Ok(())
 }

@@ -1,5 +1,7 @@
 // Sessions with what each must print: listing and trace are played step by step, and every piece is held against the stored print.
 // Prints the name of each session that fails, and then how many agree.
+#![tactic(auto)]
+
 pub mod playing;
 
 ghost use Rattle.std.specs.Prelude.{true, ◌≡◌, length};
@@ -11,13 +13,15 @@ ghost use Rattle.session_replay.specs.Phases.{memories};
 ghost use Rattle.test_sessions.specs.Cases.{CaseAt, Inside, Agrees, Ran};
 
 use crate::playing::plays;
-use libc::STDOUT_FILENO;
+use std::io;
+use std::io::Stdout;
+use streams::{buffer, say, say_figure};
 use table::TABLE_WORDS;
 use test_cases::frame::{part_at, past, word_at};
 use test_cases::report::{put_summary, read_file, stored_cases};
 
 // A case of the file: its name, where listing, trace and print begin and end. The next case follows the print.
-#[derive(Drop)]
+#[derive(Clone, Copy)]
 pub struct Case {
     pub name: u32,
     pub listing: usize,
@@ -47,7 +51,14 @@ fn case_at(s: &[u8], at: usize) -> Case
 }
 
 // Plays the case, and says so if it fails.
-fn run_case(s: &[u8], case: Case, table: &mut [u32], machine: &mut [u32], out: &mut [u8]) -> bool
+fn run_case(
+    stdout: Stdout,
+    s: &[u8],
+    case: Case,
+    table: &mut [u32],
+    machine: &mut [u32],
+    out: &mut [u8],
+) -> bool
     requires { Inside s.now case × (long_enough table.old machine.old out.old ≡ true) }
     ensures { Tells result (Agrees s.now case)
         × AsLong (memories table.old machine.old out.old)
@@ -68,22 +79,28 @@ fn run_case(s: &[u8], case: Case, table: &mut [u32], machine: &mut [u32], out: &
         out,
     );
     if !right {
-        io::write_all(STDOUT_FILENO, b"session ");
-        io::print_decimal(STDOUT_FILENO, case.name as u64);
-        io::write_all(STDOUT_FILENO, b" fails\n");
+        say(&stdout, b"session ");
+        say_figure(&stdout, case.name as u64);
+        say(&stdout, b" fails\n");
     }
     right
 }
 
 // How many cases there were, and how many of them failed.
-#[derive(Drop)]
+#[derive(Clone, Copy)]
 pub struct Tally {
     pub cases: u64,
     pub failed: u64,
 }
 
 // All cases of a file: their number, then each of them.
-fn run_file(s: &[u8], table: &mut [u32], machine: &mut [u32], out: &mut [u8]) -> Tally
+fn run_file(
+    stdout: Stdout,
+    s: &[u8],
+    table: &mut [u32],
+    machine: &mut [u32],
+    out: &mut [u8],
+) -> Tally
     requires { long_enough table.old machine.old out.old ≡ true }
     ensures { Ran s.now result
         × AsLong (memories table.old machine.old out.old)
@@ -95,7 +112,7 @@ fn run_file(s: &[u8], table: &mut [u32], machine: &mut [u32], out: &mut [u8]) ->
     let mut failed: u64 = 0;
     while done < count {
         let case = case_at(s, at);
-        if !run_case(s, case, table, machine, out) {
+        if !run_case(stdout, s, case, table, machine, out) {
             failed += 1;
         }
         at = case.print_to;
@@ -121,14 +138,20 @@ fn piece() -> [u8; 1100]
     [0; 1100]
 }
 
-fn main() {
+fn main(rt: HostRuntime) -> io::Result<()> {
     let mut file = stored_cases();
-    let length = read_file(b"sessions.dat", &mut file);
+    let length = read_file(&rt, rt.stderr(), b"sessions.dat", &mut file);
     let mut table = memory();
     let mut machine = memory();
     let mut out = piece();
-    let tally = run_file(&file[..length], &mut table, &mut machine, &mut out);
-    let mut line = io::buffer();
+    let tally = run_file(
+        rt.stdout(),
+        &file[..length],
+        &mut table,
+        &mut machine,
+        &mut out,
+    );
+    let mut line = buffer();
     let n = put_summary(&mut line, b"sessions: ", tally.cases, tally.failed);
-    io::write_all(STDOUT_FILENO, &line[..n]);
+    rt.write_all(&line[..n])
 }

@@ -10,7 +10,7 @@ ghost use Rattle.test_sessions.specs.Playing.{Follows, Takes};
 use session_replay::{Advanced, Phase, advance};
 
 // The place after a piece, or none: the piece is not what stands there.
-#[derive(Drop)]
+#[derive(Clone, Copy)]
 pub enum Followed {
     To(usize),
     Differs,
@@ -37,7 +37,7 @@ fn follows(print: &[u8], at: usize, out: &[u8], n: usize) -> Followed
 }
 
 // A step that was right: the next phase, and how far the print has been matched.
-#[derive(Drop)]
+#[derive(Clone, Copy)]
 pub enum Taken {
     On(Phase, usize),
     Failed,

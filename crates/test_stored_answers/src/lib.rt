@@ -1,4 +1,6 @@
 // The answer stored for a call: number, steps, outputs listed, 1 if a moment is due or else 0, that moment, a number and a value for each output.
+#![tactic(auto)]
+
 pub mod inputs;
 pub mod reports;
 
@@ -9,7 +11,8 @@ ghost use Rattle.test_stored_answers.specs.Answers.{AnswerAt, unlisted, AnswerRi
 
 use crate::inputs::read_pairs;
 use crate::reports::put_reports;
-use libc::STDOUT_FILENO;
+use std::io::Stdout;
+use streams::{buffer, say};
 use test_cases::frame::{moment_at, past, word_at};
 use test_cases::memories::same;
 use test_lending::machine::PATTERN;
@@ -18,7 +21,7 @@ use test_lending::machine::PATTERN;
 pub const ANSWER: usize = 24;
 
 // The number, the steps used, the outputs listed, and the next moment due, or 0 if none is (a moment due is at least 1).
-#[derive(Drop)]
+#[derive(Clone, Copy)]
 pub struct Report {
     pub number: u32,
     pub steps: u32,
@@ -72,19 +75,26 @@ fn outputs_right(s: &[u8], at: usize, listed: u32, numbers: &[u32], values: &[u3
 }
 
 // Is the answer of a call the one stored, with the outputs listed, and are all other places as they were? If not it says so.
-pub fn answer_right(s: &[u8], at: usize, found: Report, numbers: &[u32], values: &[u32]) -> bool
+pub fn answer_right(
+    stdout: Stdout,
+    s: &[u8],
+    at: usize,
+    found: Report,
+    numbers: &[u32],
+    values: &[u32],
+) -> bool
     ensures { Tells result (AnswerRight s.now at found numbers.now values.now) }
 {
     let expected = answer_at(s, at);
     if !same_reports(expected, found) {
-        let mut out = io::buffer();
+        let mut out = buffer();
         let n = put_reports(&mut out, expected, found);
-        io::write_all(STDOUT_FILENO, &out[..n]);
+        say(&stdout, &out[..n]);
         return false;
     }
     let right = outputs_right(s, past(s, at, ANSWER), found.listed, numbers, values);
     if !right {
-        io::write_all(STDOUT_FILENO, b"the output lists are not as they must be\n");
+        say(&stdout, b"the output lists are not as they must be\n");
     }
     right
 }

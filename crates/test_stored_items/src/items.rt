@@ -3,6 +3,7 @@ ghost use Rattle.std.specs.Prelude.{◌≡◌};
 ghost use Rattle.test_stored_items.specs.Items.{after_call, after_item, RanItem};
 
 use crate::calls::run_spoilt;
+use std::io::Stdout;
 use test_cases::frame::{past, word_at};
 use test_cases::memories::copy;
 use test_stored_answers::ANSWER;
@@ -35,6 +36,7 @@ pub fn after_item(s: &[u8], at: usize) -> usize
 
 // Runs the item at a place, and answers whether all was as stored.
 pub fn run_item(
+    stdout: Stdout,
     s: &[u8],
     at: usize,
     table: &mut [u32],
@@ -46,7 +48,7 @@ pub fn run_item(
 {
     let kind = word_at(s, at);
     if kind < 2 {
-        return run_spoilt(s, at, table, machine);
+        return run_spoilt(stdout, s, at, table, machine);
     }
     if kind == 2 {
         copy(machine, kept);

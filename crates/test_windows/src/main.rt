@@ -1,5 +1,7 @@
 // Spans of schedules with the inputs stored for each, listed by the library. Lists of the lengths that a case gives are filled with junk and lent.
 // Prints each case that fails, and then how many agree.
+#![tactic(auto)]
+
 ghost use Rattle.std.specs.Prelude.{◌≡◌, ◌≤◌, length, take};
 ghost use Rattle.session_print.specs.Puts.{Puts};
 ghost use Rattle.test_cases.specs.Words.{Tells};
@@ -7,8 +9,10 @@ ghost use Rattle.test_stored_windows.specs.Lists.{junk_moments, junk_words};
 ghost use Rattle.test_windows.specs.Cases.{stored_figures, ListsRight, Called, LineRight, CaseAgrees, failure_line};
 ghost use Rattle.test_windows.specs.Files.{RanFile};
 
-use libc::STDOUT_FILENO;
 use session_print::figure::put_figure;
+use std::io;
+use std::io::Stdout;
+use streams::{buffer, say};
 use test_cases::frame::{past, word_at};
 use test_cases::report::{put_summary, put_text, read_file, stored_cases};
 use test_stored_windows::cases::{Case, case_at};
@@ -97,14 +101,14 @@ fn put_failure(out: &mut [u8], name: u32) -> usize
 }
 
 // How many cases there were, and how many of them failed.
-#[derive(Drop)]
+#[derive(Clone, Copy)]
 pub struct Tally {
     pub cases: u64,
     pub failed: u64,
 }
 
 // All cases of a file: their number, then each of them.
-fn run_file(s: &[u8]) -> Tally
+fn run_file(stdout: Stdout, s: &[u8]) -> Tally
     ensures { RanFile s.now result }
 {
     let count = word_at(s, 0) as u64;
@@ -114,9 +118,9 @@ fn run_file(s: &[u8]) -> Tally
     while done < count {
         let case = case_at(s, at);
         if !run_case(s, case) {
-            let mut line = io::buffer();
+            let mut line = buffer();
             let n = put_failure(&mut line, case.name);
-            io::write_all(STDOUT_FILENO, &line[..n]);
+            say(&stdout, &line[..n]);
             failed += 1;
         }
         at = case.next;
@@ -128,11 +132,11 @@ fn run_file(s: &[u8]) -> Tally
     }
 }
 
-fn main() {
+fn main(rt: HostRuntime) -> io::Result<()> {
     let mut file = stored_cases();
-    let length = read_file(b"windows.dat", &mut file);
-    let tally = run_file(&file[..length]);
-    let mut line = io::buffer();
+    let length = read_file(&rt, rt.stderr(), b"windows.dat", &mut file);
+    let tally = run_file(rt.stdout(), &file[..length]);
+    let mut line = buffer();
     let n = put_summary(&mut line, b"windows: ", tally.cases, tally.failed);
-    io::write_all(STDOUT_FILENO, &line[..n]);
+    rt.write_all(&line[..n])
 }

@@ -1,4 +1,6 @@
 // What is told of a record, and the records that lead elsewhere: `U`, `G` and `F`.
+#![tactic(auto)]
+
 pub mod fork;
 pub mod jump;
 pub mod record;

@@ -12,12 +12,12 @@ unfolding days_of_months total
 loop-m-init c = (refl, omega arith, omega arith, omega arith)
 
 pub loop-m-preserved : goal.loop-m-preserved
-loop-m-preserved c = 
+loop-m-preserved c =
     let v = c.loop-m in
     (cc (month_passed c.args.year v.m v.invariant.2), omega arith, omega arith, omega arith)
 
 pub returns : goal.returns
-returns c = 
+returns c =
     let v = c.loop-m in
     let end : v.m ≡ c.args.month = omega arith in
     (rw (← end) v.invariant.0, omega arith)

@@ -12,12 +12,12 @@ unfolding days_of_years
 loop-y-init c = (refl, omega arith, omega arith, omega arith)
 
 pub loop-y-preserved : goal.loop-y-preserved
-loop-y-preserved c = 
+loop-y-preserved c =
     let v = c.loop-y in
     (cc (year_passed v.y v.invariant.2), omega arith, omega arith, omega arith)
 
 pub returns : goal.returns
-returns c = 
+returns c =
     let v = c.loop-y in
     let end : v.y ≡ c.args.year = omega arith in
     (rw (← end) v.invariant.0, omega arith)

@@ -23,7 +23,7 @@ overflow_add-result c = omega (arith, real_date _ _ _ c.requires)
 
 pub returns : goal.returns
 unfolding weekday_after day_number
-returns c = 
+returns c =
     let a = c.args in
     let number : 5 + (c.days_of_years.result + c.days_of_months.result + (a.day - 1))
     ≡ 5 + (days_of_years (a.year - 2000) + days_of_months a.year (a.month - 1) + (a.day - 1)) + 0 = omega arith in

@@ -8,12 +8,12 @@ use Rattle.schedule_calendar.proofs.year_days.Goals as goal
 
 pub returns-then-is_leap : goal.returns-then-is_leap
 unfolding year_days
-returns-then-is_leap c = 
+returns-then-is_leap c =
     let leap : is_leap c.args.year ≡ true = sym c.is_leap.ensures ∙ c.if-is_leap.true in
     (rw leap, omega arith)
 
 pub returns-else-is_leap : goal.returns-else-is_leap
 unfolding year_days
-returns-else-is_leap c = 
+returns-else-is_leap c =
     let other : is_leap c.args.year ≡ false = sym c.is_leap.ensures ∙ c.if-is_leap.false in
     (rw other, omega arith)

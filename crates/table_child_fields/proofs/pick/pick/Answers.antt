@@ -16,20 +16,19 @@ returns-then-left-skip c = c.no_maker-then-left-skip.ensures ∙ no_maker_high _
 pub head_after-head-requires : goal.head_after-head-requires
 head_after-head-requires c = (c.requires.0, λ j h. omega (arith, c.requires.1.inside j (omega (arith, h, c.if-left-skip.false))))
 
--- the head is among the words
-inside : (c : tie.After-head-after) → (let a = c.before.before.before.before.args in
-    (length a.t.now ≡ 12288) × (c.head-after.result + 2 ≤ 12288))
-inside c =
-    let s = c.before.before.before.before in
-    let a = s.args in
-    let i = s.requires.1.inside (a.child - a.next) c.before.if2.false in
-    (s.requires.0, omega (arith, i, c.head-after.ensures))
-
 pub head_at-routine-requires : goal.head_at-routine-requires
-head_at-routine-requires c = inside c
+head_at-routine-requires c =
+    let a = c.args in
+    -- the head is among the words
+    let i = c.requires.1.inside (a.child - a.next) c.if-left-skip.false in
+    (c.requires.0, omega (arith, i, c.head_after-head.ensures))
 
 pub next_head-after-requires : goal.next_head-after-requires
-next_head-after-requires c = inside c
+next_head-after-requires c =
+    let a = c.args in
+    -- the head is among the words
+    let i = c.requires.1.inside (a.child - a.next) c.if-left-skip.false in
+    (c.requires.0, omega (arith, i, c.head_after-head.ensures))
 
 pub returns : goal.returns
 returns c = 

@@ -12,18 +12,14 @@ returns-then-lines-place c =
     let h : word c.args.t.now (8 + 5 * c.args.r + 4) ≤ c.args.place = omega (arith, c.number-lines.ensures.0, c.if-lines-place.true) in
     (line_past_lem _ _ _ h, past_the_end c.args.t.now c.requires.2 c.args.r c.requires.1 c.args.place h)
 
--- the place is one of the routine's
-within : (c : tie.Else1) → (let a = c.before.before.before.before.args in a.place < word a.t.now (8 + 5 * a.r + 4))
-within c = omega (arith, c.before.number.ensures.0, c.if1.false)
-
 pub fetch-requires : goal.fetch-requires
 fetch-requires c = 
     let b = c.requires.2.code c.args.r c.requires.1 in
-    let h = within c in
+    let h : c.args.place < word c.args.t.now (8 + 5 * c.args.r + 4) = omega (arith, c.number-lines.ensures.0, c.if-lines-place.false) in
     (c.requires.0, (omega (arith, c.requires.1, c.requires.2.most), omega (arith, b, h)))
 
 pub returns : goal.returns
 returns c = 
     let a = c.args in
-    let h = within c in
+    let h : c.args.place < word c.args.t.now (8 + 5 * c.args.r + 4) = omega (arith, c.number-lines.ensures.0, c.if-lines-place.false) in
     (c.fetch.ensures ∙ line_there a.t.now a.r a.place h, rw c.fetch.ensures (seen a.t.now c.requires.2 a.r c.requires.1 a.place h))

@@ -10,11 +10,11 @@ pub returns-in_default : goal.returns-in_default
 returns-in_default c = ap figures_by (sym c.in_default.is ∙ c.pieces_field.ensures)
 
 pub returns-then-g : goal.returns-then-g
-returns-then-g c = 
-    let v = c.g-1.given.0 in
-    ap (λ (t : Bool). cond t (GV.Read v.0 v.1.0 v.1.1.0) GV.Bad) (sym c.if-g.true) ∙ ap figures_by (sym c.in-Read.is ∙ c.pieces_field.ensures)
+returns-then-g c =
+    let v = c.in-Read in
+    ap (λ (t : Bool). cond t (GV.Read v.g v.b v.next) GV.Bad) (sym c.if-g.true) ∙ ap figures_by (sym c.in-Read.is ∙ c.pieces_field.ensures)
 
 pub returns : goal.returns
-returns c = 
-    let v = c.g-1.given.0 in
-    ap (λ (t : Bool). cond t (GV.Read v.0 v.1.0 v.1.1.0) GV.Bad) (sym c.if-g.false) ∙ ap figures_by (sym c.in-Read.is ∙ c.pieces_field.ensures)
+returns c =
+    let v = c.in-Read in
+    ap (λ (t : Bool). cond t (GV.Read v.g v.b v.next) GV.Bad) (sym c.if-g.false) ∙ ap figures_by (sym c.in-Read.is ∙ c.pieces_field.ensures)

@@ -14,7 +14,7 @@ use borrow.Author.Rules.{rules}
 use Rattle.text_fields.proofs.field.number_field.Goals as goal
 
 pub returns-then-b-eq32 : goal.returns-then-b-eq32
-returns-then-b-eq32 c = 
+returns-then-b-eq32 c =
     let a = c.args in
     let s = a.s.now in
     let r = c.take_piece-t.result in
@@ -24,7 +24,7 @@ returns-then-b-eq32 c =
     sym (numbers.number_space s a.place a.stop c.if-stop-eq9.true (sym stop_is ∙ c.if-b-eq32.true))
 
 pub figure_of-requires : goal.figure_of-requires
-figure_of-requires c = 
+figure_of-requires c =
     let a = c.args in
     let s = a.s.now in
     let r = c.take_piece-t.result in
@@ -37,7 +37,7 @@ figure_of-requires c =
     (rw (f, g) t.0, rw g t.1)
 
 pub returns-in_default : goal.returns-in_default
-returns-in_default c = 
+returns-in_default c =
     let a = c.args in
     let s = a.s.now in
     let r = c.take_piece-t.result in
@@ -49,7 +49,7 @@ returns-in_default c =
     sym (numbers.number_piece s a.place a.stop c.if-stop-eq9.true (λ e. c.if-b-eq32.false (stop_is ∙ e)) ∙ rw (fg, c.in_default.is))
 
 pub returns-then-stop-eq9 : goal.returns-then-stop-eq9
-returns-then-stop-eq9 c = 
+returns-then-stop-eq9 c =
     let a = c.args in
     let s = a.s.now in
     let r = c.take_piece-t.result in

@@ -24,13 +24,13 @@ pub gathered-g-requires : goal.gathered-g-requires
 gathered-g-requires c = omega (arith, c.loop-g.invariant.few, c.loop-g.invariant.place.inside)
 
 pub returns-then-b-ne32 : goal.returns-then-b-ne32
-returns-then-b-ne32 c = 
+returns-then-b-ne32 c =
     let v = c.loop-g in
     let one = c.gathered-g.ensures ∙ ap (gather_one c.args.names v.g) c.piece_of-p.ensures in
     gather.gathering_read c.args.names _ _ _ _ _ v.invariant _ c.take_piece-t.ensures _ one c.args.place refl refl _ c.if-stop-ne9.false c.if-b-ne32.true
 
 pub loop-g-smaller : goal.loop-g-smaller
-loop-g-smaller c = 
+loop-g-smaller c =
     let v = c.loop-g in
     let p = c.take_piece-t.ensures in
     let m = on.moved_on _ _ _ _ v.invariant.place _ p c.if-b-ne32.false in
@@ -38,7 +38,7 @@ loop-g-smaller c =
     omega arith
 
 pub loop-g-preserved : goal.loop-g-preserved
-loop-g-preserved c = 
+loop-g-preserved c =
     let v = c.loop-g in
     let one = c.gathered-g.ensures ∙ ap (gather_one c.args.names v.g) c.piece_of-p.ensures in
     gather.gathering_on c.args.names _ _ _ _ _ v.invariant _ c.take_piece-t.ensures _ one c.if-b-ne32.false

@@ -14,7 +14,7 @@ use borrow.Author.Rules.{rules}
 use Rattle.text_fields.proofs.kinds.kinds_field.Goals as goal
 
 pub returns-then-b-eq32 : goal.returns-then-b-eq32
-returns-then-b-eq32 c = 
+returns-then-b-eq32 c =
     let a = c.args in
     let s = a.s.now in
     let r = c.take_piece-t.result in
@@ -23,7 +23,7 @@ returns-then-b-eq32 c =
     sym (kinds.kinds_space s a.place a.stop c.if-stop-eq9.true (sym stop_is ∙ c.if-b-eq32.true))
 
 pub kinds_of-requires : goal.kinds_of-requires
-kinds_of-requires c = 
+kinds_of-requires c =
     let a = c.args in
     let s = a.s.now in
     let r = c.take_piece-t.result in
@@ -35,7 +35,7 @@ kinds_of-requires c =
     (rw (f, g) t.0, rw g t.1)
 
 pub returns-in_default : goal.returns-in_default
-returns-in_default c = 
+returns-in_default c =
     let a = c.args in
     let s = a.s.now in
     let r = c.take_piece-t.result in
@@ -46,7 +46,7 @@ returns-in_default c =
     sym (kinds.kinds_piece s a.place a.stop c.if-stop-eq9.true (λ e. c.if-b-eq32.false (stop_is ∙ e)) ∙ rw (fg, c.in_default.is))
 
 pub returns-then-stop-eq9 : goal.returns-then-stop-eq9
-returns-then-stop-eq9 c = 
+returns-then-stop-eq9 c =
     let a = c.args in
     let s = a.s.now in
     let r = c.take_piece-t.result in

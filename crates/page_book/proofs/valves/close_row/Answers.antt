@@ -1,0 +1,15 @@
+-- `page_book::close_row` meets its contract.
+use mathlib.Core.Path.{◌≡◌, sym, ◌∙◌}
+use native.Mathlib.Omega.{arith}
+use Rattle.page_book.proofs.Entering as entering
+use borrow.Author.Rules.{rules}
+use Rattle.page_book.proofs.valves.close_row.Goals as goal
+
+pub returns-then-line-eq0 : goal.returns-then-line-eq0
+returns-then-line-eq0 c = entering.none_closed c.args.memory.now c.args.line c.args.milliseconds c.if-line-eq0.true
+
+pub returns-then-line-ge-ELSEWHERE : goal.returns-then-line-ge-ELSEWHERE
+returns-then-line-ge-ELSEWHERE c = entering.closed_elsewhere c.args.memory.now c.args.line c.args.milliseconds c.if-line-ge-ELSEWHERE.true
+
+pub returns : goal.returns
+returns c = c.put_open_for.ensures ∙ entering.closed_here c.args.memory.now c.args.line c.args.milliseconds c.if-line-eq0.false c.if-line-ge-ELSEWHERE.false _ c.wide.ensures.0

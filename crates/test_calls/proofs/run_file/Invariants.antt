@@ -1,0 +1,14 @@
+use mathlib.Core.Path.{◌≡◌, refl, ◌∙◌}
+use mathlib.Core.Logic.{⊎_elim}
+use native.Mathlib.Omega.{arith}
+use Prim.Native.Nat.{◌-◌, ◌≤◌, ◌<◌}
+use Rattle.test_cases.specs.Frame.{word_at, onward}
+use Rattle.test_calls.proofs.Turning.{CasesLeft, cases_begun, case_agrees, case_fails, cases_ended}
+use borrow.Author.Rules.{rules}
+use Rattle.test_calls.proofs.run_file.Given as goal
+
+abbrev pub invariant-loop-done : goal.invariant-loop-done
+invariant-loop-done l = (l.count ≡ word_at l.s 0) × (l.count < 4294967296) × (l.done ≤ l.count) × (l.failed ≤ l.done) × CasesLeft l.s (onward l.s 0 4) l.count l.at l.done l.failed
+
+abbrev pub decreases-loop-done : goal.decreases-loop-done
+decreases-loop-done l = l.count - l.done

@@ -1,0 +1,16 @@
+use mathlib.Core.Path.{◌≡◌, refl, sym, ap, ◌∙◌}
+use mathlib.Core.Logic.{⊎_elim}
+use native.Mathlib.Omega.{arith}
+use Prim.Native.Nat.{◌-◌, ◌≤◌}
+use lib.ListN.{length}
+use borrow.Author.Tests.{not-true, not-false}
+use Rattle.test_calls.proofs.Turning.{Rest, begun, told_of, one_agrees, one_fails, ended, ended_place}
+use lib.Seq.{length-take-le}
+use borrow.Author.Rules.{rules}
+use Rattle.test_calls.proofs.run_items.Given as goal
+
+abbrev pub invariant-loop-done : goal.invariant-loop-done
+invariant-loop-done l = (l.items ≡ l.count) × (l.done ≤ l.items) × (l.failed ≤ l.done) × (l.table ≡ l.initial.table) × (length l.machine ≡ length l.initial.machine) × (length l.kept ≡ length l.initial.kept) × Rest l.s l.initial.table l.initial.machine l.initial.kept l.from l.count l.machine l.kept l.at l.done l.failed
+
+abbrev pub decreases-loop-done : goal.decreases-loop-done
+decreases-loop-done l = l.items - l.done

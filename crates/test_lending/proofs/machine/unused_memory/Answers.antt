@@ -1,0 +1,7 @@
+use Rattle.test_lending.specs.Memories.{unused_memory}
+use borrow.Author.Rules.{rules}
+use Rattle.test_lending.proofs.machine.unused_memory.Goals as goal
+
+pub returns : goal.returns
+unfolding unused_memory
+returns c = search rules

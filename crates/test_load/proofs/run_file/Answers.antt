@@ -1,0 +1,46 @@
+use mathlib.Core.Path.{◌≡◌, refl, ap, ◌∙◌}
+use Prim.Native.Nat.{ℕ, ◌-◌, ◌≤◌, ◌<◌}
+use native.Mathlib.Omega.{arith}
+use lib.Dec.{leb}
+use lib.ListN.{length}
+use borrow.Author.Tests.{not-false}
+use Rattle.listing.specs.Load.{is_long_enough}
+use Rattle.test_cases.specs.Frame.{word_at, onward}
+use Rattle.test_load.proofs.Turning.{Rest, begun, one_agrees, one_fails, ended}
+use borrow.Author.Rules.{rules}
+use Rattle.test_load.proofs.run_file.Goals as goal
+use Rattle.test_load.proofs.run_file.Goals.{then-not-run_case, else-not-run_case}
+
+pub loop-done-init : goal.loop-done-init
+loop-done-init c = (c.word_at-count.ensures, omega arith, omega arith, omega arith, refl, refl, begun c.past-at.ensures)
+
+pub loop-done-preserved : goal.loop-done-preserved
+loop-done-preserved c =
+    let v = c.loop-done.invariant in
+    let r = c.run_case in
+    let case = c.case_at-case in
+    let more = c.loop-done-test.true in (
+      v.0,
+      v.1,
+      omega arith,
+      elim c.if-not-run_case.branch [ then-not-run_case w ↦ omega arith | else-not-run_case w ↦ omega arith ],
+      r.auto.table ∙ v.4,
+      r.auto.other ∙ v.5,
+      elim c.if-not-run_case.branch [
+          then-not-run_case w ↦ one_fails c.loop-done.failed w.failed-is
+        | else-not-run_case w ↦ one_agrees case.result case.ensures (ap (λ (n : ℕ). leb 12288 n) v.4) (r.ensures.tells.means w.if-not-run_case.false).first more w.failed-is v.6
+      ],
+    )
+
+pub returns : goal.returns
+returns c =
+    let v = c.loop-done.invariant in
+    let e : c.loop-done.done ≡ c.word_at-count.result = omega arith in
+    record {
+      count = e ∙ v.0;
+      few = omega arith;
+      failed = v.3;
+      agree = λ z. rw e (ended c.loop-done-test.false v.6 z);
+      as_long = v.4;
+      other_as_long = v.5;
+    }

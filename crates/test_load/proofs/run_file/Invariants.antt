@@ -1,0 +1,20 @@
+use mathlib.Core.Path.{◌≡◌, refl, ap, ◌∙◌}
+use Prim.Native.Nat.{ℕ, ◌-◌, ◌≤◌, ◌<◌}
+use mathlib.Core.Logic.{⊎_elim}
+use native.Mathlib.Omega.{arith}
+use lib.Dec.{leb}
+use lib.ListN.{length}
+use borrow.Author.Tests.{not-false}
+use Rattle.listing.specs.Load.{is_long_enough}
+use Rattle.test_cases.specs.Frame.{word_at, onward}
+use Rattle.test_load.proofs.Turning.{Rest, begun, one_agrees, one_fails, ended}
+use borrow.Author.Rules.{rules}
+use Rattle.test_load.proofs.run_file.Given as goal
+
+abbrev pub invariant-loop-done : goal.invariant-loop-done
+invariant-loop-done l =
+    (l.count ≡ word_at l.s 0) × (l.count < 4294967296) × (l.done ≤ l.count) × (l.failed ≤ l.done) × (length l.table ≡ length l.initial.table) × (length l.other ≡ length l.initial.other)
+    × Rest (is_long_enough l.initial.table) l.s (onward l.s 0 4) l.count l.at l.done l.failed
+
+abbrev pub decreases-loop-done : goal.decreases-loop-done
+decreases-loop-done l = l.count - l.done

@@ -1,0 +1,12 @@
+use mathlib.Core.Path.{◌≡◌, sym}
+use Prim.Native.Nat.{◌-◌, ◌≤◌}
+use lib.ListN.{length}
+use lib.Seq.{length-take-le}
+use borrow.Author.Rules.{rules}
+use Rattle.test_pages.proofs.main.Given as goal
+
+abbrev pub invariant-loop-done : goal.invariant-loop-done
+invariant-loop-done l = (length l.moments ≡ 400) × (length l.outputs ≡ 400) × (length l.values ≡ 400) × (length l.memory ≡ 2800) × (length l.out ≡ 4096) × (l.done ≤ l.count)
+
+abbrev pub decreases-loop-done : goal.decreases-loop-done
+decreases-loop-done l = l.count - l.done

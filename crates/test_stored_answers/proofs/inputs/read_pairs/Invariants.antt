@@ -1,0 +1,15 @@
+use mathlib.Core.Path.{ap, ◌∙◌}
+use Prim.Native.Nat.{◌-◌, ◌≤◌}
+use native.Mathlib.Omega.{arith}
+use lib.ListN.{length}
+use Rattle.test_cases.specs.Frame.{word_at}
+use Rattle.test_stored_answers.specs.Pairs.{fitting}
+use Rattle.test_stored_answers.proofs.Pairing.{Reading, begun, turn, ended}
+use borrow.Author.Rules.{rules}
+use Rattle.test_stored_answers.proofs.inputs.read_pairs.Given as goal
+
+abbrev pub invariant-loop-k : goal.invariant-loop-k
+invariant-loop-k l = (l.k ≤ l.count) × (l.k ≤ length l.initial.numbers) × (l.k ≤ length l.initial.values) × Reading l.s l.from l.at l.k l.initial.numbers l.initial.values l.numbers l.values
+
+abbrev pub decreases-loop-k : goal.decreases-loop-k
+decreases-loop-k l = l.count - l.k

@@ -1,0 +1,15 @@
+-- `test_windows::put_failure` meets its contract.
+use native.Mathlib.Omega.{arith}
+use Rattle.listing.specs.Bytes.{bytes_of}
+use Rattle.session_print.proofs.LineBytes as line
+use Rattle.test_windows.specs.Cases.{failure_line}
+use borrow.Author.Rules.{rules}
+use Rattle.test_windows.proofs.put_failure.Goals as goal
+
+pub returns : goal.returns
+unfolding failure_line bytes_of
+returns c =
+    let first = c.put_text-a.ensures in
+    let name = c.put_figure-b.ensures in
+    let last = c.put_text.ensures in
+    (line.then_bytes first.0 (line.then_bytes name.0 last.0), omega (arith, first.1, name.1, last.1))

@@ -1,0 +1,48 @@
+-- `test_windows::run_file` meets its contract.
+use mathlib.Core.Path.{◌≡◌, sym, ◌∙◌}
+use Prim.Native.Nat.{◌-◌, ◌≤◌, ◌<◌}
+use native.Mathlib.Omega.{arith}
+use lib.Seq.{length-take-le}
+use borrow.Author.Rules.{rules}
+use borrow.Author.Tests.{not-false}
+use Rattle.test_cases.specs.Frame.{word_at, onward}
+use Rattle.test_windows.proofs.Turning.{Rest, begun, one_agrees, one_fails, ended}
+use Rattle.test_windows.proofs.run_file.Goals as goal
+use Rattle.test_windows.proofs.run_file.Goals.{then-not-run_case, else-not-run_case}
+
+pub loop-done-init : goal.loop-done-init
+loop-done-init c = (c.word_at-count.ensures, omega arith, omega arith, omega arith, begun c.past-at.ensures)
+
+pub run_case-requires : goal.run_case-requires
+run_case-requires c =
+    let e = c.case_at-case.ensures in
+    let m = e.asked.moments_are in
+    let i = e.asked.inputs_are_lem in
+    let v = e.asked.values_are in
+    (e.ordered, e.within, omega arith, omega arith, omega arith)
+
+pub loop-done-preserved : goal.loop-done-preserved
+loop-done-preserved c =
+    let case = c.case_at-case in
+    let more = c.loop-done-test.true in
+    let v = c.loop-done.invariant in (
+      v.0,
+      v.1,
+      omega arith,
+      elim c.if-not-run_case.branch [ then-not-run_case w ↦ omega arith | else-not-run_case w ↦ omega arith ],
+      elim c.if-not-run_case.branch [
+          then-not-run_case w ↦ one_fails c.loop-done.failed (omega arith)
+        | else-not-run_case w ↦ one_agrees case.result case.ensures (c.run_case.ensures.means w.if-not-run_case.false) more w.failed-is v.4
+      ],
+    )
+
+pub returns : goal.returns
+returns c =
+    let v = c.loop-done.invariant in
+    let e : c.loop-done.done ≡ c.word_at-count.result = omega arith in
+    record {
+      count = e ∙ v.0;
+      few = omega arith;
+      failed = v.3;
+      agree = λ z. rw e (ended c.loop-done-test.false v.4 z);
+    }

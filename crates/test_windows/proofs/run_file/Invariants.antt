@@ -1,0 +1,16 @@
+use mathlib.Core.Path.{◌≡◌, sym, ◌∙◌}
+use mathlib.Core.Logic.{⊎_elim}
+use Prim.Native.Nat.{◌-◌, ◌≤◌, ◌<◌}
+use native.Mathlib.Omega.{arith}
+use lib.Seq.{length-take-le}
+use borrow.Author.Rules.{rules}
+use borrow.Author.Tests.{not-false}
+use Rattle.test_cases.specs.Frame.{word_at, onward}
+use Rattle.test_windows.proofs.Turning.{Rest, begun, one_agrees, one_fails, ended}
+use Rattle.test_windows.proofs.run_file.Given as goal
+
+abbrev pub invariant-loop-done : goal.invariant-loop-done
+invariant-loop-done l = (l.count ≡ word_at l.s 0) × (l.count < 4294967296) × (l.done ≤ l.count) × (l.failed ≤ l.done) × Rest l.s (onward l.s 0 4) l.count l.at l.done l.failed
+
+abbrev pub decreases-loop-done : goal.decreases-loop-done
+decreases-loop-done l = l.count - l.done

@@ -1,4 +1,6 @@
 // The words of explain's command line: which are flags, and what each makes the next one.
+#![tactic(auto)]
+
 ghost use Rattle.std.specs.Prelude.{◌≡◌};
 ghost use Rattle.explain_words.specs.Words.{letter_flag, flag_of, after_flag, held_after};
 

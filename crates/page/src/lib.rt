@@ -1,5 +1,7 @@
 // A page for the valve book. Document 02: "A call writes the page asked for, counted from 1, into 2,700 bytes (no such page: rows
 // of spaces) and gives the number of pages." Any lists, any memory and any page number are taken.
+#![tactic(auto)]
+
 ghost use Rattle.std.specs.Prelude.{true, cond, ◌++◌, ◌≡◌, ◌≤◌, length, drop};
 ghost use Rattle.openings.specs.Writes.{writes_of};
 ghost use Rattle.openings.specs.Order.{sorted_openings};

@@ -1,4 +1,6 @@
 // How many edges a span has. The week repeats, so that a long span is counted by its weeks.
+#![tactic(auto)]
+
 ghost use Rattle.std.specs.Prelude.{◌≡◌, ℕ, ◌+◌, ◌*◌, ◌≤◌, length};
 ghost use Rattle.schedule_minutes.specs.Minutes.{changes_of, minute_edges};
 

@@ -1,6 +1,8 @@
 // Reads the lines of a schedule by places: the date's line, and a window's. Document 02: "input number, weekday 1 (Monday) to 7, opening
 // and closing minute, 0 to 1,440 with opening below closing, parted by tabs".
 // Any bytes may come; a line out of form, or with a number that is none of its kind, is an answer. It writes nothing.
+#![tactic(auto)]
+
 ghost use Rattle.std.specs.Prelude.{◌≡◌};
 ghost use Rattle.text_place.specs.Texts.{Within};
 ghost use Rattle.schedule.specs.Schedule.{is_window};

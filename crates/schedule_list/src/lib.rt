@@ -1,4 +1,6 @@
 // The edges of a span written into three lists: those of the first week by its minutes, each later one from the edge a week before it.
+#![tactic(auto)]
+
 ghost use Rattle.std.specs.Prelude.{◌≡◌, ◌+◌, ◌-◌, ◌*◌, ◌/◌, ◌%◌, ◌<◌, ◌≤◌, length, get_or, set, eqb};
 ghost use Rattle.schedule.specs.Edges.{change};
 ghost use Rattle.schedule_minutes.specs.Minutes.{changes_of, minute_edges};

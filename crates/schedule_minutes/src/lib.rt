@@ -1,4 +1,6 @@
 // Edges stand on whole minutes. The whole minutes of a span, and the bits of a week's minutes; laws about the edges that they give.
+#![tactic(auto)]
+
 pub mod bits;
 pub mod span;
 

@@ -83,8 +83,8 @@ module _ (s : Bytes) (first : ℕ) (week₀ : List ℕ) (at₀ k₀ : ℕ) (week
         rw (← next_place l) (record {
           within = past;
           done = v.done ++ (w ∷ []);
-          place = sym (place_on s at k w l.stop_is l.is) ∙ v.place;
-          windows = v.windows ∙ rw (windows_on s at k w l.stop_is l.is, append_assoc);
+          place = sym (place_on s at k w l.stop_is_lem l.is) ∙ v.place;
+          windows = v.windows ∙ rw (windows_on s at k w l.stop_is_lem l.is, append_assoc);
           week_is = week_more first v.done w week week' v.week_is m;
           size = m.size ∙ v.size;
         })
@@ -110,7 +110,7 @@ module _ (s : Bytes) (week : List ℕ) where
   unfolding place19 line_answers first_no_from is_closed first_no_window
   dated d next line l r =
       let p : record { offset = line_end s 0 + 1; line = 2 } ≡ next = next_place l in
-      let c : closed_lines s ≡ first_line s ∷ closed_lines (drop (line_end s 0 + 1) s) = lines.closed_more s 0 l.stop_is in
-      let u : unclosed s ≡ unclosed (drop (line_end s 0 + 1) s) = lines.unclosed_more s 0 l.stop_is in
+      let c : closed_lines s ≡ first_line s ∷ closed_lines (drop (line_end s 0 + 1) s) = lines.closed_more s 0 l.stop_is_lem in
+      let u : unclosed s ≡ unclosed (drop (line_end s 0 + 1) s) = lines.unclosed_more s 0 l.stop_is_lem in
       let x : ReadsWindows s (record { offset = line_end s 0 + 1; line = 2 }) (weekday_after d 0) week line = rw p r in
       record { line_is_lem = x.line_is_lem ∙ rw (c, u, l.is); week_is = rw (c, l.is) x.week_is }

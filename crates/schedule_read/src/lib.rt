@@ -1,5 +1,7 @@
 // Reads a whole schedule, and marks its windows in a week. Document 02: "19: has each line its form, an input below 16, and a real date or
 // minute?" Any bytes may come.
+#![tactic(auto)]
+
 ghost use Rattle.std.specs.Prelude.{◌≡◌, ◌≤◌, replicate};
 ghost use Rattle.text_place.specs.Texts.{Within};
 ghost use Rattle.schedule_read.specs.Reading.{Reads, ReadsWindows};

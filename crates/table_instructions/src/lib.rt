@@ -1,4 +1,6 @@
 // Writes the entry and the cells of each instruction but the fork. The layout is that of docs/LAYOUT.md.
+#![tactic(auto)]
+
 pub mod instruction;
 
 pub use instruction::{

@@ -1,4 +1,6 @@
 // What a line of a listing gives its table, and the lines that open a listing and a routine, `P` and `R`.
+#![tactic(auto)]
+
 pub mod line;
 pub mod opens;
 

@@ -32,16 +32,23 @@ mutual
   ends_opened [] none_left = refl
   ends_opened (L.Line.opens kinds locals ∷ lines) (opens_more p) = rw (ends_opened lines p)
   ends_opened (L.Line.instruction i ∷ lines) (instruction_more p) = rw (ends_after i lines p)
+  ends_opened (L.ports _ _ ∷ lines) x6 = elim x6 [ ]
 
   ends_after : (i : L.Instruction) (lines : List L.Line) → NoPorts lines → ends_from (may_be_last i) lines ≡ last_answers (i ∷ code_of lines) ++ routines_end (routines_of lines)
   ends_after i [] none_left = refl
   ends_after i (L.Line.opens kinds locals ∷ lines) (opens_more p) = rw (ends_opened lines p)
   ends_after i (L.Line.instruction j ∷ lines) (instruction_more p) = rw (ends_after j lines p)
+  ends_after i (L.ports _ _ ∷ lines) x6 = elim x6 [ ]
 
 ends_whole : (lines : List L.Line) → Body lines → first_no_from 0 (ends_from true lines) ≡ first_no (ending_answers (listing_of lines))
 unfolding ends_from ending_answers listing_of routines_of routines_end first_no_from
 ends_whole (L.Line.ports i o ∷ []) body_empty = refl
 ends_whole (L.Line.ports i o ∷ (L.Line.opens kinds locals ∷ lines)) (body_opens p) = rw (ends_opened lines p)
+ends_whole [] x' = elim x' [ ]
+ends_whole (L.ports i o ∷ (L.ports _ _ ∷ lines)) x11 = elim x11 [ ]
+ends_whole (L.ports i o ∷ (L.instruction _ ∷ lines)) x11 = elim x11 [ ]
+ends_whole (L.opens _ _ ∷ _) x9 = elim x9 [ ]
+ends_whole (L.instruction _ ∷ _) x9 = elim x9 [ ]
 
 -- ── the pass ─────────────────────────────────────────────────────────────────────
 pub record Ending (s : List ℕ) (at line : ℕ) (mayEnd : Bool) : Type 0 where

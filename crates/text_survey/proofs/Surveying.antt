@@ -42,6 +42,11 @@ arities_whole : (lines : List L.Line) → Body lines → map arity (listing_of l
 unfolding arities listing_of
 arities_whole (L.Line.ports i o ∷ []) body_empty = arities_of []
 arities_whole (L.Line.ports i o ∷ (L.Line.opens kinds locals ∷ lines)) (body_opens p) = arities_of (L.Line.opens kinds locals ∷ lines)
+arities_whole [] x' = elim x' [ ]
+arities_whole (L.ports i o ∷ (L.ports _ _ ∷ lines)) x11 = elim x11 [ ]
+arities_whole (L.ports i o ∷ (L.instruction _ ∷ lines)) x11 = elim x11 [ ]
+arities_whole (L.opens _ _ ∷ _) x9 = elim x9 [ ]
+arities_whole (L.instruction _ ∷ _) x9 = elim x9 [ ]
 
 -- ── the survey ───────────────────────────────────────────────────────────────────
 one_less : (counts : List ℕ) (n : ℕ) → n < 64 → drop n counts ≡ replicate (64 - n) 0 → drop (n + 1) counts ≡ replicate (64 - (n + 1)) 0

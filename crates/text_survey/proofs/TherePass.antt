@@ -90,6 +90,7 @@ there_routines g [] none_left number names size = refl
 there_routines g (L.Line.opens kinds locals ∷ lines) (opens_more p) number names size =
     rw (stated_by g number (record { kinds = kinds; locals = locals; code = code_of lines }), there_routines g lines p (suc number) (length kinds + locals) (length (code_of lines)))
 there_routines g (L.Line.instruction i ∷ lines) (instruction_more p) number names size = rw (there_routines g lines p number names size)
+there_routines g (L.ports _ _ ∷ lines) x5 number names size = elim x5 [ ]
 
 -- a listing with a main
 there_whole : (lines : List L.Line) → Body lines → (length (listing_of lines).routines ≡ 0 → ⊥) → there_from (listing_of lines) true 0 0 lines ≡ there_answers (listing_of lines)
@@ -97,12 +98,22 @@ unfolding there_from there_answers listing_of routines_of is_zero code_of
 there_whole (L.Line.ports i o ∷ []) body_empty n = absurd (n refl)
 there_whole (L.Line.ports i o ∷ (L.Line.opens kinds locals ∷ lines)) (body_opens p) n =
     ap (λ (answers : List Bool). true ∷ answers) (sym (there_routines (listing_of (L.Line.ports i o ∷ (L.Line.opens kinds locals ∷ lines))) (L.Line.opens kinds locals ∷ lines) (opens_more p) 0 0 0))
+there_whole [] x'' n = elim x'' [ ]
+there_whole (L.ports i o ∷ (L.ports _ _ ∷ lines)) x15 n = elim x15 [ ]
+there_whole (L.ports i o ∷ (L.instruction _ ∷ lines)) x15 n = elim x15 [ ]
+there_whole (L.opens _ _ ∷ _) x11 n = elim x11 [ ]
+there_whole (L.instruction _ ∷ _) x11 n = elim x11 [ ]
 
 -- and one without
 no_main : (lines : List L.Line) → Body lines → length (listing_of lines).routines ≡ 0 → first_no (there_answers (listing_of lines)) ≡ 1
 unfolding there_answers listing_of routines_of first_no_from
 no_main (L.Line.ports i o ∷ []) body_empty e = refl
 no_main (L.Line.ports i o ∷ (L.Line.opens kinds locals ∷ lines)) (body_opens p) e = absurd (let z : ⊥ = omega (arith, e) in z)
+no_main [] x'' e = elim x'' [ ]
+no_main (L.ports i o ∷ (L.ports _ _ ∷ lines)) x15 e = elim x15 [ ]
+no_main (L.ports i o ∷ (L.instruction _ ∷ lines)) x15 e = elim x15 [ ]
+no_main (L.opens _ _ ∷ _) x11 e = elim x11 [ ]
+no_main (L.instruction _ ∷ _) x11 e = elim x11 [ ]
 
 -- ── a routine has few instructions ───────────────────────────────────────────────
 few_step : (s : List ℕ) (at line : ℕ) (held : Counts) → Limiting s at line held → place3 s ≡ 0

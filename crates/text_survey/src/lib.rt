@@ -1,5 +1,7 @@
 // Question 4, put to the whole listing in passes over its lines. Questions 2 and 3 have let the listing through.
 // It writes nothing.
+#![tactic(auto)]
+
 pub mod routines;
 pub mod there;
 

@@ -59,7 +59,7 @@ module _ (es : List Edge) (m i v : List ℕ) where
         place_is_lem = refl;
         listed_is = k;
         moments_are = w.moments_are_lem ∙ written_front (λ x. x.moment) m (omega (arith, f.moments_long));
-        inputs_are_lem = w.inputs-are ∙ written_front (λ x. x.input) i (omega (arith, f.inputs_long));
+        inputs_are_lem = w.inputs_are ∙ written_front (λ x. x.input) i (omega (arith, f.inputs_long));
         values_are = w.values_are_lem ∙ written_front (λ x. x.value) v (omega (arith, f.values_long));
       })
 

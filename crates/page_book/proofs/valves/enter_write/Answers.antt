@@ -23,7 +23,7 @@ returns c =
     let a = c.args in
     let p = c.requires in (
       entering.enters_new a.first a.memory.now a.lines.now a.opened.now a.count a.moment a.output a.value
-          c.number-valve.result c.number-valve.ensures.0 c.if-value-eq0.false c.if-line-ne0.false _ c.Line-of.ensures.0 c.open_row.ensures,
+          c.number-valve.result c.number-valve.ensures.0 c.if-value-eq0.false c.if-line-ne0.false _ c.line_of-new.ensures.0 c.open_row.ensures,
       simp length-set p.0,
       simp length-set p.1,
       omega arith,

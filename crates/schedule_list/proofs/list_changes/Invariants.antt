@@ -1,0 +1,16 @@
+use mathlib.Core.Path.{◌≡◌}
+use Prim.Native.Nat.{◌-◌, ◌≤◌}
+use native.Mathlib.Omega.{arith}
+use borrow.Author.Rules.{rules}
+use Rattle.schedule.specs.Edges.{changes}
+use Rattle.schedule_week.specs.Week.{is_marked}
+use Rattle.schedule_minutes.proofs.Changes.{no_changes}
+use Rattle.schedule_list.specs.Lists.{Written}
+use Rattle.schedule_list.proofs.Lists as lists
+use Rattle.schedule_list.proofs.list_changes.Given as goal
+
+abbrev pub invariant-loop-input : goal.invariant-loop-input
+invariant-loop-input l = (l.input ≤ 16) × Written (changes l.moment (is_marked l.before) (is_marked l.at) l.input) l.place l.initial.moments l.initial.inputs l.initial.values l.moments l.inputs l.values l.next
+
+abbrev pub decreases-loop-input : goal.decreases-loop-input
+decreases-loop-input l = 16 - l.input

@@ -1,0 +1,54 @@
+-- `schedule_list::list_minutes` meets its contract.
+use mathlib.Core.Path.{◌≡◌}
+use Prim.Native.Nat.{◌-◌, ◌/◌, ◌≤◌}
+use native.Mathlib.Omega.{arith}
+use Rattle.schedule_minutes.specs.Minutes.{minute_edges}
+use Rattle.schedule_minutes.proofs.Edges.{minutes_none}
+use Rattle.schedule_minutes.proofs.Walking.{Stands, stands_first, in_week, stands_next}
+use Rattle.schedule_list.specs.Lists.{Written}
+use Rattle.schedule_list.proofs.Lists as lists
+use Rattle.schedule_list.proofs.Minutes as minutes
+use Rattle.schedule_list.proofs.list_minutes.Goals as goal
+
+pub loop-k-init : goal.loop-k-init
+loop-k-init c = (omega arith, stands_first _ _, rw (minutes_none _ _) (lists.written_none 0 _ _ _))
+
+pub offset_bounds-week-at : goal.offset_bounds-week-at
+offset_bounds-week-at c = omega (arith, in_week _ _ _ _ _ c.loop-k.invariant.1)
+
+pub bounds-week-at : goal.bounds-week-at
+bounds-week-at c = omega (arith, in_week _ _ _ _ _ c.loop-k.invariant.1)
+
+pub list_minute-place-requires : goal.list_minute-place-requires
+list_minute-place-requires c = 
+    let v = c.loop-k in
+    let a = c.args in
+    (omega arith, omega arith, minutes.minute_fits a.week.now a.first v.k _ _ c.requires.1 v.invariant.1 v.invariant.2 a.minutes (omega arith) c.requires.5)
+
+pub next_minute-at-requires : goal.next_minute-at-requires
+next_minute-at-requires c = in_week _ _ _ _ _ c.loop-k.invariant.1
+
+pub loop-k-preserved : goal.loop-k-preserved
+loop-k-preserved c = 
+    let v = c.loop-k in
+    let a = c.args in
+    let w = a.week.now in (
+      omega arith,
+      stands_next w _ v.k _ _ v.invariant.1 _ c.next_minute-at.ensures,
+      minutes.minute_written w a.first v.k _ _ c.requires.1 v.invariant.1 v.invariant.2 c.list_minute-place.ensures,
+    )
+
+pub shape_of-moments : goal.shape_of-moments
+shape_of-moments c = lists.moments_size c.loop-k.invariant.2
+
+pub shape_of-inputs : goal.shape_of-inputs
+shape_of-inputs c = lists.inputs_size c.loop-k.invariant.2
+
+pub shape_of-values : goal.shape_of-values
+shape_of-values c = lists.values_size c.loop-k.invariant.2
+
+pub returns : goal.returns
+returns c = 
+    let v = c.loop-k in
+    let e : v.k ≡ c.args.minutes = omega arith in
+    rw e at v.invariant.2

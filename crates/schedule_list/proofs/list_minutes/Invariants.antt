@@ -1,0 +1,16 @@
+use mathlib.Core.Path.{◌≡◌}
+use Prim.Native.Nat.{◌-◌, ◌/◌, ◌≤◌}
+use native.Mathlib.Omega.{arith}
+use Rattle.schedule_minutes.specs.Minutes.{minute_edges}
+use Rattle.schedule_minutes.proofs.Edges.{minutes_none}
+use Rattle.schedule_minutes.proofs.Walking.{Stands, stands_first, in_week, stands_next}
+use Rattle.schedule_list.specs.Lists.{Written}
+use Rattle.schedule_list.proofs.Lists as lists
+use Rattle.schedule_list.proofs.Minutes as minutes
+use Rattle.schedule_list.proofs.list_minutes.Given as goal
+
+abbrev pub invariant-loop-k : goal.invariant-loop-k
+invariant-loop-k l = (l.k ≤ l.minutes) × Stands l.week (l.first / 60000) l.k l.before l.at × Written (minute_edges l.week (l.first / 60000) l.k) 0 l.initial.moments l.initial.inputs l.initial.values l.moments l.inputs l.values l.place
+
+abbrev pub decreases-loop-k : goal.decreases-loop-k
+decreases-loop-k l = l.minutes - l.k

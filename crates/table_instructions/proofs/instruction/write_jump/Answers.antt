@@ -1,0 +1,12 @@
+-- `table_instructions::write_jump` meets its contract.
+use Rattle.table_instructions.proofs.Instructions as written
+use borrow.Author.Rules.{rules}
+use Rattle.table_instructions.proofs.instruction.write_jump.Goals as goal
+
+pub returns : goal.returns
+returns c = 
+    let a = c.args in
+    let p = c.requires in
+    let word = c.word_field-jump.ensures in
+    let entry = c.put_entry.ensures in
+    written.jump_written a.s.now a.t.now a.place a.stop a.e a.a p.0 _ word.0 _ entry p.4

@@ -1,0 +1,11 @@
+use Prim.Native.Nat.{◌-◌}
+use native.Mathlib.Omega.{arith}
+use Rattle.table_lines.proofs.Openings as openings
+use borrow.Author.Rules.{rules}
+use Rattle.table_lines.proofs.opens.kind_bits.Given as goal
+
+abbrev pub invariant-loop-i : goal.invariant-loop-i
+invariant-loop-i l = openings.BitsFrom l.s l.from l.to l.i l.bits
+
+abbrev pub decreases-loop-i : goal.decreases-loop-i
+decreases-loop-i l = l.i - l.from

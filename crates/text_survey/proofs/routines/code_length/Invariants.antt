@@ -1,0 +1,16 @@
+use mathlib.Core.Path.{sym, ap, ◌∙◌}
+use Prim.Native.Nat.{◌-◌}
+use native.Mathlib.Omega.{arith}
+use lib.ListN.{length}
+use Rattle.text_records.proofs.Lines as lines
+use Rattle.text_limits.proofs.Steps as steps
+use Rattle.text_survey.specs.Surveys.{is_instruction}
+use Rattle.text_survey.proofs.Surveying as pass
+use borrow.Author.Rules.{rules}
+use Rattle.text_survey.proofs.routines.code_length.Given as goal
+
+abbrev pub invariant-loop-at : goal.invariant-loop-at
+invariant-loop-at l = pass.Counting l.s l.initial.at l.initial.line l.at l.line l.count
+
+abbrev pub decreases-loop-at : goal.decreases-loop-at
+decreases-loop-at l = length l.s - l.at

@@ -1,7 +1,6 @@
 -- `table_child_fields::routines::owned_by` meets its contract.
-use Prim.Native.Nat.{◌-◌}
 use native.Mathlib.Omega.{arith}
-use Rattle.table_child_fields.proofs.TableLaws.{OwnedLeft, owned_begins, owned_value, owned_reference, owned_ends}
+use Rattle.table_child_fields.proofs.TableLaws.{owned_begins, owned_value, owned_reference, owned_ends}
 use borrow.Author.Rules.{rules}
 use Rattle.table_child_fields.proofs.routines.owned_by.Goals as goal
 

@@ -1,4 +1,6 @@
 // The comparison of two machines: "1, 6, then 7 for both machines, then 8 for both".
+#![tactic(auto)]
+
 ghost use Rattle.std.specs.Prelude.{true, ◌≡◌, ◌≤◌};
 ghost use Rattle.table.specs.Areas.{HasTable};
 ghost use Rattle.walk.specs.Calls.{first_words};

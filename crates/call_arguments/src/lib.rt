@@ -1,4 +1,6 @@
 // The tests of a call's arguments, each of one question: the lengths, a due write before t, the inputs' numbers, the allowance.
+#![tactic(auto)]
+
 ghost use Rattle.std.specs.Prelude.{◌≡◌};
 ghost use Rattle.walk.specs.Calls.{due_before, allowed};
 ghost use Rattle.machine.specs.Due.{due_at};

@@ -1,4 +1,6 @@
 // A look at a machine that was found: its present moment and its next moment due. It puts 1, 6, 7 and 8, and writes nothing.
+#![tactic(auto)]
+
 ghost use Rattle.std.specs.Prelude.{true, ◌≡◌};
 ghost use Rattle.table.specs.Areas.{HasTable};
 ghost use Rattle.walk.specs.Calls.{first_words};

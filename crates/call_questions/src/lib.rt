@@ -1,4 +1,6 @@
 // The questions that the calls put before they run: 1 and 6 to 12. A number that answers is the one that refuses, 0 if none does.
+#![tactic(auto)]
+
 ghost use Rattle.std.specs.Prelude.{true, not, ◌≡◌, ltb, length};
 ghost use Rattle.table.specs.Areas.{HasTable};
 ghost use Rattle.walk.specs.Calls.{Outcome, ask, due_before, allowed, first_words};

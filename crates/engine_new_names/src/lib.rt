@@ -1,5 +1,7 @@
 // The names of a new routine, and the values passed to it. `t` is the table, `m` the machine's memory, `me` the caller's slot, `s`
 // the slot of a new routine.
+#![tactic(auto)]
+
 pub mod names;
 pub mod values;
 

@@ -1,5 +1,7 @@
 // The words of a new routine's row but for its variables and names, and the slot that it takes. `m` is the machine's memory,
 // `me` the caller's slot, `s` the slot of a new routine.
+#![tactic(auto)]
+
 pub mod rows;
 pub mod slots;
 

@@ -1,5 +1,7 @@
 // The trigger lists of an instant, as linked lists in the machine's words: for each variable, the slots of those who await
 // it. They are made once, at the instant's beginning; a write passes along one (crate `engine_wake`). `m` is the machine's memory, `t` the table.
+#![tactic(auto)]
+
 ghost use Rattle.std.specs.Prelude.{◌≡◌, true, List, ℕ, suc, ◌+◌, ◌*◌, ◌≤◌, ◌<◌, length};
 ghost use Rattle.machine.specs.Words.{HasMachine};
 ghost use Rattle.table.specs.Areas.{TableLong};

@@ -1,5 +1,7 @@
 // The stack of values held while an expression is evaluated: "never .. more than 8". The one on top is handed on by value; those below it
 // stand in an array, which the caller keeps, from place 1 on. (The first push stores a top that is no value in place 0, which is never read.)
+#![tactic(auto)]
+
 ghost use Rattle.std.specs.Prelude.{◌≡◌, ◌≤◌, ◌<◌, length, true};
 ghost use Rattle.table.specs.Decode.{is_sign};
 ghost use Rattle.engine_values.specs.Values.{Pushed, Operated, sign_of, Gives};

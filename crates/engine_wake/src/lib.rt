@@ -1,4 +1,6 @@
 // A write passes along the trigger list of its variable, and puts those who sleep into the ready list. `m` is the machine's memory.
+#![tactic(auto)]
+
 ghost use Rattle.std.specs.Prelude.{◌≡◌, ◌+◌, ◌≤◌, ◌<◌};
 ghost use Rattle.machine.specs.Words.{HasMachine};
 ghost use Rattle.engine_rows.specs.Ready.{insert_all_lem, insert_if};

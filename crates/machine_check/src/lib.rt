@@ -1,5 +1,6 @@
 // Question 7: is the machine memory the stopped form or one state of the walk on this table?
 // The tree is scanned once, record by record in walking order, against the child fields of the table.
+#![tactic(auto)]
 
 ghost use Rattle.std.specs.Prelude.{◌≡◌, length, true};
 ghost use Rattle.table.specs.Areas.{HasTable, TableLong};

@@ -1,0 +1,12 @@
+use mathlib.Core.Path.{◌≡◌, sym}
+use Prim.Native.Nat.{◌-◌}
+use lib.ListN.{length}
+use lib.Seq.{length-take-le}
+use borrow.Author.Rules.{rules}
+use Rattle.book.proofs.main.Given as goal
+
+abbrev pub invariant-loop-page : goal.invariant-loop-page
+invariant-loop-page l = length l.memory ≡ 2700
+
+abbrev pub decreases-loop-page : goal.decreases-loop-page
+decreases-loop-page l = l.first.pages - l.page

@@ -1,0 +1,11 @@
+use Prim.Native.Nat.{◌+◌, ◌*◌, ◌-◌, ◌≤◌}
+use mathlib.Core.Path.{◌≡◌, sym, ◌∙◌}
+use native.Mathlib.Omega.{arith}
+use Rattle.call_alike.proofs.Comparing.{SameFrom, same_begins, same_more, same_not, same_ends}
+use Rattle.call_alike.proofs.same_values.Given as goal
+
+abbrev pub invariant-loop-i : goal.invariant-loop-i
+invariant-loop-i l = (l.i ≤ l.k) × (SameFrom l.a l.b (12112 + l.i * 6) (l.k - l.i) ≡ SameFrom l.a l.b 12112 l.k)
+
+abbrev pub decreases-loop-i : goal.decreases-loop-i
+decreases-loop-i l = l.k - l.i

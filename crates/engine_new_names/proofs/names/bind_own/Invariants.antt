@@ -1,0 +1,11 @@
+use mathlib.Core.Path.{refl}
+use Prim.Native.Nat.{◌-◌}
+use Rattle.engine_new_names.proofs.OwnNames.{OwnNames, own_start, own_next, own_end}
+use borrow.Author.Rules.{rules}
+use Rattle.engine_new_names.proofs.names.bind_own.Given as goal
+
+abbrev pub invariant-loop-j : goal.invariant-loop-j
+invariant-loop-j l = OwnNames l.initial.m l.s l.from l.count l.own l.m l.j
+
+abbrev pub decreases-loop-j : goal.decreases-loop-j
+decreases-loop-j l = l.count - l.j

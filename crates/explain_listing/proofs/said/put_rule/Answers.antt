@@ -1,0 +1,13 @@
+-- `explain::said::put_rule` meets its contract.
+use native.Mathlib.Omega.{arith}
+use Rattle.session_print.proofs.LineBytes as line
+use borrow.Author.Rules.{rules}
+use Rattle.explain_listing.proofs.said.put_rule.Goals as goal
+
+pub put_byte-requires : goal.put_byte-requires
+put_byte-requires c = tt
+
+pub returns : goal.returns
+returns c =
+    let rule = c.put_sentence-a.ensures in
+    (line.then_bytes rule.0 (line.one_byte _ _ 10 _ c.put_byte.ensures), omega (arith, rule.1))

@@ -1,0 +1,16 @@
+use Prim.Native.Nat.{◌-◌}
+use mathlib.Core.Path.{◌≡◌, ap, ◌∙◌}
+use native.Mathlib.Omega.{arith}
+use Rattle.listing.specs.Bytes.{bytes_of}
+use Rattle.session_print.proofs.LineBytes as line
+use Rattle.session_print.proofs.ListedWrites.{still_long}
+use Rattle.explain_listing.specs.Said.{opening, rules}
+use Rattle.explain_listing.proofs.Sayings.{Ruling, ruling_begun, ruling_on}
+use borrow.Author.Rules.{rules}
+use Rattle.explain_listing.proofs.said.put_usage.Given as goal
+
+abbrev pub invariant-loop-done : goal.invariant-loop-done
+invariant-loop-done l = Ruling l.initial.out l.initial.at l.out l.at l.done
+
+abbrev pub decreases-loop-done : goal.decreases-loop-done
+decreases-loop-done l = 5 - l.done

@@ -1,0 +1,35 @@
+-- `machine_check::machine_answer` meets its contract.
+use mathlib.Core.Path.{refl, sym, ◌∙◌}
+use native.Mathlib.Omega.{arith}
+use Rattle.machine_words.proofs.TestLaws.{has_failed, has_passed}
+use Rattle.machine_check.proofs.AnswerLaws.{answer_stopped, answer_running, answer_none, stopped_not_running, none_not_running, stopped_leaves, tests_leave}
+use borrow.Author.Rules.{rules}
+use Rattle.machine_check.proofs.machine_answer.Goals as goal
+
+pub returns-then-stopped_words : goal.returns-then-stopped_words
+returns-then-stopped_words c = 
+    record {
+      answer = answer_stopped _ _ _ refl (sym c.stopped_words.ensures ∙ c.if-stopped_words.true);
+      each = λ d e. stopped_not_running e;
+      places = search rules;
+      kept = stopped_leaves _ _ _ (sym c.stopped_words.ensures ∙ c.if-stopped_words.true);
+    }
+
+pub returns-in-Fails : goal.returns-in-Fails
+returns-in-Fails c = 
+    record {
+      answer = answer_none _ _ (sym c.stopped_words.ensures ∙ c.if-stopped_words.false) (has_failed _ _ _ c.running_words.ensures.0 c.in-Fails.is);
+      each = λ d e. none_not_running e;
+      places = c.running_words.ensures.1;
+      kept = c.running_words.ensures.3 ∙ tests_leave _ _ _ (sym c.stopped_words.ensures ∙ c.if-stopped_words.false);
+    }
+
+pub returns-in-Passes : goal.returns-in-Passes
+returns-in-Passes c = 
+    let p = has_passed _ _ _ _ c.running_words.ensures.0 c.in-Passes.is in
+    record {
+      answer = answer_running _ _ _ (λ i. omega (arith, c.type_inv.m i)) (sym c.stopped_words.ensures ∙ c.if-stopped_words.false) p.0 p.1;
+      each = λ d e. c.running_words.ensures.2 p.0;
+      places = c.running_words.ensures.1;
+      kept = c.running_words.ensures.3 ∙ tests_leave _ _ _ (sym c.stopped_words.ensures ∙ c.if-stopped_words.false);
+    }

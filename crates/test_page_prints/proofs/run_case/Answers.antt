@@ -34,4 +34,4 @@ returns c =
     let called = c.print_page-r in
     let filled = c.fill_bytes.ensures in
     let said = c.put_case.ensures in
-    (case_run {m = length a.memory.now} called.ensures said.0 filled c.requires.3 called.auto.1.1.1.1.0, said.1, search rules)
+    (case_run {m = length a.memory.now} called.ensures said.0 filled c.requires.3 called.auto.memory, said.1, search rules)

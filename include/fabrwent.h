@@ -3,7 +3,7 @@
  * Load a listing into a table, start a machine on it, run it instant by instant.
  * docs/LISTING.md has the listing's form and every number; docs/LAYOUT.md the words
  * of the two memories. `tools/install PREFIX` installs the archive, this header and a
- * pkg-config file; `rt staticlib fabrwent` writes target/staticlib/libfabrwent.a alone.
+ * pkg-config file; `tools/build --library fabrwent` makes target/staticlib/libfabrwent.a alone.
  *
  * The parts of this header: version, lengths, numbers, results, the five calls, a page of
  * the valve book, a schedule's inputs, and the five calls on typed memories.
@@ -286,7 +286,7 @@ fabrwent_printed fabrwent_page(const uint64_t *moments, size_t moments_places,
 /* The result of windows. */
 typedef struct {
     uint32_t number; /* 0, 1 or 19 */
-    uint32_t place;  /* 0; `explain -s` names the line */
+    uint32_t place;  /* 0; `schedule_trace` names the line */
     uint64_t listed; /* how many inputs are listed; 0 after a refusal */
 } fabrwent_listed;
 

@@ -1,4 +1,6 @@
 // The writes of a session, gathered from its print into three lists, as the valve book's pages want them: `make_trace`, then `gather`.
+#![tactic(auto)]
+
 ghost use Rattle.std.specs.Prelude.{◌++◌, map, ◌≡◌, ◌+◌, ◌≤◌, length, take};
 ghost use Rattle.walk.specs.Calls.{inputs_of};
 ghost use Rattle.book_writes.specs.Gathered.{as_in_trace, writes_of_moment, first_writes, GatheredIs};

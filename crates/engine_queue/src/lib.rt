@@ -1,5 +1,7 @@
 // Where waiting writes may stand, noted at the beginning of an instant: a variable's waiting write stands in its own record; word 7 of a block says
 // whether one may stand among the block's variables, and the next moment due is looked for in just those blocks.
+#![tactic(auto)]
+
 ghost use Rattle.std.specs.Prelude.{◌≡◌, length};
 ghost use Rattle.machine.specs.Words.{HasMachine};
 ghost use Rattle.engine_queue.specs.Queue.{flag_of, Queued};

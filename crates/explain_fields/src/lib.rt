@@ -1,4 +1,6 @@
 // Why a field of a listing's line is out of form: its first piece that is wrong, and the reason's number (specs/Reasons).
+#![tactic(auto)]
+
 pub mod field;
 pub mod piece;
 pub mod reasons;

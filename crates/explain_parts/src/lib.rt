@@ -1,4 +1,6 @@
 // The parts of a text between its separators, and bytes of an input shown so that none reaches a terminal raw.
+#![tactic(auto)]
+
 pub mod part;
 pub mod shown;
 

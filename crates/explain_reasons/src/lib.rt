@@ -1,4 +1,6 @@
 // The reason why a listing does not load, by the question that fails and its place.
+#![tactic(auto)]
+
 pub mod reason;
 pub mod tally;
 

@@ -1,4 +1,6 @@
 // A reason in words, put into lent bytes: the field and the piece that it is about, and its sentence; and the rule of each question.
+#![tactic(auto)]
+
 pub mod reason;
 pub mod sentences;
 pub mod spot;

@@ -119,7 +119,7 @@ module _ (inputs : ℕ) (s : Bytes) (at line time least end : ℕ) (v : Scanning
     one_line : resume r later ≡ fault_of inputs s
     unfolding fault_from
     one_line =
-        let first = rw (closed_on s at end v.inside e h, unclosed_on s at end v.inside e h) at v.same in
+        let first = rw (unclosed_on s at end v.inside e h, closed_on s at end v.inside e h) at v.same in
         ap (λ (x : Judged). resume x later)
         (is ∙ ap (λ (t : Bool). judge_line inputs line here t time least (read_trace_line here)) (sym (nothing_after s (end + 1) (omega (arith, h)))))
         ∙ first

@@ -1,4 +1,6 @@
 // What is said of a trace, put into lent bytes: the reasons at a line, the rule of each code, and the lines of a listing at which a stop's rule is asked.
+#![tactic(auto)]
+
 pub mod asked;
 pub mod place;
 pub mod reason;

@@ -1,5 +1,7 @@
 // A stored case of the valve book's pages, run, and what it gives and leaves, put into lent bytes. A case's line has number, place, pages, and
 // whether all bytes that must stay are as they were; then follow the rows that are not rows of spaces, each with its line, from 0.
+#![tactic(auto)]
+
 ghost use Rattle.std.specs.Prelude.{◌+◌, ◌≤◌, ◌<◌, length, ◌≡◌};
 ghost use Rattle.session_print.specs.Puts.{Puts};
 ghost use Rattle.test_page_prints.specs.Prints.{numbers_of, kept_word_lem, case_line, RowPut, RowsPut, CaseSaid, CaseRun};

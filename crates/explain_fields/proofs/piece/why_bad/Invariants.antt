@@ -1,0 +1,16 @@
+use Prim.Native.Nat.{◌≤◌, ◌-◌}
+use mathlib.Core.Path.{◌≡◌, sym, ◌∙◌}
+use native.Mathlib.Omega.{arith}
+use native.Mathlib.Numerals.{add-one}
+use lib.ListN.{length, drop}
+use borrow.Author.Tests.{eq-eqb, ne_eqb, le-leb, lt-leb}
+use Rattle.explain_fields.specs.Pieces.{strange_in, why_bad}
+use Rattle.explain_fields.proofs.Pieces as pieces
+use borrow.Author.Rules.{rules}
+use Rattle.explain_fields.proofs.piece.why_bad.Given as goal
+
+abbrev pub invariant-loop-i : goal.invariant-loop-i
+invariant-loop-i l = (l.i ≤ length l.piece) × (strange_in l.otherwise (drop l.i l.piece) ≡ why_bad l.otherwise l.piece)
+
+abbrev pub decreases-loop-i : goal.decreases-loop-i
+decreases-loop-i l = length l.piece - l.i

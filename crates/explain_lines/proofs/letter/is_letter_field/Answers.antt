@@ -1,0 +1,14 @@
+-- `explain_lines::letter::is_letter_field` meets its contract.
+use mathlib.Core.Path.{ap, ◌∙◌}
+use borrow.Author.Tests.{eq-eqb, ne_eqb}
+use Rattle.explain_lines.specs.Letters.{is_letter_field, fields_after}
+use borrow.Author.Rules.{rules}
+use Rattle.explain_lines.proofs.letter.is_letter_field.Goals as goal
+
+pub returns-then-field-eq1 : goal.returns-then-field-eq1
+unfolding is_letter_field
+returns-then-field-eq1 c = rw (eq-eqb _ 1 c.if-field-eq1.true, ← c.fields_after.ensures ∙ ap fields_after c.first_byte.ensures)
+
+pub returns : goal.returns
+unfolding is_letter_field
+returns c = rw (ne_eqb _ 1 c.if-field-eq1.false)

@@ -1,0 +1,12 @@
+use Prim.Native.Nat.{◌-◌}
+use native.Mathlib.Omega.{arith}
+use lib.ListN.{length}
+use Rattle.explain_there.proofs.Arounds.{Telling, telling_begun, bounded_small, told_all, telling_on}
+use borrow.Author.Rules.{rules}
+use Rattle.explain_there.proofs.around.around_all.Given as goal
+
+abbrev pub invariant-loop-held : goal.invariant-loop-held
+invariant-loop-held l = Telling l.listing l.place l.at l.held
+
+abbrev pub decreases-loop-held : goal.decreases-loop-held
+decreases-loop-held l = length l.listing - l.at

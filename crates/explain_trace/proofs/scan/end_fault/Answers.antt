@@ -1,0 +1,11 @@
+-- `explain_trace::scan::end_fault` meets its contract.
+use mathlib.Core.Path.{◌∙◌}
+use Rattle.explain_trace.proofs.Lines.{nothing_there, something_there}
+use borrow.Author.Rules.{rules}
+use Rattle.explain_trace.proofs.scan.end_fault.Goals as goal
+
+pub returns-then-bytes-eq0 : goal.returns-then-bytes-eq0
+returns-then-bytes-eq0 c = nothing_there _ _ c.if-bytes-eq0.true
+
+pub returns : goal.returns
+returns c = c.unformed.ensures ∙ something_there _ _ c.if-bytes-eq0.false

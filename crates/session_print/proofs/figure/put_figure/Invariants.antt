@@ -1,0 +1,12 @@
+use mathlib.Core.Path.{ap}
+use native.Mathlib.Omega.{arith}
+use Prim.Native.Nat.{◌+◌}
+use borrow.Author.Rules.{rules}
+use Rattle.session_print.proofs.Decimals as decimals
+use Rattle.session_print.proofs.figure.put_figure.Given as goal
+
+abbrev pub invariant-loop-k : goal.invariant-loop-k
+invariant-loop-k l = decimals.Storing l.initial.out l.at l.n l.count l.out l.k l.rest
+
+abbrev pub decreases-loop-k : goal.decreases-loop-k
+decreases-loop-k l = l.k

@@ -1,0 +1,18 @@
+use mathlib.Core.Path.{refl, sym, subst, ◌∙◌}
+use Prim.Native.Nat.{◌-◌}
+use native.Mathlib.Omega.{arith}
+use lib.ListN.{length}
+use borrow.Author.Rules.{rules}
+use Rattle.session_trace.specs.Groups.{NextIs, JoinsIs}
+use Rattle.session_trace.specs.declared.group.Next.{Next}
+use Rattle.session_trace.specs.declared.group.Next.TheVariants.{Broken}
+use Rattle.session_trace.specs.declared.group.Joins.{Joins}
+use Rattle.session_trace.proofs.Groups as groups
+use Rattle.session_trace.proofs.Scripts as scripts
+use Rattle.session_trace.proofs.group.next_call.Given as goal
+
+abbrev pub invariant-loop-n : goal.invariant-loop-n
+invariant-loop-n l = groups.Grouped l.trace l.at l.time l.initial.numbers l.initial.values l.numbers l.values l.count l.next
+
+abbrev pub decreases-loop-n : goal.decreases-loop-n
+decreases-loop-n l = length l.trace - l.next

@@ -4,7 +4,7 @@ use mathlib.Core.Bool.{Bool, true, false, cond, ◌&&◌}
 use mathlib.Core.List.{List, ◌++◌}
 use Prim.Native.Nat.{ℕ, ◌≤◌, ◌<◌}
 use native.Mathlib.Omega.{arith}
-use lib.Dec.{leb, eqb}
+use lib.Dec.{leb}
 use lib.ListN.{length, drop}
 use borrow.Author.Tests.{le-leb, lt-leb, eq-eqb, ne_eqb}
 use Rattle.listing.specs.Bytes.{Bytes}
@@ -12,7 +12,7 @@ use Rattle.openings.specs.Writes.{writes_of}
 use Rattle.openings.specs.Order.{sorted_openings}
 use Rattle.openings.specs.Questions.{equally_long, none_falls, listed_once}
 use Rattle.page.specs.Pages.{page_count, page_bytes}
-use Rattle.page.specs.Call.{page_length, Outcome, refused, printed, ask, printed_page, page_call, outcome_number, outcome_pages, memory_after, PrintedAs, refusal}
+use Rattle.page.specs.Call.{page_length, Outcome, refused, ask, printed_page, page_call, outcome_number, outcome_pages, memory_after, PrintedAs, refusal}
 use Rattle.page.specs.declared.Printed.{Printed}
 
 -- a refusal under its number leaves the memory as it was

@@ -1,22 +1,20 @@
 -- "the pages together hold each opening exactly once, and no other row but headings and rows of spaces": the theorems. Letters: xs openings in order,
 -- p a page, n a number of pages.
 use mathlib.Core.Path.{◌≡◌, refl, sym, ap, ap₂, ◌∙◌}
-use mathlib.Core.Bool.{Bool, true, false, cond, ◌&&◌, ◌||◌, not}
-use mathlib.Core.List.{List, [], ◌∷◌, ◌++◌, map, append-nil, append_assoc}
-use Prim.Native.Nat.{ℕ, zero, suc, ◌+◌, ◌-◌, ◌*◌, ◌≤◌, ◌<◌}
-use native.Mathlib.Decide.{dec_lt}
+use mathlib.Core.Bool.{Bool, true, false, ◌&&◌}
+use mathlib.Core.List.{List, [], ◌∷◌, ◌++◌, map}
+use Prim.Native.Nat.{ℕ, zero, suc, ◌+◌, ◌-◌, ◌*◌, ◌≤◌}
 use native.Mathlib.Omega.{arith}
-use lib.Dec.{leb, eqb}
-use lib.ListN.{length, get_or, take, drop, replicate, length-map}
+use lib.ListN.{length, drop, replicate}
 use lib.Seq.{take_all}
-use borrow.Author.Tests.{le-leb, lt-leb, ne_eqb}
-use Rattle.listing.specs.Bytes.{Bytes, figure, bytes_of}
+use borrow.Author.Tests.{le-leb, ne_eqb}
+use Rattle.listing.specs.Bytes.{Bytes, figure}
 use Rattle.listing.specs.Lists.{all}
-use Rattle.listing.proofs.Figures.{Leading, figure_leads, figure_zero}
+use Rattle.listing.proofs.Figures.{figure_leads, figure_zero}
 use Rattle.openings.specs.Openings.{Opening}
-use Rattle.page_rows.specs.Rows.{right_aligned, row_of, open_for, row, heading, blank_row, joined}
-use Rattle.page_book.proofs.RowList.{row_number, rows_from, rows_length}
-use Rattle.page.specs.Pages.{page_count, is_page, openings_on, filled_to, page_rows}
+use Rattle.page_rows.specs.Rows.{right_aligned, row_of, row, heading, blank_row}
+use Rattle.page_book.proofs.RowList.{row_number, rows_from}
+use Rattle.page.specs.Pages.{page_count, is_page, filled_to, page_rows}
 use Rattle.page.specs.Together.{lower_rows, is_space, kept_if, without_blanks}
 use Rattle.page.proofs.Paging.{Suffices, count_suffices, rows_on_page_lem, rows_filled}
 

@@ -1,14 +1,13 @@
 -- Of lists that pass the questions, no two openings have the same row: with Demands, the pages hold each opening exactly once. Letters: ms moments, os
 -- outputs, vs values, ws writes in order, e the writes before them, x, y openings, xs openings in order.
-use mathlib.Core.Path.{◌≡◌, refl, sym, ap, ◌∙◌}
+use mathlib.Core.Path.{◌≡◌, refl, sym, ◌∙◌}
 use mathlib.Core.Bool.{Bool, true, false}
-use mathlib.Core.List.{List, [], ◌∷◌, ◌++◌, map, append-nil}
-use Prim.Native.Nat.{ℕ, zero, suc, ◌≤◌, ◌<◌}
+use mathlib.Core.List.{List, [], ◌∷◌, map, append-nil}
+use Prim.Native.Nat.{ℕ, zero, suc, ◌<◌}
 use native.Mathlib.Omega.{arith}
 use lib.ListN.{length, get_or, replicate}
-use Rattle.listing.specs.Bytes.{Bytes}
 use Rattle.openings.specs.Writes.{Write, writes_of}
-use Rattle.openings.specs.Openings.{opens, Opening, opening_of, with_opening, openings_after, openings, EndsLater}
+use Rattle.openings.specs.Openings.{opens, Opening, opening_of, with_opening, openings_after, EndsLater}
 use Rattle.openings.specs.Order.{sort, write_precedes, sorted_openings}
 use Rattle.openings.specs.Questions.{none_falls, listed_once}
 use Rattle.openings.proofs.All.{All, none, each}

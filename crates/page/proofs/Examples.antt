@@ -1,17 +1,15 @@
 -- Pages and outcomes by computation.
 use mathlib.Core.Path.{◌≡◌, refl}
-use mathlib.Core.Bool.{Bool, true, false}
-use mathlib.Core.List.{List, [], ◌∷◌, ◌++◌, map}
-use mathlib.Core.Option.{Option, none, some}
-use Prim.Native.Nat.{ℕ, ◌*◌, ◌+◌}
-use lib.ListN.{length, take, replicate}
+use mathlib.Core.Bool.{true, false}
+use mathlib.Core.List.{List, [], ◌∷◌, map}
+use mathlib.Core.Option.{none}
+use Prim.Native.Nat.{ℕ}
+use lib.ListN.{length, replicate}
 use Rattle.openings.specs.Writes as Writes
-use Rattle.openings.specs.Openings as Openings
 use Rattle.openings.specs.Openings.{Opening}
-use Rattle.openings.specs.Order as Order
 use Rattle.openings.specs.Questions as Questions
 use Rattle.page.specs.Pages.{page_count, is_page, openings_on}
-use Rattle.page.specs.Call.{Outcome, refused, printed, ask, printed_page, page_call, outcome_number, outcome_pages}
+use Rattle.page.specs.Call.{ask, printed_page, page_call, outcome_number}
 
 -- 59 openings fill a page
 the_counts_agree : map page_count (0 ∷ 1 ∷ 59 ∷ 60 ∷ 118 ∷ 119 ∷ []) ≡ 1 ∷ 1 ∷ 1 ∷ 2 ∷ 2 ∷ 3 ∷ []

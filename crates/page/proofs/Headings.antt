@@ -1,7 +1,7 @@
 -- The heading is the first row of each page that there is, and no other row. Letters: p a page, i a row of it from 0, xs openings in order.
 use mathlib.Core.Path.{◌≡◌, refl, sym, ap, ◌∙◌}
-use mathlib.Core.Bool.{Bool, true, false, cond, ◌&&◌}
-use mathlib.Core.List.{List, [], ◌∷◌, ◌++◌, map}
+use mathlib.Core.Bool.{Bool, true, false}
+use mathlib.Core.List.{List, [], ◌∷◌, ◌++◌}
 use mathlib.Core.Option.{Option, none, some}
 use Prim.Native.Nat.{ℕ, zero, suc, ◌+◌, ◌-◌, ◌*◌, ◌≤◌, ◌<◌}
 use native.Mathlib.Omega.{arith}
@@ -10,8 +10,8 @@ use lib.ListN.{length, get_or, replicate, get_or-replicate}
 use borrow.Author.Tests.{lt-ltb, leb-true}
 use Rattle.listing.specs.Bytes.{Bytes, figure, is_digit, bytes_of}
 use Rattle.listing.specs.Lists.{all}
-use Rattle.listing.proofs.Figures.{Leading, figure_leads, figure_zero}
-use Rattle.listing.proofs.Tests.{no_test, and_left, and_right, all_head, all_tail}
+use Rattle.listing.proofs.Figures.{figure_leads, figure_zero}
+use Rattle.listing.proofs.Tests.{no_test, and_right, all_head, all_tail}
 use Rattle.openings.specs.Openings.{Opening}
 use Rattle.page_rows.specs.Rows.{right_aligned, row_of, hyphens, open_for, row, heading, blank_row}
 use Rattle.page_book.proofs.RowList.{row_number, rows_from, rows_at}

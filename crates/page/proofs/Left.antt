@@ -1,7 +1,7 @@
 -- "the pages together hold each opening exactly once, and no other row but headings and rows of spaces", said of what the calls leave: a call for every
 -- page of the same lists. Letters: ms moments, os outputs, vs values, p a page, n a number of pages, rs rows, xs the openings in order.
 use mathlib.Core.Path.{◌≡◌, refl, sym, ap, ap₂, ◌∙◌}
-use mathlib.Core.Bool.{Bool, true, false, ◌&&◌}
+use mathlib.Core.Bool.{Bool, true, false}
 use mathlib.Core.List.{List, [], ◌∷◌, ◌++◌, map}
 use Prim.Native.Nat.{ℕ, zero, suc, ◌+◌, ◌-◌, ◌*◌, ◌≤◌, ◌<◌}
 use native.Mathlib.Omega.{arith}
@@ -18,9 +18,9 @@ use Rattle.openings.proofs.All.{All, each}
 use Rattle.openings.proofs.All as all
 use Rattle.page_rows.specs.Rows.{row, Fits, heading, blank_row, joined}
 use Rattle.page_rows.proofs.RowBytes.{blank_length}
-use Rattle.page_book.proofs.RowList.{Long, rows_from, rows_length, rows_long}
+use Rattle.page_book.proofs.RowList.{Long, rows_length, rows_long}
 use Rattle.page.specs.Pages.{page_count, is_page, page_rows, page_bytes}
-use Rattle.page.specs.Call.{Outcome, printed_page, page_call, outcome_pages, memory_after}
+use Rattle.page.specs.Call.{Outcome, printed_page, outcome_pages, memory_after}
 use Rattle.page.specs.Together.{row_of_bytes, rows_of_bytes, rows_left, lower_rows, without_blanks, AllPrinted}
 use Rattle.page.specs.declared.Printed.{Printed}
 use Rattle.page.proofs.Answers.{Through, gone_through_lem}

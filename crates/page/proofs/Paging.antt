@@ -1,21 +1,20 @@
 -- Pages by their numbers: the first opening, the number of pages, and what stands on a page. Letters: p the page, n how many openings, xs openings in order.
-use mathlib.Core.Path.{◌≡◌, refl, sym, ap, ap₂, ◌∙◌}
-use mathlib.Core.Bool.{Bool, true, false, cond, ◌&&◌}
+use mathlib.Core.Path.{◌≡◌, refl, sym, ap, ◌∙◌}
+use mathlib.Core.Bool.{true, false}
 use mathlib.Core.List.{List, [], ◌∷◌, ◌++◌, map}
 use Prim.Native.Nat.{ℕ, zero, suc, ◌+◌, ◌-◌, ◌*◌, ◌/◌, ◌≤◌, ◌<◌}
 use native.Mathlib.Decide.{dec_le, dec_lt}
 use native.Mathlib.Omega.{arith}
-use lib.Dec.{leb, eqb}
-use lib.ListN.{length, take, drop, replicate, length-map, length-append, drop_of_length-le}
-use lib.Seq.{sets, sets-eq, take-nil, drop-nil}
-use borrow.Author.Tests.{le-leb, lt-leb, eq-eqb, ne_eqb}
+use lib.ListN.{length, take, drop, replicate, drop_of_length-le}
+use lib.Seq.{sets, sets-eq}
+use borrow.Author.Tests.{le-leb, lt-leb, ne_eqb}
 use Rattle.listing.specs.Bytes.{Bytes, bytes_of}
 use Rattle.openings.specs.Openings.{Opening}
 use Rattle.page_rows.specs.Rows.{right_aligned, row_of, row, heading, blank_row, joined}
 use Rattle.page_rows.proofs.RowBytes.{blank_length}
 use Rattle.page_rows.proofs.Stores.{joined_length}
 use Rattle.page_book.specs.Book.{Book}
-use Rattle.page_book.proofs.RowList.{sets_left, sets_whole, row_number, rows_from, shown}
+use Rattle.page_book.proofs.RowList.{sets_left, sets_whole, row_number, rows_from}
 use Rattle.page_book.proofs.Whole.{rows_blank, Shows}
 use Rattle.page.specs.Pages.{openings_on_page, page_count, is_page, openings_on, filled_to, page_rows, page_bytes}
 use Rattle.page.specs.Call.{first_opening}

@@ -1,20 +1,18 @@
 -- A row tells its opening: the figures in its columns are the numbers, so different openings have different rows. Letters: x, y openings, r a row.
-use mathlib.Core.Path.{◌≡◌, refl, sym, ap, ap₂, ◌∙◌}
-use mathlib.Core.Bool.{Bool, true, false, cond, ◌&&◌}
+use mathlib.Core.Path.{◌≡◌, refl, sym, ap, ◌∙◌}
 use mathlib.Core.List.{List, [], ◌∷◌, ◌++◌, append_assoc}
 use mathlib.Core.Option.{Option, none, some}
 use Prim.Native.Nat.{ℕ, zero, suc, ◌+◌, ◌-◌, ◌*◌, ◌≤◌, ◌<◌}
 use native.Mathlib.Omega.{arith}
-use lib.Dec.{leb, eqb}
 use lib.ListN.{length, get_or, take, drop, replicate, length-append}
 use lib.Seq.{take_at, drop_at, drop-append-add}
 use borrow.Author.Tests.{ne_eqb}
 use Rattle.listing.specs.Bytes.{Bytes, figure, is_figure, read_figure}
 use Rattle.listing.specs.Lists.{all}
-use Rattle.listing.proofs.Figures.{Leading, figure_leads, figure_zero, read_figure-figure}
+use Rattle.listing.proofs.Figures.{figure_leads, figure_zero, read_figure-figure}
 use Rattle.openings.specs.Openings.{Opening, EndsLater}
 use Rattle.openings.proofs.All.{All, each}
-use Rattle.page_rows.specs.Rows.{right_aligned, row_of, hyphens, open_for, row, Fits, heading, blank_row, joined}
+use Rattle.page_rows.specs.Rows.{right_aligned, row_of, hyphens, open_for, row, Fits, joined}
 use Rattle.page_rows.proofs.RowBytes.{aligned_length}
 use Rattle.page_rows.proofs.Columns.{few_digits, two_digits}
 use Rattle.page_book.proofs.RowList.{Long, last_long}

@@ -1,5 +1,5 @@
 -- The page written: rows of spaces, the writes entered, the heading. Letters: ms moments, os outputs, vs values, p the page, xs the openings in order.
-use mathlib.Core.Path.{◌≡◌, refl, sym, ap, ◌∙◌}
+use mathlib.Core.Path.{◌≡◌, ap, ◌∙◌}
 use mathlib.Core.Bool.{true}
 use mathlib.Core.List.{List, ◌++◌}
 use Prim.Native.Nat.{ℕ, ◌≤◌, ◌<◌}
@@ -12,7 +12,7 @@ use Rattle.openings.specs.Openings.{Opening}
 use Rattle.openings.specs.Order.{sort, write_precedes, sorted_openings}
 use Rattle.openings.specs.Questions.{none_falls, listed_once}
 use Rattle.page_rows.specs.Rows.{heading, blank_row, joined}
-use Rattle.page_book.specs.Book.{Book, book_of, all_entered}
+use Rattle.page_book.specs.Book.{book_of, all_entered}
 use Rattle.page_book.proofs.Whole.{Shows, book_shows}
 use Rattle.page.specs.Pages.{page_count, page_bytes}
 use Rattle.page.specs.Call.{first_opening}

@@ -3,7 +3,7 @@
 -- pages." "Question 1 turns away short memory or unequal lists, 9 a moment that falls, 11 an output of 16 or more or listed twice in a moment."
 use Rattle.std.specs.Prelude.{◌≡◌, Bool, true, false, cond, ◌&&◌, List, ◌++◌, ℕ, ◌-◌, ◌*◌, leb, length, drop}
 use Rattle.listing.specs.Bytes.{Bytes}
-use Rattle.openings.specs.Writes.{Write, writes_of}
+use Rattle.openings.specs.Writes.{writes_of}
 use Rattle.openings.specs.Openings.{Opening}
 use Rattle.openings.specs.Order.{sorted_openings}
 use Rattle.openings.specs.Questions.{equally_long, none_falls, listed_once}

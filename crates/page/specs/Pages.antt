@@ -1,7 +1,7 @@
 -- The pages of the valve book.
 -- Document 02, Change 1: "Each page is 60 rows, the first being `NR`, `OPENED` and `OPEN FOR` aligned alike, and the last is filled with rows of
 -- spaces; no openings give one page."
-use Rattle.std.specs.Prelude.{Bool, cond, ◌&&◌, List, [], ◌∷◌, ◌++◌, map, ℕ, ◌+◌, ◌-◌, ◌*◌, ◌/◌, leb, eqb, length, take, drop, replicate}
+use Rattle.std.specs.Prelude.{Bool, cond, ◌&&◌, List, ◌∷◌, ◌++◌, map, ℕ, ◌+◌, ◌-◌, ◌*◌, ◌/◌, leb, eqb, length, take, drop, replicate}
 use Rattle.listing.specs.Bytes.{Bytes}
 use Rattle.openings.specs.Openings.{Opening}
 use Rattle.page_rows.specs.Rows.{row, heading, blank_row, joined}

@@ -1,11 +1,9 @@
 -- A book that has taken in some writes holds the page of their openings; one write more keeps it so. Letters: b the book, e the writes so far, the latest
 -- first, xs their openings, w the next write, o an output.
 use mathlib.Core.Path.{◌≡◌, refl, sym, ap, ap₂, ◌∙◌}
-use mathlib.Core.Bool.{Bool, true, false, cond, ◌&&◌, not}
+use mathlib.Core.Bool.{Bool, true, false, cond, ◌&&◌}
 use mathlib.Core.List.{List, [], ◌∷◌, ◌++◌, map, append-nil, append_assoc}
-use mathlib.Core.Option.{Option, none, some}
-use Prim.Native.Nat.{ℕ, zero, suc, ◌+◌, ◌-◌, ◌*◌, ◌≤◌, ◌<◌}
-use native.Mathlib.Decide.{dec_lt}
+use Prim.Native.Nat.{ℕ, ◌+◌, ◌-◌, ◌*◌, ◌<◌}
 use native.Mathlib.Omega.{arith}
 use lib.Dec.{eqb}
 use lib.ListN.{length, get_or, set, length-append, length-set, length-map}
@@ -13,17 +11,17 @@ use lib.Seq.{sets, get_or-set_same, get_or-set_other}
 use borrow.Author.Tests.{eq-eqb, ne_eqb, eqb-true, eqb-false}
 use Rattle.listing.specs.Bytes.{Bytes, figure}
 use Rattle.openings.specs.Writes.{Write}
-use Rattle.openings.specs.Openings.{is_zero, latest_of, closed_after, opens, closing, Opening, opening_of, with_opening, openings}
+use Rattle.openings.specs.Openings.{is_zero, latest_of, closed_after, opens, closing, Opening, with_opening}
 use Rattle.openings.proofs.All.{All, each, both_parts, second_part}
 use Rattle.openings.proofs.All as all
-use Rattle.openings.proofs.OneMore.{passed, passed_last, after, new_opening, openings_last}
+use Rattle.openings.proofs.OneMore.{after, new_opening}
 use Rattle.page_rows.specs.Rows.{right_aligned, row, Fits, blank_row, joined}
 use Rattle.page_rows.proofs.RowBytes.{aligned_length, blank_length}
 use Rattle.page_rows.proofs.Columns.{few_digits}
-use Rattle.page_book.specs.Book.{Book, book_of, line_of, on_page, row_closed, row_opened, valve_closed, valve_opened, entered_by, entered, all_entered}
+use Rattle.page_book.specs.Book.{Book, line_of, on_page, row_closed, row_opened, valve_closed, valve_opened, entered}
 use Rattle.page_book.proofs.Entering.{none_closed, entered_zero, entered_open, entered_shut}
 use Rattle.page_book.proofs.OpenValves.{NoneOpen, open_one, closed_one, none_changes, still_open, after_open, after_other, none_opens, all_fit, new_fits}
-use Rattle.page_book.proofs.RowList.{row_long, row_closes, sets_whole, row_number, number_here, number_past, differ_at, differ_end, shown, stored_at}
+use Rattle.page_book.proofs.RowList.{row_long, row_closes, sets_whole, number_here, number_past, differ_at, differ_end, shown, stored_at}
 
 -- valve o in the book: closed, or open since the moment noted, with the line of its row
 pub data Valve (first o : ℕ) (e : List Write) (xs : List Opening) (line opened : ℕ) : Type 0 where

@@ -1,19 +1,17 @@
 -- What is open in a list of openings, and what one write more changes. Letters: w a write, x an opening, xs openings, o an output.
 use mathlib.Core.Path.{◌≡◌, refl, sym, ap, ap₂, ◌∙◌}
-use mathlib.Core.Bool.{Bool, true, false, cond, ◌&&◌, not}
-use mathlib.Core.List.{List, [], ◌∷◌, ◌++◌, map, append-nil}
+use mathlib.Core.Bool.{Bool, true, false, cond, ◌&&◌}
+use mathlib.Core.List.{List, [], ◌∷◌, map}
 use mathlib.Core.Option.{Option, none, some}
-use Prim.Native.Nat.{ℕ, zero, suc, ◌+◌, ◌≤◌, ◌<◌}
+use Prim.Native.Nat.{ℕ, ◌<◌}
 use native.Mathlib.Omega.{arith}
 use lib.Dec.{eqb}
-use lib.ListN.{length}
-use borrow.Author.Tests.{eq-eqb, ne_eqb, eqb-true}
+use borrow.Author.Tests.{eq-eqb, eqb-true}
 use Rattle.listing.specs.Lists.{is_some}
 use Rattle.listing.proofs.Tests.{no_test}
 use Rattle.openings.specs.Writes.{Write}
 use Rattle.openings.specs.Openings.{is_zero, Opening}
 use Rattle.openings.proofs.All.{All, each, mapped}
-use Rattle.openings.proofs.All as all
 use Rattle.openings.proofs.OneMore.{closed_at, ends, after}
 use Rattle.page_rows.specs.Rows.{Fits}
 

@@ -1,14 +1,14 @@
 -- A page as a list of rows. Letters: r a row, rs rows, bs bytes stored, x an opening, xs openings in order, n an opening's number.
 use mathlib.Core.Path.{◌≡◌, refl, sym, ap, ap₂, ◌∙◌}
-use mathlib.Core.Bool.{Bool, true, false, cond, ◌&&◌}
+use mathlib.Core.Bool.{cond}
 use mathlib.Core.List.{List, [], ◌∷◌, ◌++◌, append_assoc, append-nil}
 use mathlib.Core.Logic.{◌⊎◌, inl, inr, ⊎_elim}
 use mathlib.Core.Option.{Option, none, some}
 use Prim.Native.Nat.{ℕ, zero, suc, ◌+◌, ◌-◌, ◌*◌, ◌≤◌, ◌<◌}
 use native.Mathlib.Decide.{dec_lt}
 use native.Mathlib.Omega.{arith}
-use lib.ListN.{length, get_or, set, take, drop, replicate, length-append, length-set, drop_of_length-le}
-use lib.Seq.{sets, sets-eq, length-sets, set-append_left}
+use lib.ListN.{length, get_or, set, length-append, length-set, drop_of_length-le}
+use lib.Seq.{sets, sets-eq, set-append_left}
 use Rattle.listing.specs.Bytes.{Bytes, figure}
 use Rattle.openings.specs.Openings.{Opening}
 use Rattle.openings.proofs.All.{All, each}

@@ -1,14 +1,13 @@
 -- Columns, spaces and a line feed stored one behind another are a row. Letters: l what the lent bytes held before, i the place of the row.
 use mathlib.Core.Path.{◌≡◌, refl, sym, ap, ◌∙◌}
-use mathlib.Core.List.{List, [], ◌∷◌, ◌++◌, append_assoc}
-use mathlib.Core.Option.{Option, none, some}
-use Prim.Native.Nat.{ℕ, ◌+◌, ◌-◌, ◌≤◌, ◌<◌}
+use mathlib.Core.List.{List, [], ◌∷◌, ◌++◌}
+use mathlib.Core.Option.{none}
+use Prim.Native.Nat.{ℕ, ◌+◌, ◌-◌, ◌≤◌}
 use native.Mathlib.Omega.{arith}
 use lib.ListN.{length, set, replicate, length-append, length-replicate}
 use lib.Seq.{sets}
 use Rattle.listing.specs.Bytes.{Bytes, figure}
-use Rattle.openings.specs.Openings.{Opening}
-use Rattle.page_rows.specs.Rows.{right_aligned, row_of, hyphens, open_for, row, heading, blank_row}
+use Rattle.page_rows.specs.Rows.{right_aligned, row_of, hyphens, open_for, row, blank_row}
 use Rattle.page_rows.proofs.Stores.{sets_append}
 
 pub aligned_length : (columns : ℕ) (text : Bytes) → length text ≤ columns → length (right_aligned columns text) ≡ columns

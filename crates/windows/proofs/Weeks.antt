@@ -1,7 +1,7 @@
 -- The week that reading a schedule leaves tells of every moment which inputs are open. Letters: t a text, s the schedule read, w the week.
 use mathlib.Core.Path.{◌≡◌, sym, ◌∙◌}
 use mathlib.Core.List.{List, [], ◌∷◌}
-use mathlib.Core.Option.{none, some}
+use mathlib.Core.Option.{some}
 use Prim.Native.Nat.{ℕ, ◌/◌, ◌%◌}
 use native.Mathlib.Omega.{arith}
 use Rattle.listing.specs.Bytes.{Bytes}

@@ -1,7 +1,6 @@
 -- `page::first_opening` meets its contract.
 use native.Mathlib.Omega.{arith}
 use Rattle.page.proofs.Paging as paging
-use borrow.Author.Rules.{rules}
 use Rattle.page.proofs.first_opening.Goals as goal
 
 pub returns-then-page-eq0 : goal.returns-then-page-eq0

@@ -1,7 +1,5 @@
 -- `page::page_count` meets its contract.
-use native.Mathlib.Omega.{arith}
 use Rattle.page.proofs.Paging as paging
-use borrow.Author.Rules.{rules}
 use Rattle.page.proofs.page_count.Goals as goal
 
 pub returns-then-openings-eq0 : goal.returns-then-openings-eq0

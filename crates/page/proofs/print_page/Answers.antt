@@ -2,26 +2,25 @@
 use mathlib.Core.Path.{sym}
 use Rattle.openings.proofs.Verdicts as verdicts
 use Rattle.page.proofs.Answers as answers
-use borrow.Author.Rules.{rules}
 use Rattle.page.proofs.print_page.Goals as goal
 
 pub returns-then-memory-lt-PAGE_BYTES : goal.returns-then-memory-lt-PAGE_BYTES
-returns-then-memory-lt-PAGE_BYTES c = 
+returns-then-memory-lt-PAGE_BYTES c =
     let a = c.args in
     answers.memory_short a.moments.now a.outputs.now a.values.now a.page a.memory.now c.if-memory-lt-PAGE_BYTES.true _ c.refused.ensures
 
 pub returns-then-moments-outputs : goal.returns-then-moments-outputs
-returns-then-moments-outputs c = 
+returns-then-moments-outputs c =
     let a = c.args in
     answers.outputs_unequal a.moments.now a.outputs.now a.values.now a.page a.memory.now c.if-memory-lt-PAGE_BYTES.false c.if-moments-outputs.true _ c.refused-then-moments-outputs.ensures
 
 pub returns-then-moments-values : goal.returns-then-moments-values
-returns-then-moments-values c = 
+returns-then-moments-values c =
     let a = c.args in
     answers.values_unequal a.moments.now a.outputs.now a.values.now a.page a.memory.now c.if-memory-lt-PAGE_BYTES.false c.if-moments-outputs.false c.if-moments-values.true _ c.refused-then-moments-values.ensures
 
 pub write_page-requires : goal.write_page-requires
-write_page-requires c = 
+write_page-requires c =
     let ms = c.args.moments.now in
     let os = c.args.outputs.now in
     let vs = c.args.values.now in
@@ -31,7 +30,7 @@ write_page-requires c =
     (c.if-memory-lt-PAGE_BYTES.false, same, long, passes.rises, passes.once, passes.order)
 
 pub write_page-requires-in-AnyOrder : goal.write_page-requires-in-AnyOrder
-write_page-requires-in-AnyOrder c = 
+write_page-requires-in-AnyOrder c =
     let ms = c.args.moments.now in
     let os = c.args.outputs.now in
     let vs = c.args.values.now in
@@ -41,7 +40,7 @@ write_page-requires-in-AnyOrder c =
     (c.if-memory-lt-PAGE_BYTES.false, same, long, passes.rises, passes.once, passes.order)
 
 pub returns-in-InOrder : goal.returns-in-InOrder
-returns-in-InOrder c = 
+returns-in-InOrder c =
     let a = c.args in
     let ms = a.moments.now in
     let os = a.outputs.now in
@@ -53,7 +52,7 @@ returns-in-InOrder c =
     rw c.gone_through.ensures (answers.page_printed ms os vs a.page a.memory.now c.if-memory-lt-PAGE_BYTES.false same long passes.rises passes.once _ _ e.0 e.1)
 
 pub returns-in-AnyOrder : goal.returns-in-AnyOrder
-returns-in-AnyOrder c = 
+returns-in-AnyOrder c =
     let a = c.args in
     let ms = a.moments.now in
     let os = a.outputs.now in
@@ -65,7 +64,7 @@ returns-in-AnyOrder c =
     rw c.gone_through-in-AnyOrder.ensures (answers.page_printed ms os vs a.page a.memory.now c.if-memory-lt-PAGE_BYTES.false same long passes.rises passes.once _ _ e.0 e.1)
 
 pub returns-in-Refused : goal.returns-in-Refused
-returns-in-Refused c = 
+returns-in-Refused c =
     let a = c.args in
     let ms = a.moments.now in
     let os = a.outputs.now in

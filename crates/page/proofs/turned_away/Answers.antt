@@ -1,6 +1,5 @@
 -- `page::turned_away` meets its contract.
 use mathlib.Core.Path.{sym, ◌∙◌}
-use borrow.Author.Rules.{rules}
 use Rattle.page.proofs.turned_away.Goals as goal
 
 pub returns-then-none_falls : goal.returns-then-none_falls

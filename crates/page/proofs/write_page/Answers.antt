@@ -9,7 +9,7 @@ pub enter_writes-count-requires : goal.enter_writes-count-requires
 enter_writes-count-requires c = (search rules, search rules, search rules, search rules, search rules, search rules, apart_none _, search rules)
 
 pub returns-then-page-eq0 : goal.returns-then-page-eq0
-returns-then-page-eq0 c = 
+returns-then-page-eq0 c =
     let a = c.args in
     let p = c.requires in
     written.left_none a.moments.now a.outputs.now a.values.now a.page a.memory.now p.0 p.3 p.4
@@ -17,7 +17,7 @@ returns-then-page-eq0 c =
     (omega arith) c.page_count-pages.ensures c.if-page-eq0.true
 
 pub returns-then-page-pages : goal.returns-then-page-pages
-returns-then-page-pages c = 
+returns-then-page-pages c =
     let a = c.args in
     let p = c.requires in
     written.left_past a.moments.now a.outputs.now a.values.now a.page a.memory.now p.0 p.3 p.4
@@ -25,7 +25,7 @@ returns-then-page-pages c =
     (omega arith) c.page_count-pages.ensures c.if-page-eq0.false c.if-page-pages.true
 
 pub returns : goal.returns
-returns c = 
+returns c =
     let a = c.args in
     let p = c.requires in
     written.left_there a.moments.now a.outputs.now a.values.now a.page a.memory.now p.0 p.3 p.4

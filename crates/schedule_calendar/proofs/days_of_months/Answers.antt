@@ -1,5 +1,4 @@
 -- `schedule_calendar::days_of_months` meets its contract.
-use Prim.Native.Nat.{◌≤◌, ◌-◌, ◌*◌}
 use mathlib.Core.Path.{◌≡◌, refl}
 use native.Mathlib.Omega.{arith}
 use Rattle.listing.specs.Lists.{total}

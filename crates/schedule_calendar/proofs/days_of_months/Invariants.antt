@@ -1,9 +1,6 @@
 use Prim.Native.Nat.{◌≤◌, ◌-◌, ◌*◌}
-use mathlib.Core.Path.{◌≡◌, refl}
-use native.Mathlib.Omega.{arith}
-use Rattle.listing.specs.Lists.{total}
+use mathlib.Core.Path.{◌≡◌}
 use Rattle.schedule.specs.Calendar.{days_of_months}
-use Rattle.schedule_calendar.proofs.Dates.{month_passed}
 use Rattle.schedule_calendar.proofs.days_of_months.Given as goal
 
 abbrev pub invariant-loop-m : goal.invariant-loop-m

@@ -1,8 +1,6 @@
 -- `schedule_calendar::days_of_years` meets its contract.
-use Prim.Native.Nat.{◌≤◌, ◌-◌, ◌*◌}
 use mathlib.Core.Path.{◌≡◌, refl}
 use native.Mathlib.Omega.{arith}
-use borrow.Author.Rules.{rules}
 use Rattle.schedule.specs.Calendar.{days_of_years}
 use Rattle.schedule_calendar.proofs.Dates.{year_passed}
 use Rattle.schedule_calendar.proofs.days_of_years.Goals as goal

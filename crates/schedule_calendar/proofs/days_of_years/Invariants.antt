@@ -1,9 +1,6 @@
 use Prim.Native.Nat.{◌≤◌, ◌-◌, ◌*◌}
-use mathlib.Core.Path.{◌≡◌, refl}
-use native.Mathlib.Omega.{arith}
-use borrow.Author.Rules.{rules}
+use mathlib.Core.Path.{◌≡◌}
 use Rattle.schedule.specs.Calendar.{days_of_years}
-use Rattle.schedule_calendar.proofs.Dates.{year_passed}
 use Rattle.schedule_calendar.proofs.days_of_years.Given as goal
 
 abbrev pub invariant-loop-y : goal.invariant-loop-y

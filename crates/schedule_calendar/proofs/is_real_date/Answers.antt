@@ -1,5 +1,4 @@
 -- `schedule_calendar::is_real_date` meets its contract.
-use borrow.Author.Rules.{rules}
 use borrow.Author.Tests.{le-leb, lt-leb}
 use Rattle.schedule.specs.Calendar.{is_real_date}
 use Rattle.schedule_calendar.proofs.is_real_date.Goals as goal

@@ -2,7 +2,6 @@
 use Prim.Native.Nat.{◌-◌}
 use mathlib.Core.Path.{◌≡◌, sym, ◌∙◌}
 use mathlib.Core.Bool.{true, false}
-use borrow.Author.Rules.{rules}
 use Rattle.schedule.specs.Calendar.{is_leap, month_lengths, month_days}
 use Rattle.schedule_calendar.proofs.Dates.{short_month}
 use Rattle.schedule_calendar.proofs.month_days.Goals as goal

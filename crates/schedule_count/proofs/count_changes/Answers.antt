@@ -1,11 +1,7 @@
 -- `schedule_count::count_changes` meets its contract.
 use mathlib.Core.Path.{◌≡◌, sym, ap}
-use Prim.Native.Nat.{ℕ, ◌-◌, ◌≤◌}
 use native.Mathlib.Omega.{arith}
 use lib.ListN.{length}
-use borrow.Author.Rules.{rules}
-use Rattle.schedule.specs.Edges.{changes}
-use Rattle.schedule_week.specs.Week.{is_marked}
 use Rattle.schedule_minutes.proofs.Changes.{changes_none, no_changes, count_stays, count_grows}
 use Rattle.schedule_count.proofs.count_changes.Goals as goal
 use Rattle.schedule_count.proofs.count_changes.Goals.{else-bit_of, then-bit_of}

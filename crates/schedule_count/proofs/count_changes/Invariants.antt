@@ -1,12 +1,8 @@
-use mathlib.Core.Path.{◌≡◌, sym, ap}
-use mathlib.Core.Logic.{⊎_elim}
+use mathlib.Core.Path.{◌≡◌}
 use Prim.Native.Nat.{ℕ, ◌-◌, ◌≤◌}
-use native.Mathlib.Omega.{arith}
 use lib.ListN.{length}
-use borrow.Author.Rules.{rules}
 use Rattle.schedule.specs.Edges.{changes}
 use Rattle.schedule_week.specs.Week.{is_marked}
-use Rattle.schedule_minutes.proofs.Changes.{changes_none, no_changes, count_stays, count_grows}
 use Rattle.schedule_count.proofs.count_changes.Given as goal
 
 abbrev pub invariant-loop-input : goal.invariant-loop-input

@@ -1,12 +1,10 @@
 -- `schedule_count::count_minutes` meets its contract.
 use mathlib.Core.Path.{◌≡◌, sym, ap}
-use Prim.Native.Nat.{◌-◌, ◌≤◌}
 use native.Mathlib.Omega.{arith}
 use lib.ListN.{length}
-use borrow.Author.Rules.{rules}
 use Rattle.schedule_minutes.specs.Minutes.{minute_edges}
 use Rattle.schedule_minutes.proofs.Edges.{minutes_none, minutes_most}
-use Rattle.schedule_minutes.proofs.Walking.{Stands, stands_first, in_week, stands_next, count_next}
+use Rattle.schedule_minutes.proofs.Walking.{stands_first, in_week, stands_next, count_next}
 use Rattle.schedule_count.proofs.count_minutes.Goals as goal
 
 pub loop-k-init : goal.loop-k-init

@@ -1,13 +1,12 @@
 -- `schedule_lines::read_date` meets its contract.
 use mathlib.Core.Path.{sym, ◌∙◌}
-use borrow.Author.Rules.{rules}
 use Rattle.text_jumps.proofs.Chain.{number_got}
 use Rattle.schedule_lines.proofs.Fields.{Numbered}
 use Rattle.schedule_lines.proofs.Dates as dates
 use Rattle.schedule_lines.proofs.read_date.Goals as goal
 
 pub returns-in_default : goal.returns-in_default
-returns-in_default c = 
+returns-in_default c =
     let a = c.args in
     dates.year_none a.s.now a.place (sym c.in_default.is ∙ c.number_field.ensures)
 

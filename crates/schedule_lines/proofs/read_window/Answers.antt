@@ -1,13 +1,12 @@
 -- `schedule_lines::read_window` meets its contract.
 use mathlib.Core.Path.{sym, ◌∙◌}
-use borrow.Author.Rules.{rules}
 use Rattle.text_jumps.proofs.Chain.{number_got}
 use Rattle.schedule_lines.proofs.Fields.{Numbered}
 use Rattle.schedule_lines.proofs.Windows as windows
 use Rattle.schedule_lines.proofs.read_window.Goals as goal
 
 pub returns-in_default : goal.returns-in_default
-returns-in_default c = 
+returns-in_default c =
     let a = c.args in
     windows.input_none a.s.now a.place (sym c.in_default.is ∙ c.number_field.ensures)
 

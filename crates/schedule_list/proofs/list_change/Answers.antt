@@ -1,12 +1,9 @@
 -- `schedule_list::list_change` meets its contract.
-use Prim.Native.Nat.{◌<◌}
-use lib.ListN.{length}
-use borrow.Author.Rules.{rules}
 use Rattle.schedule_list.proofs.Lists as lists
 use Rattle.schedule_list.proofs.list_change.Goals as goal
 
 pub returns-then-was-is : goal.returns-then-was-is
-returns-then-was-is c = 
+returns-then-was-is c =
     let a = c.args in
     lists.written_same a.moment a.input a.was a.is a.place _ _ _ c.if-was-is.true
 

@@ -1,12 +1,7 @@
 -- `schedule_list::list_changes` meets its contract.
 use mathlib.Core.Path.{◌≡◌}
-use Prim.Native.Nat.{◌-◌, ◌≤◌}
 use native.Mathlib.Omega.{arith}
-use borrow.Author.Rules.{rules}
-use Rattle.schedule.specs.Edges.{changes}
-use Rattle.schedule_week.specs.Week.{is_marked}
 use Rattle.schedule_minutes.proofs.Changes.{no_changes}
-use Rattle.schedule_list.specs.Lists.{Written}
 use Rattle.schedule_list.proofs.Lists as lists
 use Rattle.schedule_list.proofs.list_changes.Goals as goal
 
@@ -14,7 +9,7 @@ pub loop-input-init : goal.loop-input-init
 loop-input-init c = (omega arith, rw (no_changes _ _ _) (lists.written_none _ _ _ _))
 
 pub list_change-next-requires : goal.list_change-next-requires
-list_change-next-requires c = 
+list_change-next-requires c =
     let v = c.loop-input in
     let a = c.args in
     let p = c.bit_of-was.ensures in
@@ -22,7 +17,7 @@ list_change-next-requires c =
     (omega arith, omega (arith, p), omega (arith, q), lists.change_fits a.moment a.before a.at v.input _ _ (omega arith) p q v.invariant.1 c.requires)
 
 pub loop-input-preserved : goal.loop-input-preserved
-loop-input-preserved c = 
+loop-input-preserved c =
     let v = c.loop-input in
     let a = c.args in
     let p = c.bit_of-was.ensures in
@@ -39,7 +34,7 @@ pub shape_of-values : goal.shape_of-values
 shape_of-values c = lists.values_size c.loop-input.invariant.1
 
 pub returns : goal.returns
-returns c = 
+returns c =
     let v = c.loop-input in
     let e : v.input ≡ 16 = omega arith in
     rw e at v.invariant.1

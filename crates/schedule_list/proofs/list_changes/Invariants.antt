@@ -1,12 +1,7 @@
-use mathlib.Core.Path.{◌≡◌}
 use Prim.Native.Nat.{◌-◌, ◌≤◌}
-use native.Mathlib.Omega.{arith}
-use borrow.Author.Rules.{rules}
 use Rattle.schedule.specs.Edges.{changes}
 use Rattle.schedule_week.specs.Week.{is_marked}
-use Rattle.schedule_minutes.proofs.Changes.{no_changes}
 use Rattle.schedule_list.specs.Lists.{Written}
-use Rattle.schedule_list.proofs.Lists as lists
 use Rattle.schedule_list.proofs.list_changes.Given as goal
 
 abbrev pub invariant-loop-input : goal.invariant-loop-input

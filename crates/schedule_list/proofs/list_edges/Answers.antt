@@ -1,12 +1,10 @@
 -- `schedule_list::list_edges` meets its contract.
 use mathlib.Core.Path.{◌≡◌}
-use mathlib.Core.List.{List}
-use Prim.Native.Nat.{ℕ, ◌-◌, ◌/◌, ◌≤◌}
+use Prim.Native.Nat.{◌/◌}
 use native.Mathlib.Omega.{arith}
 use lib.ListN.{length, take}
 use lib.Seq.{take_all}
 use Rattle.schedule_minutes.specs.Minutes.{minute_edges}
-use Rattle.schedule_list.specs.Lists.{Written}
 use Rattle.schedule_list.proofs.Lists as lists
 use Rattle.schedule_list.proofs.Minutes.{minutes_mono}
 use Rattle.schedule_list.proofs.Weeks as weeks
@@ -28,19 +26,19 @@ pub returns-then-minutes-le-WEEK : goal.returns-then-minutes-le-WEEK
 returns-then-minutes-le-WEEK c = lists.written_all c.list_minutes.ensures c.args.total c.requires.4
 
 pub list_minutes-weekly-requires : goal.list_minutes-weekly-requires
-list_minutes-weekly-requires c = 
+list_minutes-weekly-requires c =
     let p = c.requires in
     let mono = minutes_mono c.args.week.now (c.args.first / 60000) 10080 c.args.minutes (omega arith) in
     (p.0, p.1, p.2, omega arith, omega arith, lists.fits_shorter {xs = minute_edges c.args.week.now (c.args.first / 60000) 10080} mono p.5)
 
 pub loop-place-init : goal.loop-place-init
-loop-place-init c = 
+loop-place-init c =
     let x = c.list_minutes-weekly.ensures in
     let mono = minutes_mono c.args.week.now (c.args.first / 60000) 10080 c.args.minutes (omega arith) in
     (omega arith, omega (arith, x.next_is_lem, c.requires.4), λ l k v w. w)
 
 pub list_again-requires : goal.list_again-requires
-list_again-requires c = 
+list_again-requires c =
     let v = c.loop-place in
     let x = c.list_minutes-weekly.ensures in
     let a = c.args in
@@ -50,7 +48,7 @@ list_again-requires c =
     rw e (weeks.again_fits w (a.first / 60000) a.minutes c.requires.2 (omega arith) (omega arith) v.place (omega arith) (omega (arith, c.requires.4)) c.requires.5 so_far)
 
 pub loop-place-preserved : goal.loop-place-preserved
-loop-place-preserved c = 
+loop-place-preserved c =
     let v = c.loop-place in
     let a = c.args in
     let w = a.week.now in

@@ -1,11 +1,8 @@
 -- `schedule_list::list_minutes` meets its contract.
 use mathlib.Core.Path.{◌≡◌}
-use Prim.Native.Nat.{◌-◌, ◌/◌, ◌≤◌}
 use native.Mathlib.Omega.{arith}
-use Rattle.schedule_minutes.specs.Minutes.{minute_edges}
 use Rattle.schedule_minutes.proofs.Edges.{minutes_none}
-use Rattle.schedule_minutes.proofs.Walking.{Stands, stands_first, in_week, stands_next}
-use Rattle.schedule_list.specs.Lists.{Written}
+use Rattle.schedule_minutes.proofs.Walking.{stands_first, in_week, stands_next}
 use Rattle.schedule_list.proofs.Lists as lists
 use Rattle.schedule_list.proofs.Minutes as minutes
 use Rattle.schedule_list.proofs.list_minutes.Goals as goal
@@ -20,7 +17,7 @@ pub bounds-week-at : goal.bounds-week-at
 bounds-week-at c = omega (arith, in_week _ _ _ _ _ c.loop-k.invariant.1)
 
 pub list_minute-place-requires : goal.list_minute-place-requires
-list_minute-place-requires c = 
+list_minute-place-requires c =
     let v = c.loop-k in
     let a = c.args in
     (omega arith, omega arith, minutes.minute_fits a.week.now a.first v.k _ _ c.requires.1 v.invariant.1 v.invariant.2 a.minutes (omega arith) c.requires.5)
@@ -29,7 +26,7 @@ pub next_minute-at-requires : goal.next_minute-at-requires
 next_minute-at-requires c = in_week _ _ _ _ _ c.loop-k.invariant.1
 
 pub loop-k-preserved : goal.loop-k-preserved
-loop-k-preserved c = 
+loop-k-preserved c =
     let v = c.loop-k in
     let a = c.args in
     let w = a.week.now in (
@@ -48,7 +45,7 @@ pub shape_of-values : goal.shape_of-values
 shape_of-values c = lists.values_size c.loop-k.invariant.2
 
 pub returns : goal.returns
-returns c = 
+returns c =
     let v = c.loop-k in
     let e : v.k ≡ c.args.minutes = omega arith in
     rw e at v.invariant.2

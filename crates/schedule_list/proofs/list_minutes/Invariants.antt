@@ -1,12 +1,7 @@
-use mathlib.Core.Path.{◌≡◌}
 use Prim.Native.Nat.{◌-◌, ◌/◌, ◌≤◌}
-use native.Mathlib.Omega.{arith}
 use Rattle.schedule_minutes.specs.Minutes.{minute_edges}
-use Rattle.schedule_minutes.proofs.Edges.{minutes_none}
-use Rattle.schedule_minutes.proofs.Walking.{Stands, stands_first, in_week, stands_next}
+use Rattle.schedule_minutes.proofs.Walking.{Stands}
 use Rattle.schedule_list.specs.Lists.{Written}
-use Rattle.schedule_list.proofs.Lists as lists
-use Rattle.schedule_list.proofs.Minutes as minutes
 use Rattle.schedule_list.proofs.list_minutes.Given as goal
 
 abbrev pub invariant-loop-k : goal.invariant-loop-k

@@ -1,12 +1,5 @@
-use mathlib.Core.Path.{◌≡◌, sym, ◌∙◌}
-use mathlib.Core.Bool.{true}
 use Prim.Native.Nat.{◌-◌}
-use native.Mathlib.Omega.{arith}
 use lib.ListN.{length}
-use borrow.Author.Rules.{rules}
-use Rattle.schedule.specs.Schedule.{is_window}
-use Rattle.schedule.specs.Form.{read_window}
-use Rattle.schedule_read.proofs.Answers as answers
 use Rattle.schedule_read.proofs.Reading as reading
 use Rattle.schedule_read.proofs.read_windows.Given as goal
 

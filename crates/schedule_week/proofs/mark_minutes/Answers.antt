@@ -1,10 +1,6 @@
 -- `schedule_week::mark_minutes` meets its contract.
 use mathlib.Core.Path.{◌≡◌}
-use Prim.Native.Nat.{◌-◌, ◌≤◌}
 use native.Mathlib.Omega.{arith}
-use lib.ListN.{length}
-use borrow.Author.Rules.{rules}
-use Rattle.schedule_week.specs.Week.{Marked}
 use Rattle.schedule_week.proofs.Marking as marking
 use Rattle.schedule_week.proofs.mark_minutes.Goals as goal
 
@@ -27,7 +23,7 @@ pub overflow_add-minute : goal.overflow_add-minute
 overflow_add-minute c = omega (arith, c.loop-minute.invariant.2.size)
 
 pub loop-minute-preserved : goal.loop-minute-preserved
-loop-minute-preserved c = 
+loop-minute-preserved c =
     let v = c.loop-minute in
     (omega arith, omega arith, marking.one_marked c.args.input c.args.from v.minute c.args.week.now v.week v.invariant.0 (omega arith) v.invariant.2 c.requires.0)
 
@@ -35,7 +31,7 @@ pub shape_of-week : goal.shape_of-week
 shape_of-week c = c.loop-minute.invariant.2.size
 
 pub returns : goal.returns
-returns c = 
+returns c =
     let v = c.loop-minute in
     let a = c.args in
     let e : v.minute ≡ a.to = omega arith in

@@ -1,10 +1,5 @@
-use mathlib.Core.Path.{◌≡◌}
 use Prim.Native.Nat.{◌-◌, ◌≤◌}
-use native.Mathlib.Omega.{arith}
-use lib.ListN.{length}
-use borrow.Author.Rules.{rules}
 use Rattle.schedule_week.specs.Week.{Marked}
-use Rattle.schedule_week.proofs.Marking as marking
 use Rattle.schedule_week.proofs.mark_minutes.Given as goal
 
 abbrev pub invariant-loop-minute : goal.invariant-loop-minute

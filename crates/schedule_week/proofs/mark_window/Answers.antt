@@ -1,6 +1,5 @@
 -- `schedule_week::mark_window` meets its contract.
 use native.Mathlib.Omega.{arith}
-use borrow.Author.Rules.{rules}
 use Rattle.schedule_laws.proofs.Windows.{window_numbers}
 use Rattle.schedule_week.proofs.mark_window.Goals as goal
 

@@ -1,12 +1,9 @@
 -- `test_calls::run_items` meets its contract.
-use mathlib.Core.Path.{◌≡◌, refl, sym, ap, ◌∙◌}
+use mathlib.Core.Path.{refl, ap, ◌∙◌}
 use native.Mathlib.Omega.{arith}
-use Prim.Native.Nat.{◌-◌, ◌≤◌}
+use Prim.Native.Nat.{◌-◌}
 use lib.ListN.{length}
-use borrow.Author.Tests.{not-true, not-false}
-use Rattle.test_calls.proofs.Turning.{Rest, begun, told_of, one_agrees, one_fails, ended, ended_place}
-use lib.Seq.{length-take-le}
-use borrow.Author.Rules.{rules}
+use Rattle.test_calls.proofs.Turning.{begun, told_of, one_agrees, one_fails, ended, ended_place}
 use Rattle.test_calls.proofs.run_items.Goals as goal
 use Rattle.test_calls.proofs.run_items.Goals.{then-not-run_item, else-not-run_item}
 

@@ -1,15 +1,10 @@
 -- `test_sessions::run_file` meets its contract.
 use mathlib.Core.Path.{◌≡◌, refl, sym, ◌∙◌}
 use native.Mathlib.Omega.{arith}
-use Prim.Native.Nat.{◌-◌, ◌≤◌, ◌<◌}
-use borrow.Author.Tests.{not-true, not-false}
-use Rattle.test_cases.specs.Frame.{word_at, onward}
-use Rattle.session_replay.specs.Phases.{memories}
-use Rattle.session_replay.specs.Ending.{AsLong}
+use Prim.Native.Nat.{◌-◌}
 use Rattle.session_replay.proofs.Ending.{still_long}
 use Rattle.test_cases.proofs.Telling.{never}
-use Rattle.test_sessions.proofs.Turning.{Rest, begun, one_agrees, one_fails, ended}
-use borrow.Author.Rules.{rules}
+use Rattle.test_sessions.proofs.Turning.{begun, one_agrees, one_fails, ended}
 use Rattle.test_sessions.proofs.run_file.Goals as goal
 use Rattle.test_sessions.proofs.run_file.Goals.{then-not-run_case, else-not-run_case}
 

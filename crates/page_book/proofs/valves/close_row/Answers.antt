@@ -1,8 +1,6 @@
 -- `page_book::close_row` meets its contract.
-use mathlib.Core.Path.{◌≡◌, sym, ◌∙◌}
-use native.Mathlib.Omega.{arith}
+use mathlib.Core.Path.{◌∙◌}
 use Rattle.page_book.proofs.Entering as entering
-use borrow.Author.Rules.{rules}
 use Rattle.page_book.proofs.valves.close_row.Goals as goal
 
 pub returns-then-line-eq0 : goal.returns-then-line-eq0

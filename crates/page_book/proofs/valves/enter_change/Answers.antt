@@ -2,11 +2,10 @@
 use mathlib.Core.Path.{sym, ◌∙◌}
 use native.Mathlib.Omega.{arith}
 use Rattle.page_book.proofs.Entering as entering
-use borrow.Author.Rules.{rules}
 use Rattle.page_book.proofs.valves.enter_change.Goals as goal
 
 pub returns-then-leaves_valve : goal.returns-then-leaves_valve
-returns-then-leaves_valve c = 
+returns-then-leaves_valve c =
     let a = c.args in
     let p = c.requires in
     (entering.enters_same a.first a.memory.now a.lines.now a.opened.now a.count a.moment a.output a.value c.number-valve.result c.number-valve.ensures.0 (sym c.leaves_valve.ensures ∙ c.if-leaves_valve.true), p.0, p.1, omega arith)

@@ -1,25 +1,23 @@
 -- `page_book::enter_write` meets its contract.
-use mathlib.Core.Path.{◌≡◌, sym, ◌∙◌}
 use native.Mathlib.Omega.{arith}
 use lib.ListN.{length-set}
 use Rattle.page_book.proofs.Entering as entering
-use borrow.Author.Rules.{rules}
 use Rattle.page_book.proofs.valves.enter_write.Goals as goal
 
 pub returns-then-value-eq0 : goal.returns-then-value-eq0
-returns-then-value-eq0 c = 
+returns-then-value-eq0 c =
     let a = c.args in
     let p = c.requires in
     (entering.enters_zero a.first a.memory.now a.lines.now a.opened.now a.count a.moment a.output a.value c.number-valve.result c.number-valve.ensures.0 c.if-value-eq0.true _ c.between.ensures c.close_row.ensures, simp length-set p.0, p.1, omega arith)
 
 pub returns-then-line-ne0 : goal.returns-then-line-ne0
-returns-then-line-ne0 c = 
+returns-then-line-ne0 c =
     let a = c.args in
     let p = c.requires in
     (entering.enters_still a.first a.memory.now a.lines.now a.opened.now a.count a.moment a.output a.value c.number-valve.result c.number-valve.ensures.0 c.if-value-eq0.false c.if-line-ne0.true, p.0, p.1, omega arith)
 
 pub returns : goal.returns
-returns c = 
+returns c =
     let a = c.args in
     let p = c.requires in (
       entering.enters_new a.first a.memory.now a.lines.now a.opened.now a.count a.moment a.output a.value

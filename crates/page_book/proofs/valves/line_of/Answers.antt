@@ -1,7 +1,6 @@
 -- `page_book::line_of` meets its contract.
 use native.Mathlib.Omega.{arith}
 use Rattle.page_book.proofs.Entering as entering
-use borrow.Author.Rules.{rules}
 use Rattle.page_book.proofs.valves.line_of.Goals as goal
 
 pub returns-then-number-first : goal.returns-then-number-first

@@ -1,8 +1,7 @@
 -- `page_rows::column_byte` meets its contract.
-use mathlib.Core.Path.{◌≡◌, sym, ◌∙◌}
+use mathlib.Core.Path.{sym, ◌∙◌}
 use native.Mathlib.Omega.{arith}
 use Rattle.page_rows.proofs.Columns as column
-use borrow.Author.Rules.{rules}
 use Rattle.page_rows.proofs.bytes.column_byte.Goals as goal
 
 pub returns-then-rest-eq0 : goal.returns-then-rest-eq0

@@ -1,7 +1,6 @@
 -- `page_rows::put_byte` meets its contract.
 use mathlib.Core.Path.{sym}
 use lib.Seq.{set_out}
-use borrow.Author.Rules.{rules}
 use Rattle.page_rows.proofs.bytes.put_byte.Goals as goal
 
 pub returns-else-at-out : goal.returns-else-at-out

@@ -1,11 +1,9 @@
 -- `page_rows::put_bytes` meets its contract.
-use mathlib.Core.Path.{◌≡◌, refl, sym, ap, ◌∙◌}
-use Prim.Native.Nat.{◌-◌, ◌≤◌}
+use mathlib.Core.Path.{refl, ap, ◌∙◌}
 use native.Mathlib.Omega.{arith}
-use lib.ListN.{length, take}
+use lib.ListN.{length}
 use lib.Seq.{sets, length-sets, take_all}
 use Rattle.page_rows.proofs.Stores as stores
-use borrow.Author.Rules.{rules}
 use Rattle.page_rows.proofs.bytes.put_bytes.Goals as goal
 
 pub loop-k-init : goal.loop-k-init

@@ -1,10 +1,7 @@
-use mathlib.Core.Path.{◌≡◌, refl, sym, ap, ◌∙◌}
+use mathlib.Core.Path.{◌≡◌}
 use Prim.Native.Nat.{◌-◌, ◌≤◌}
-use native.Mathlib.Omega.{arith}
 use lib.ListN.{length, take}
-use lib.Seq.{sets, length-sets, take_all}
-use Rattle.page_rows.proofs.Stores as stores
-use borrow.Author.Rules.{rules}
+use lib.Seq.{sets}
 use Rattle.page_rows.proofs.bytes.put_bytes.Given as goal
 
 abbrev pub invariant-loop-k : goal.invariant-loop-k

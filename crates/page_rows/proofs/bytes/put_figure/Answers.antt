@@ -1,10 +1,8 @@
 -- `page_rows::put_figure` meets its contract.
-use mathlib.Core.Path.{◌≡◌, refl, sym, ap, ◌∙◌}
-use Prim.Native.Nat.{◌-◌, ◌≤◌}
+use mathlib.Core.Path.{ap, ◌∙◌}
 use native.Mathlib.Omega.{arith}
 use lib.ListN.{length, length-set}
 use Rattle.page_rows.proofs.Columns as column
-use borrow.Author.Rules.{rules}
 use Rattle.page_rows.proofs.bytes.put_figure.Goals as goal
 
 pub loop-k-init : goal.loop-k-init

@@ -1,9 +1,4 @@
-use mathlib.Core.Path.{◌≡◌, refl, sym, ap, ◌∙◌}
-use Prim.Native.Nat.{◌-◌, ◌≤◌}
-use native.Mathlib.Omega.{arith}
-use lib.ListN.{length, length-set}
 use Rattle.page_rows.proofs.Columns as column
-use borrow.Author.Rules.{rules}
 use Rattle.page_rows.proofs.bytes.put_figure.Given as goal
 
 abbrev pub invariant-loop-k : goal.invariant-loop-k

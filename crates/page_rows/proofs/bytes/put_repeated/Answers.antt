@@ -1,11 +1,9 @@
 -- `page_rows::put_repeated` meets its contract.
-use mathlib.Core.Path.{◌≡◌, refl, sym, ap, ◌∙◌}
-use Prim.Native.Nat.{◌-◌, ◌≤◌}
+use mathlib.Core.Path.{◌≡◌, refl, ap, ◌∙◌}
 use native.Mathlib.Omega.{arith}
 use lib.ListN.{length, replicate}
 use lib.Seq.{sets, length-sets}
 use Rattle.page_rows.proofs.Stores as stores
-use borrow.Author.Rules.{rules}
 use Rattle.page_rows.proofs.bytes.put_repeated.Goals as goal
 
 pub loop-k-init : goal.loop-k-init

@@ -1,10 +1,7 @@
-use mathlib.Core.Path.{◌≡◌, refl, sym, ap, ◌∙◌}
+use mathlib.Core.Path.{◌≡◌}
 use Prim.Native.Nat.{◌-◌, ◌≤◌}
-use native.Mathlib.Omega.{arith}
-use lib.ListN.{length, replicate}
-use lib.Seq.{sets, length-sets}
-use Rattle.page_rows.proofs.Stores as stores
-use borrow.Author.Rules.{rules}
+use lib.ListN.{replicate}
+use lib.Seq.{sets}
 use Rattle.page_rows.proofs.bytes.put_repeated.Given as goal
 
 abbrev pub invariant-loop-k : goal.invariant-loop-k

@@ -1,13 +1,12 @@
 -- `page_rows::put_blank_rows` meets its contract.
-use mathlib.Core.Path.{◌≡◌, refl, sym, ap, ◌∙◌}
-use Prim.Native.Nat.{◌-◌, ◌*◌, ◌≤◌}
+use mathlib.Core.Path.{◌≡◌, refl, ap, ◌∙◌}
+use Prim.Native.Nat.{◌*◌}
 use native.Mathlib.Omega.{arith}
 use lib.ListN.{length, replicate}
 use lib.Seq.{sets, length-sets}
 use Rattle.page_rows.specs.Rows.{blank_row, joined}
 use Rattle.page_rows.proofs.Stores as stores
 use Rattle.page_rows.proofs.RowBytes as bytes
-use borrow.Author.Rules.{rules}
 use Rattle.page_rows.proofs.rows.put_blank_rows.Goals as goal
 
 pub loop-line-init : goal.loop-line-init

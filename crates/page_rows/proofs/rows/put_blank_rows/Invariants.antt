@@ -1,12 +1,8 @@
-use mathlib.Core.Path.{◌≡◌, refl, sym, ap, ◌∙◌}
-use Prim.Native.Nat.{◌-◌, ◌*◌, ◌≤◌}
-use native.Mathlib.Omega.{arith}
-use lib.ListN.{length, replicate}
-use lib.Seq.{sets, length-sets}
+use mathlib.Core.Path.{◌≡◌}
+use Prim.Native.Nat.{◌-◌, ◌≤◌}
+use lib.ListN.{replicate}
+use lib.Seq.{sets}
 use Rattle.page_rows.specs.Rows.{blank_row, joined}
-use Rattle.page_rows.proofs.Stores as stores
-use Rattle.page_rows.proofs.RowBytes as bytes
-use borrow.Author.Rules.{rules}
 use Rattle.page_rows.proofs.rows.put_blank_rows.Given as goal
 
 abbrev pub invariant-loop-line : goal.invariant-loop-line

@@ -1,7 +1,6 @@
 -- `page_rows::put_open_for` meets its contract.
 use native.Mathlib.Omega.{arith}
 use Rattle.page_rows.proofs.Columns as column
-use borrow.Author.Rules.{rules}
 use Rattle.page_rows.proofs.rows.put_open_for.Goals as goal
 
 pub put_figure-requires : goal.put_figure-requires

@@ -3,7 +3,6 @@ use native.Mathlib.Omega.{arith}
 use Prim.Native.Nat.{◌*◌}
 use Rattle.page_rows.proofs.Columns as column
 use Rattle.page_rows.proofs.RowBytes as bytes
-use borrow.Author.Rules.{rules}
 use Rattle.page_rows.proofs.rows.put_row.Goals as goal
 
 pub put_figure-requires : goal.put_figure-requires

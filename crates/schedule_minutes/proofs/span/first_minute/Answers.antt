@@ -1,5 +1,4 @@
 -- `schedule_minutes::first_minute` meets its contract.
-use borrow.Author.Rules.{rules}
 use Rattle.schedule_minutes.proofs.Whole as whole
 use Rattle.schedule_minutes.proofs.span.first_minute.Goals as goal
 

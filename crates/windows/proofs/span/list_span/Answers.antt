@@ -2,7 +2,6 @@
 use mathlib.Core.Path.{◌≡◌, sym, ap, ◌∙◌}
 use native.Mathlib.Omega.{arith}
 use lib.ListN.{length}
-use borrow.Author.Rules.{rules}
 use Rattle.words.specs.Moments.{later_of}
 use Rattle.schedule_list.specs.Lists.{Fits}
 use Rattle.windows.specs.Span.{span_edges}
@@ -11,18 +10,18 @@ use Rattle.windows.proofs.Bounds as bounds
 use Rattle.windows.proofs.span.list_span.Goals as goal
 
 pub returns-in_default : goal.returns-in_default
-returns-in_default c = 
+returns-in_default c =
     let a = c.args in
     answers.nothing_told _ _ _ _ (bounds.none_left a.week.now a.from a.to (omega arith) (sym (ap later_of c.in_default.is) ∙ c.first_minute.ensures)) _ c.gone_through.ensures
 
 pub count_edges-total-requires : goal.count_edges-total-requires
-count_edges-total-requires c = 
+count_edges-total-requires c =
     let a = c.args in
     let k = bounds.bounded a.from a.to c.in-At.first.0 (omega arith) (sym (ap later_of c.in-At.is) ∙ c.first_minute.ensures) in
     (c.requires, k.above, rw c.minutes_until-minutes.ensures k.few)
 
 pub returns-then-moments-total : goal.returns-then-moments-total
-returns-then-moments-total c = 
+returns-then-moments-total c =
     let a = c.args in
     let w = a.week.now in
     let k = bounds.bounded a.from a.to c.in-At.first.0 (omega arith) (sym (ap later_of c.in-At.is) ∙ c.first_minute.ensures) in
@@ -31,7 +30,7 @@ returns-then-moments-total c =
     answers.moments_short _ _ _ _ (omega (arith, c.if-moments-total.true)) _ c.refused.ensures
 
 pub returns-then-inputs-total : goal.returns-then-inputs-total
-returns-then-inputs-total c = 
+returns-then-inputs-total c =
     let a = c.args in
     let w = a.week.now in
     let k = bounds.bounded a.from a.to c.in-At.first.0 (omega arith) (sym (ap later_of c.in-At.is) ∙ c.first_minute.ensures) in
@@ -40,7 +39,7 @@ returns-then-inputs-total c =
     answers.inputs_short _ _ _ _ (omega (arith, c.if-inputs-total.true)) _ c.refused-then-inputs-total.ensures
 
 pub returns-then-values-total : goal.returns-then-values-total
-returns-then-values-total c = 
+returns-then-values-total c =
     let a = c.args in
     let w = a.week.now in
     let k = bounds.bounded a.from a.to c.in-At.first.0 (omega arith) (sym (ap later_of c.in-At.is) ∙ c.first_minute.ensures) in
@@ -49,7 +48,7 @@ returns-then-values-total c =
     answers.values_short _ _ _ _ (omega (arith, c.if-values-total.true)) _ c.refused-then-values-total.ensures
 
 pub list_edges-requires : goal.list_edges-requires
-list_edges-requires c = 
+list_edges-requires c =
     let a = c.args in
     let w = a.week.now in
     let k = bounds.bounded a.from a.to c.in-At.first.0 (omega arith) (sym (ap later_of c.in-At.is) ∙ c.first_minute.ensures) in
@@ -68,7 +67,7 @@ list_edges-requires c =
     )
 
 pub returns : goal.returns
-returns c = 
+returns c =
     let a = c.args in
     let w = a.week.now in
     let k = bounds.bounded a.from a.to c.in-At.first.0 (omega arith) (sym (ap later_of c.in-At.is) ∙ c.first_minute.ensures) in

@@ -15,7 +15,7 @@ pub place-requires : goal.place-requires
 place-requires c = (c.requires.0.pops.size, c.requires.0.slot)
 
 pub fetch-entry-requires : goal.fetch-entry-requires
-fetch-entry-requires c = 
+fetch-entry-requires c =
     let a = c.args in
     let row = rows_of a.m.now a.running.me in
     let routine : c.number-routine.result ≡ row.routine = c.number-routine.ensures.0 ∙ c.routine.ensures in
@@ -23,7 +23,7 @@ fetch-entry-requires c =
     has_entry a.t.now c.requires.0.table _ (rw routine c.requires.0.routine) _ (rw (place, routine) c.requires.0.place)
 
 pub execute-requires : goal.execute-requires
-execute-requires c = 
+execute-requires c =
     let a = c.args in
     let row = rows_of a.m.now a.running.me in
     let routine : c.number-routine.result ≡ row.routine = c.number-routine.ensures.0 ∙ c.routine.ensures in

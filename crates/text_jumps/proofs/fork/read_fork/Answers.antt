@@ -39,7 +39,7 @@ overflow_add-sum c =
     omega (arith, c.well_formed)
 
 pub loop-b-smaller : goal.loop-b-smaller
-loop-b-smaller c = omega (arith, c.if-count-ge8.false)
+loop-b-smaller c = omega arith
 
 pub loop-b-preserved : goal.loop-b-preserved
 loop-b-preserved c =
@@ -50,7 +50,7 @@ loop-b-preserved c =
     let g = chain.figures_got s _ _ a.scope.names small v.invariant.within _ _ _ (sym c.in-Read.is ∙ c.figures_field.ensures) in
     let few : length (take a.scope.routines a.arguments.now) ≤ 64 = omega (arith, length-take a.scope.routines a.arguments.now, c.requires.1) in
     forks.fork_on _ _ s _ _ _ _ _ _ _ _ _ v.invariant _ _ _ g.0 g.1 g.2 g.4 _
-    (forks.call_there (take a.scope.routines a.arguments.now) few a.scope.names _ g.0 g.1 g.4 ∙ sym c.call_is_there.ensures) _ c.both-there.ensures c.if-count-ge8.false
+    (forks.call_there (take a.scope.routines a.arguments.now) few a.scope.names _ g.0 g.1 g.4 ∙ sym c.call_is_there.ensures) _ c.both-there.ensures (omega arith)
 
 pub returns-then-count-eq0 : goal.returns-then-count-eq0
 returns-then-count-eq0 c =

@@ -1,12 +1,12 @@
 -- The bytes of a piece, one after another.
 use mathlib.Core.Path.{◌≡◌, refl, sym, ap, ◌∙◌}
-use mathlib.Core.Bool.{Bool, true, false, cond, ◌&&◌}
+use mathlib.Core.Bool.{true, false, cond, ◌&&◌}
 use mathlib.Core.List.{List, [], ◌∷◌}
 use mathlib.Core.Option.{Option, none, some}
-use Prim.Native.Nat.{ℕ, zero, suc, ◌+◌, ◌-◌, ◌≤◌, ◌<◌}
+use Prim.Native.Nat.{ℕ, suc, ◌≤◌, ◌<◌}
 use native.Mathlib.Omega.{arith}
 use lib.Dec.{eqb, leb}
-use lib.ListN.{length, get_or, take, drop, drop_of_length-le}
+use lib.ListN.{length, get_or, drop, drop_of_length-le}
 use lib.Seq.{slice, drop-cons, take-length}
 use borrow.Author.Tests.{eq-eqb, ne_eqb}
 use Rattle.listing.specs.Lists.{is_some}
@@ -19,11 +19,8 @@ use Rattle.listing_effect.specs.Held.{as_effect}
 use Rattle.listing_effect.specs.declared.Effect.{Effect}
 use Rattle.listing_effect.specs.declared.Effect.TheVariants as EV
 use Rattle.text_piece.specs.Pieces.{as_piece, effect_in, as_figure}
-use Rattle.text_piece.specs.declared.figure.Figure.{Figure}
 use Rattle.text_piece.specs.declared.figure.Figure.TheVariants as FV
-use Rattle.explain_fields.specs.Reasons.{fine}
 use Rattle.explain_fields.specs.Pieces.{strange_in, why_bad, figure_why, weighed_by, weighed}
-use Rattle.explain_fields.specs.declared.piece.Told.{Told}
 
 -- the whole of a text as a part of it
 pub whole : (s : Bytes) → slice 0 (length s) s ≡ s

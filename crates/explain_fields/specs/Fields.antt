@@ -1,5 +1,5 @@
 -- Why a field is out of form: its first piece that is wrong, or that an expression leaves several values.
-use Rattle.std.specs.Prelude.{cond, List, [], ◌∷◌, ℕ, suc, ◌+◌, eqb, ltb}
+use Rattle.std.specs.Prelude.{cond, List, [], ◌∷◌, ℕ, ◌+◌, eqb, ltb}
 use Rattle.listing.specs.Bytes.{Bytes, space, split}
 use Rattle.listing.specs.Expressions.{read_piece}
 use Rattle.listing.specs.Form.{most_names_awaited}

@@ -1,7 +1,5 @@
 -- The reasons why a listing does not load, each a number with its sentence (document 01, "The listing", "Limits" and "The questions").
-use Rattle.std.specs.Prelude.{List, [], ◌∷◌, map, ℕ, get_or}
-use Prim.Native.String.{String}
-use Rattle.listing.specs.Bytes.{Bytes, bytes_of}
+use Rattle.std.specs.Prelude.{ℕ}
 
 -- nothing is wrong
 abbrev pub fine : ℕ

@@ -1,8 +1,8 @@
 -- The fields of a line, one after another.
-use mathlib.Core.Path.{◌≡◌, refl, sym, ap, ◌∙◌}
+use mathlib.Core.Path.{◌≡◌, sym, ap, ◌∙◌}
 use mathlib.Core.Bool.{Bool, true, false}
-use mathlib.Core.List.{List, [], ◌∷◌}
-use Prim.Native.Nat.{ℕ, zero, suc, ◌+◌, ◌-◌, ◌≤◌, ◌<◌}
+use mathlib.Core.List.{[], ◌∷◌}
+use Prim.Native.Nat.{ℕ, suc, ◌+◌, ◌-◌, ◌≤◌, ◌<◌}
 use native.Mathlib.Omega.{arith}
 use lib.Dec.{eqb}
 use lib.ListN.{length, get_or}
@@ -13,7 +13,7 @@ use Rattle.explain_parts.specs.Parts.{part_of}
 use Rattle.explain_fields.specs.Fields.{field_fault}
 use Rattle.explain_fields.specs.declared.field.Found.{Found}
 use Rattle.explain_lines.specs.Letters.{role_of, fits_letter, stands_why, count_why, letter_why}
-use Rattle.explain_lines.specs.Lines.{faultless, or_later, fault_in, fields_fault, line_fault}
+use Rattle.explain_lines.specs.Lines.{faultless, or_later, fields_fault, line_fault}
 use Rattle.explain_lines.specs.declared.line.Fault.{Fault}
 
 -- every line has a field

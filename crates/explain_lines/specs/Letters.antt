@@ -1,5 +1,5 @@
 -- The letters of the records and their fields (document 01, "The listing"), as reasons need them.
-use Rattle.std.specs.Prelude.{Bool, true, false, cond, ◌&&◌, ℕ, eqb, ltb, leb, length, get_or}
+use Rattle.std.specs.Prelude.{Bool, false, cond, ℕ, eqb, ltb, leb, length, get_or}
 use Prim.Native.Char.{code}
 use Rattle.listing.specs.Bytes.{Bytes, space}
 use Rattle.listing.specs.Form.{most_children}

@@ -1,17 +1,17 @@
 -- Bytes shown one after another. Letters: at the place of the first, r the place past the last.
 use mathlib.Core.Path.{◌≡◌, refl, sym, ap, ◌∙◌}
-use mathlib.Core.Bool.{Bool, true, false, cond, ◌&&◌}
-use mathlib.Core.List.{List, [], ◌∷◌, ◌++◌, append-nil, append_assoc}
-use Prim.Native.Nat.{ℕ, suc, ◌+◌, ◌*◌, ◌≤◌, ◌<◌, ◌/◌, ◌%◌}
+use mathlib.Core.Bool.{false, ◌&&◌}
+use mathlib.Core.List.{[], ◌∷◌, ◌++◌, append-nil, append_assoc}
+use Prim.Native.Nat.{ℕ, ◌+◌, ◌*◌, ◌≤◌, ◌<◌, ◌/◌, ◌%◌}
 use native.Mathlib.Omega.{arith}
 use native.Mathlib.Numerals.{add-one}
 use lib.Dec.{leb, ltb}
 use lib.ListN.{length, get_or, set, take}
 use lib.Seq.{take-suc, take_all}
-use borrow.Author.Tests.{eq-eqb, ne_eqb, le-leb, lt-leb, lt-ltb, le-ltb}
+use borrow.Author.Tests.{ne_eqb, le-leb, lt-leb, lt-ltb, le-ltb}
 use Rattle.listing.specs.Bytes.{Bytes}
 use Rattle.session_print.specs.Puts.{Puts}
-use Rattle.session_print.proofs.LineBytes.{same_bytes, then_bytes, one_byte}
+use Rattle.session_print.proofs.LineBytes.{same_bytes, then_bytes}
 use Rattle.explain_parts.specs.Shown.{hex_digit, hexed, escaped, escaped_all, dots, shown}
 
 -- ── a byte ───────────────────────────────────────────────────────────────────────

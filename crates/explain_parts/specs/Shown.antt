@@ -1,5 +1,5 @@
 -- Bytes as they are shown: none that a terminal would act on is left.
-use Rattle.std.specs.Prelude.{Bool, cond, ◌&&◌, List, [], ◌∷◌, ◌++◌, ℕ, ◌+◌, ◌-◌, ◌/◌, ◌%◌, eqb, ltb, leb, length, take}
+use Rattle.std.specs.Prelude.{Bool, cond, ◌&&◌, [], ◌∷◌, ◌++◌, ℕ, ◌+◌, ◌-◌, ◌/◌, ◌%◌, eqb, ltb, leb, length, take}
 use Prim.Native.Char.{code}
 use Rattle.listing.specs.Bytes.{Bytes, tab}
 

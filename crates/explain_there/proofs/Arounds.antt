@@ -12,7 +12,7 @@ use Rattle.text_piece.specs.Pieces.{as_figure, figure_answer}
 use Rattle.text_piece.specs.declared.figure.Figure.TheVariants as FV
 use Rattle.explain_parts.specs.Parts.{first_part_lem, part_end}
 use Rattle.explain_parts.proofs.Parts.{parts_on, parts_last, part_taken}
-use Rattle.explain_there.specs.Arounds.{Small, opened, instructed, around_line, around_all, nothing, around_of}
+use Rattle.explain_there.specs.Arounds.{Small, around_line, around_all, nothing, around_of}
 use Rattle.explain_there.specs.declared.around.Around.{Around}
 
 -- a figure's number stops at the cap

@@ -1,5 +1,5 @@
 -- What the lines of a listing in form tell around one of them, read off their letters: "Then come the routines, numbered from 0"; "`R|kinds|locals` opens one".
-use Rattle.std.specs.Prelude.{Bool, true, false, cond, List, [], ◌∷◌, ℕ, ◌+◌, ◌≤◌, eqb, leb, length, get_or}
+use Rattle.std.specs.Prelude.{true, false, cond, List, [], ◌∷◌, ℕ, ◌+◌, ◌≤◌, eqb, leb, length, get_or}
 use Prim.Native.Char.{code}
 use Rattle.listing.specs.Bytes.{Bytes, tab, line_feed, split}
 use Rattle.text_piece.specs.Pieces.{figure_answer}

@@ -1,5 +1,5 @@
 -- Why a line points to nothing (question 4, "Does every name, routine, jump and argument count point to something there?").
-use Rattle.std.specs.Prelude.{cond, ◌&&◌, List, [], ◌∷◌, ℕ, zero, suc, ◌+◌, ◌-◌, eqb, leb, length, get_or}
+use Rattle.std.specs.Prelude.{cond, List, [], ◌∷◌, ℕ, zero, suc, ◌+◌, ◌-◌, eqb, leb, length, get_or}
 use Prim.Native.Char.{code}
 use Rattle.listing.specs.Bytes.{Bytes, tab, space, split}
 use Rattle.text_piece.specs.Pieces.{piece_answer}

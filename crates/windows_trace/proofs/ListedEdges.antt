@@ -1,11 +1,10 @@
 -- What a call leaves in lists of 960 places, for a span of at most an hour: all inputs of it, or nothing if the schedule is turned away.
 use mathlib.Core.Path.{◌≡◌, refl, sym, ap, subst, ◌∙◌}
-use mathlib.Core.Bool.{Bool, true, false, ◌&&◌}
-use mathlib.Core.List.{List, [], ◌∷◌, ◌++◌, map}
+use mathlib.Core.Bool.{Bool, true}
+use mathlib.Core.List.{List, [], ◌++◌, map}
 use mathlib.Core.Option.{Option, none, some}
 use Prim.Native.Nat.{ℕ, ◌+◌, ◌≤◌}
 use native.Mathlib.Omega.{arith}
-use lib.Dec.{leb}
 use lib.ListN.{length, take, drop, length-map}
 use lib.Seq.{take-append_seam}
 use borrow.Author.Tests.{le-leb}
@@ -16,7 +15,7 @@ use Rattle.schedule.specs.Edges.{Edge, edges_in}
 use Rattle.schedule.specs.Sentence.{edges_of}
 use Rattle.schedule_laws.proofs.Places.{reading}
 use Rattle.schedule_laws.proofs.Sentence.{edges_of_lem}
-use Rattle.windows.specs.Call.{Outcome, refused, listed, long_enough, if_long_enough, of_schedule, windows_call, outcome_listed, list_after, ListedAs, WindowsFigures}
+use Rattle.windows.specs.Call.{refused, listed, long_enough, if_long_enough, of_schedule, windows_call, outcome_listed, list_after, ListedAs, WindowsFigures}
 use Rattle.windows.specs.declared.answer.Listed.{Listed}
 use Rattle.windows_trace.specs.Trace.{edges_read}
 use Rattle.windows_trace.proofs.FewEdges.{in_an_hour}

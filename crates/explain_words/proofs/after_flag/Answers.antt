@@ -1,5 +1,4 @@
 -- `explain_words::after_flag` meets its contract.
-use borrow.Author.Rules.{rules}
 use Rattle.explain_words.proofs.after_flag.Goals as goal
 
 pub returns-in-Word : goal.returns-in-Word

@@ -2,7 +2,6 @@
 use mathlib.Core.Path.{◌∙◌}
 use native.Mathlib.Omega.{arith}
 use Rattle.explain_words.proofs.Flags.{other_length, other_first, by_second}
-use borrow.Author.Rules.{rules}
 use Rattle.explain_words.proofs.flag_of.Goals as goal
 
 pub returns-then-word-ne2 : goal.returns-then-word-ne2

@@ -1,7 +1,6 @@
 -- `explain_words::held_after` meets its contract.
 use mathlib.Core.Path.{◌∙◌, ap}
 use Rattle.explain_words.specs.Words.{after_flag}
-use borrow.Author.Rules.{rules}
 use Rattle.explain_words.proofs.held_after.Goals as goal
 
 pub returns-in-Word : goal.returns-in-Word

@@ -18,7 +18,7 @@ loop-done-preserved c =
       omega arith,
       elim c.if-run-ne0.branch [ then-run-ne0 w ↦ omega arith | else-run-ne0 w ↦ omega arith ],
       elim c.if-run-ne0.branch [
-          then-run-ne0 w ↦ case_fails r.next h r.counts i.4 w.if-run-ne0.true w.failed-is
+        | then-run-ne0 w ↦ case_fails r.next h r.counts i.4 w.if-run-ne0.true w.failed-is
         | else-run-ne0 w ↦ case_agrees r.next h r.counts i.4 w.if-run-ne0.false w.failed-is
       ],
     )

@@ -22,7 +22,7 @@ loop-done-preserved c =
       r.auto.machine ∙ i.4,
       r.auto.kept ∙ i.5,
       elim c.if-not-run_item.branch [
-          then-not-run_item w ↦ one_fails c.after_item-at.ensures (omega arith) i.6 (told_of i.3 w.if-not-run_item.true r.ensures.1) (omega arith)
+        | then-not-run_item w ↦ one_fails c.after_item-at.ensures (omega arith) i.6 (told_of i.3 w.if-not-run_item.true r.ensures.1) (omega arith)
         | else-not-run_item w ↦ one_agrees c.after_item-at.ensures (omega arith) i.6 (told_of i.3 w.if-not-run_item.false r.ensures.1) w.failed-is
       ],
     )

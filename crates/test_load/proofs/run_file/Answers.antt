@@ -22,7 +22,7 @@ loop-done-preserved c =
       r.auto.table ∙ v.4,
       r.auto.other ∙ v.5,
       elim c.if-not-run_case.branch [
-          then-not-run_case w ↦ one_fails c.loop-done.failed w.failed-is
+        | then-not-run_case w ↦ one_fails c.loop-done.failed w.failed-is
         | else-not-run_case w ↦ one_agrees case.result case.ensures (ap (λ (n : ℕ). leb 12288 n) v.4) (r.ensures.tells.means w.if-not-run_case.false).first more w.failed-is v.6
       ],
     )

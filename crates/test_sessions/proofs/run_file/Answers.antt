@@ -25,7 +25,7 @@ loop-done-preserved c =
       elim c.if-not-run_case.branch [ then-not-run_case w ↦ omega arith | else-not-run_case w ↦ omega arith ],
       record { table_is = r.1.table_is ∙ i.4.table_is; machine_is_lem = r.1.machine_is_lem ∙ i.4.machine_is_lem; out_is = r.1.out_is ∙ i.4.out_is },
       elim c.if-not-run_case.branch [
-          then-not-run_case w ↦ one_fails case.result case.ensures.0 c.loop-done-test.true i.5 (λ a. never (sym w.if-not-run_case.true ∙ r.0.whenever a)) w.failed-is
+        | then-not-run_case w ↦ one_fails case.result case.ensures.0 c.loop-done-test.true i.5 (λ a. never (sym w.if-not-run_case.true ∙ r.0.whenever a)) w.failed-is
         | else-not-run_case w ↦ one_agrees case.result case.ensures.0 c.loop-done-test.true i.5 (r.0.means w.if-not-run_case.false) w.failed-is
       ],
     )

@@ -27,7 +27,7 @@ loop-done-preserved c =
       omega arith,
       elim c.if-not-run_case.branch [ then-not-run_case w ↦ omega arith | else-not-run_case w ↦ omega arith ],
       elim c.if-not-run_case.branch [
-          then-not-run_case w ↦ one_fails c.loop-done.failed (omega arith)
+        | then-not-run_case w ↦ one_fails c.loop-done.failed (omega arith)
         | else-not-run_case w ↦ one_agrees case.result case.ensures (c.run_case.ensures.means w.if-not-run_case.false) more w.failed-is v.4
       ],
     )

@@ -1,7 +1,6 @@
 -- `explain_fields::field::ended_why` meets its contract.
 use borrow.Author.Tests.{eq-eqb, ne_eqb}
 use Rattle.explain_fields.specs.Fields.{ended_why}
-use borrow.Author.Rules.{rules}
 use Rattle.explain_fields.proofs.field.ended_why.Goals as goal
 
 pub returns-then-held-eq1 : goal.returns-then-held-eq1

@@ -1,8 +1,6 @@
 use Prim.Native.Nat.{◌-◌}
-use native.Mathlib.Omega.{arith}
 use lib.ListN.{length}
-use Rattle.explain_fields.proofs.Fields.{Walking, walking_begun, found_here, ended_here, walking_on}
-use borrow.Author.Rules.{rules}
+use Rattle.explain_fields.proofs.Fields.{Walking}
 use Rattle.explain_fields.proofs.field.field_fault.Given as goal
 
 abbrev pub invariant-loop-role : goal.invariant-loop-role

@@ -1,7 +1,6 @@
 -- `explain_fields::field::told` meets its contract.
 use mathlib.Core.Path.{◌∙◌, ap}
 use Rattle.explain_fields.specs.Fields.{told_of_lem, up_to}
-use borrow.Author.Rules.{rules}
 use Rattle.explain_fields.proofs.field.told.Goals as goal
 
 pub returns-in-Number : goal.returns-in-Number

@@ -1,7 +1,6 @@
 -- `explain_fields::field::up_to` meets its contract.
 use borrow.Author.Tests.{lt-ltb, le-ltb}
 use Rattle.explain_fields.specs.Fields.{up_to}
-use borrow.Author.Rules.{rules}
 use Rattle.explain_fields.proofs.field.up_to.Goals as goal
 
 pub returns-then-held-most : goal.returns-then-held-most

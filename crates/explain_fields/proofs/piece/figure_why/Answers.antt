@@ -2,7 +2,6 @@
 use mathlib.Core.Path.{◌∙◌, sym, ap}
 use Rattle.text_piece.specs.Pieces.{figure_answer}
 use Rattle.explain_fields.proofs.Pieces.{whole, is_figure_lem, no_figure}
-use borrow.Author.Rules.{rules}
 use Rattle.explain_fields.proofs.piece.figure_why.Goals as goal
 
 pub returns-in-Value : goal.returns-in-Value

@@ -1,13 +1,9 @@
 use Prim.Native.Nat.{◌≤◌, ◌-◌}
-use mathlib.Core.Path.{◌≡◌, sym, ◌∙◌}
-use native.Mathlib.Omega.{arith}
-use native.Mathlib.Numerals.{add-one}
+use mathlib.Core.Path.{◌≡◌}
 use lib.ListN.{length, drop}
 use Rattle.listing.specs.Lists.{is_some}
 use Rattle.listing.specs.Expressions.{each}
 use Rattle.listing.specs.Form.{read_kind, read_kinds}
-use Rattle.explain_fields.proofs.Pieces as pieces
-use borrow.Author.Rules.{rules}
 use Rattle.explain_fields.proofs.piece.is_kinds.Given as goal
 
 abbrev pub invariant-loop-i : goal.invariant-loop-i

@@ -1,7 +1,6 @@
 -- `explain_fields::piece::kinds_why` meets its contract.
 use mathlib.Core.Path.{◌∙◌, sym}
 use Rattle.explain_fields.specs.Pieces.{kinds_why}
-use borrow.Author.Rules.{rules}
 use Rattle.explain_fields.proofs.piece.kinds_why.Goals as goal
 
 pub returns-then-is_kinds : goal.returns-then-is_kinds

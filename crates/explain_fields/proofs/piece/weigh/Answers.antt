@@ -6,7 +6,6 @@ use Rattle.text_piece.specs.Pieces.{effect_in}
 use Rattle.listing.specs.Expressions.{may_come, held_with}
 use Rattle.explain_fields.specs.Pieces.{weighed_by}
 use Rattle.explain_fields.proofs.Pieces.{adds_one, joins_two, no_piece_lem}
-use borrow.Author.Rules.{rules}
 use Rattle.explain_fields.proofs.piece.weigh.Goals as goal
 
 pub returns-then-held-lt-MOST_HELD : goal.returns-then-held-lt-MOST_HELD

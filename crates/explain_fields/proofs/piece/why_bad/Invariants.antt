@@ -1,12 +1,7 @@
 use Prim.Native.Nat.{◌≤◌, ◌-◌}
-use mathlib.Core.Path.{◌≡◌, sym, ◌∙◌}
-use native.Mathlib.Omega.{arith}
-use native.Mathlib.Numerals.{add-one}
+use mathlib.Core.Path.{◌≡◌}
 use lib.ListN.{length, drop}
-use borrow.Author.Tests.{eq-eqb, ne_eqb, le-leb, lt-leb}
 use Rattle.explain_fields.specs.Pieces.{strange_in, why_bad}
-use Rattle.explain_fields.proofs.Pieces as pieces
-use borrow.Author.Rules.{rules}
 use Rattle.explain_fields.proofs.piece.why_bad.Given as goal
 
 abbrev pub invariant-loop-i : goal.invariant-loop-i

@@ -41,6 +41,6 @@ returns-in-69 c = rw c.in-69.is
 
 pub returns-in_default : goal.returns-in_default
 unfolding fields_after
-returns-in_default c = 
+returns-in_default c =
     let r = c.in_default.in_default-own.rest in
     rw (ne_eqb _ 80 r.0.0.0.0.0.0.0.0.1, ne_eqb _ 82 r.0.0.0.0.0.0.0.1, ne_eqb _ 83 r.0.0.0.0.0.0.1, ne_eqb _ 65 r.0.0.0.0.0.1, ne_eqb _ 85 r.0.0.0.0.1, ne_eqb _ 71 r.0.0.0.1, ne_eqb _ 87 r.0.0.1, ne_eqb _ 70 r.0.1, ne_eqb _ 69 r.1)

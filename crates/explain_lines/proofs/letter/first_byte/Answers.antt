@@ -4,7 +4,6 @@ use mathlib.Core.List.{List, [], ◌∷◌}
 use Prim.Native.Nat.{ℕ}
 use native.Mathlib.Omega.{arith}
 use lib.ListN.{length, get_or}
-use borrow.Author.Rules.{rules}
 use Rattle.explain_lines.proofs.letter.first_byte.Goals as goal
 
 none_first : (s : List ℕ) → length s ≡ 0 → 0 ≡ get_or s 0 0

@@ -1,7 +1,6 @@
 -- `explain_lines::letter::fits_letter` meets its contract.
 use borrow.Author.Tests.{eq-eqb, ne_eqb}
 use Rattle.explain_lines.specs.Letters.{fits_letter}
-use borrow.Author.Rules.{rules}
 use Rattle.explain_lines.proofs.letter.fits_letter.Goals as goal
 
 pub returns-then-count-eq0 : goal.returns-then-count-eq0

@@ -1,7 +1,6 @@
 -- `explain_lines::letter::role_of` meets its contract.
 use borrow.Author.Tests.{eq-eqb, ne_eqb}
 use Rattle.explain_lines.specs.Letters.{role_of}
-use borrow.Author.Rules.{rules}
 use Rattle.explain_lines.proofs.letter.role_of.Goals as goal
 
 pub returns-then-letter-eq87 : goal.returns-then-letter-eq87

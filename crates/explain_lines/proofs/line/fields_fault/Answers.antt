@@ -1,10 +1,8 @@
 -- `explain_lines::line::fields_fault` meets its contract.
-use Prim.Native.Nat.{◌+◌, ◌-◌}
 use mathlib.Core.Path.{◌∙◌}
 use native.Mathlib.Omega.{arith}
 use Rattle.explain_parts.proofs.Parts.{part_size}
-use Rattle.explain_lines.proofs.Lines.{Looking, looking_begun, looked_through, wrong_here, looking_on}
-use borrow.Author.Rules.{rules}
+use Rattle.explain_lines.proofs.Lines.{looking_begun, looked_through, wrong_here, looking_on}
 use Rattle.explain_lines.proofs.line.fields_fault.Goals as goal
 
 pub loop-number-init : goal.loop-number-init

@@ -8,7 +8,6 @@ use Rattle.listing.specs.Bytes.{split}
 use Rattle.explain_parts.specs.Parts.{part_of}
 use Rattle.explain_lines.specs.Letters.{letter_why, fits_letter}
 use Rattle.explain_lines.proofs.Lines as lines
-use borrow.Author.Rules.{rules}
 use Rattle.explain_lines.proofs.line.line_fault.Goals as goal
 
 pub slice_bounds-letter_why-count : goal.slice_bounds-letter_why-count
@@ -21,12 +20,12 @@ pub overflow_sub-count : goal.overflow_sub-count
 overflow_sub-count c = let s = c.args.line.now in omega (arith, c.count_parts-count.ensures, lines.some_field 9 s)
 
 pub fields_fault-fault-requires : goal.fields_fault-fault-requires
-fields_fault-fault-requires c = 
+fields_fault-fault-requires c =
     let s = c.args.line.now in
     (c.requires, omega (arith, c.count_parts-count.ensures, lines.few_fields 9 s, c.requires))
 
 pub returns-then-fault-ne-FINE : goal.returns-then-fault-ne-FINE
-returns-then-fault-ne-FINE c = 
+returns-then-fault-ne-FINE c =
     let s = c.args.line.now in
     let fine : letter_why (part_of 9 s 0) ≡ 0 = sym (c.letter_why-letter_reason.ensures ∙ ap letter_why c.part_after-first.ensures.is) ∙ c.if-letter_reason-ne-FINE.false in
     let fits : fits_letter (get_or s 0 0) (length (split 9 s) - 1) ≡ true =
@@ -34,7 +33,7 @@ returns-then-fault-ne-FINE c =
     lines.field_wrong _ s fine _ (c.fields_fault-fault.ensures ∙ rw (c.first_byte-letter.ensures, c.count_parts-count.ensures)) fits c.if-fault-ne-FINE.true
 
 pub returns-then-fits_letter : goal.returns-then-fits_letter
-returns-then-fits_letter c = 
+returns-then-fits_letter c =
     let s = c.args.line.now in
     let fine : letter_why (part_of 9 s 0) ≡ 0 = sym (c.letter_why-letter_reason.ensures ∙ ap letter_why c.part_after-first.ensures.is) ∙ c.if-letter_reason-ne-FINE.false in
     let fits : fits_letter (get_or s 0 0) (length (split 9 s) - 1) ≡ true =
@@ -42,7 +41,7 @@ returns-then-fits_letter c =
     rw (c.stands_why.ensures, c.first_byte-letter.ensures) (lines.all_fine _ s fine _ (c.fields_fault-fault.ensures ∙ rw (c.first_byte-letter.ensures, c.count_parts-count.ensures)) fits c.if-fault-ne-FINE.false)
 
 pub returns : goal.returns
-returns c = 
+returns c =
     let s = c.args.line.now in
     let fine : letter_why (part_of 9 s 0) ≡ 0 = sym (c.letter_why-letter_reason.ensures ∙ ap letter_why c.part_after-first.ensures.is) ∙ c.if-letter_reason-ne-FINE.false in
     let fits : fits_letter (get_or s 0 0) (length (split 9 s) - 1) ≡ false =

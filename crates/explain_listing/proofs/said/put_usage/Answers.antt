@@ -7,7 +7,6 @@ use Rattle.session_print.proofs.LineBytes as line
 use Rattle.session_print.proofs.ListedWrites.{still_long}
 use Rattle.explain_listing.specs.Said.{opening, rules}
 use Rattle.explain_listing.proofs.Sayings.{ruling_begun, ruling_on}
-use borrow.Author.Rules.{rules}
 use Rattle.explain_listing.proofs.said.put_usage.Goals as goal
 
 pub loop-done-init : goal.loop-done-init

@@ -1,8 +1,6 @@
 use Prim.Native.Nat.{◌-◌}
 use lib.ListN.{length}
-use mathlib.Core.Logic.{⊎_elim}
-use Rattle.explain_parts.proofs.Parts.{Counting, counting_begun, counted_one, counted_none, counted_all}
-use borrow.Author.Rules.{rules}
+use Rattle.explain_parts.proofs.Parts.{Counting}
 use Rattle.explain_parts.proofs.part.count_parts.Given as goal
 
 abbrev pub invariant-loop-i : goal.invariant-loop-i

@@ -1,6 +1,4 @@
-use native.Mathlib.Omega.{arith}
-use borrow.Author.Rules.{rules}
-use Rattle.explain_parts.proofs.Parts.{Seeking, begins, turn, missing, found}
+use Rattle.explain_parts.proofs.Parts.{Seeking}
 use Rattle.explain_parts.proofs.part.part_after.Given as goal
 
 abbrev pub invariant-loop-left : goal.invariant-loop-left

@@ -1,5 +1,5 @@
 -- `explain_parts::part_end` meets its contract.
-use Prim.Native.Nat.{ℕ, suc, ◌≤◌, ◌-◌}
+use Prim.Native.Nat.{ℕ, suc}
 use mathlib.Core.Path.{◌≡◌, ap}
 use mathlib.Core.Bool.{Bool}
 use mathlib.Core.List.{[], ◌∷◌}
@@ -7,15 +7,13 @@ use native.Mathlib.Omega.{arith}
 use native.Mathlib.Numerals.{add-one}
 use lib.ListN.{length, drop, get_or}
 use borrow.Author.Tests.{eq-eqb, ne_eqb}
-use borrow.Author.Rules.{rules}
 use lib.Dec.{eqb}
 use Rattle.text_place.specs.Texts.{before}
-use Rattle.explain_parts.specs.Parts.{part_end}
 use Rattle.text_place.proofs.Texts as texts
 use Rattle.explain_parts.proofs.part.part_end.Goals as goal
 
 pub returns-then-s-i : goal.returns-then-s-i
-returns-then-s-i c = 
+returns-then-s-i c =
     let v = c.loop-i in
     let s = c.args.s.now in
     let q = c.args.separator in
@@ -24,7 +22,7 @@ returns-then-s-i c =
     (omega (arith, ap length e, v.invariant.2), v.invariant.0, v.invariant.1)
 
 pub loop-i-preserved : goal.loop-i-preserved
-loop-i-preserved c = 
+loop-i-preserved c =
     let v = c.loop-i in
     let s = c.args.s.now in
     let q = c.args.separator in
@@ -33,7 +31,7 @@ loop-i-preserved c =
     (omega (arith, v.invariant.0), omega (arith, c.loop-i-test.true), simp add-one (omega (arith, ap length e, v.invariant.2)))
 
 pub returns : goal.returns
-returns c = 
+returns c =
     let v = c.loop-i in
     let s = c.args.s.now in
     let q = c.args.separator in

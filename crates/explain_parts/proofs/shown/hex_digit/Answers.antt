@@ -1,7 +1,6 @@
 -- `explain_parts::shown::hex_digit` meets its contract.
 use borrow.Author.Tests.{lt-ltb, le-ltb}
 use Rattle.explain_parts.specs.Shown.{hex_digit}
-use borrow.Author.Rules.{rules}
 use Rattle.explain_parts.proofs.shown.hex_digit.Goals as goal
 
 pub returns-then-d-lt10 : goal.returns-then-d-lt10

@@ -2,7 +2,6 @@
 use native.Mathlib.Omega.{arith}
 use Rattle.session_print.proofs.LineBytes as line
 use Rattle.explain_parts.proofs.Showing as showing
-use borrow.Author.Rules.{rules}
 use Rattle.explain_parts.proofs.shown.put_escaped.Goals as goal
 
 pub returns-then-b-eq9 : goal.returns-then-b-eq9

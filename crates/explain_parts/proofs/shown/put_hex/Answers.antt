@@ -1,6 +1,5 @@
 -- `explain_parts::shown::put_hex` meets its contract.
 use Rattle.explain_parts.proofs.Showing.{hex_put}
-use borrow.Author.Rules.{rules}
 use Rattle.explain_parts.proofs.shown.put_hex.Goals as goal
 
 pub returns : goal.returns

@@ -1,10 +1,7 @@
 -- `explain_parts::shown::put_shown` meets its contract.
-use Prim.Native.Nat.{◌-◌}
 use native.Mathlib.Omega.{arith}
-use lib.ListN.{length}
 use Rattle.session_print.proofs.ListedWrites.{still_long}
-use Rattle.explain_parts.proofs.Showing.{Showing, showing_begun, showing_on, shown_cut, shown_whole}
-use borrow.Author.Rules.{rules}
+use Rattle.explain_parts.proofs.Showing.{showing_begun, showing_on, shown_cut, shown_whole}
 use Rattle.explain_parts.proofs.shown.put_shown.Goals as goal
 
 pub loop-k-init : goal.loop-k-init
@@ -17,12 +14,12 @@ pub overflow_add-result : goal.overflow_add-result
 overflow_add-result c = let v = c.loop-k.invariant in record { fits = omega (arith, v.few, v.up_to, c.requires.0, c.requires.1) }
 
 pub shape_of-out-then-k-most : goal.shape_of-out-then-k-most
-shape_of-out-then-k-most c = 
+shape_of-out-then-k-most c =
     let v = c.loop-k in
     still_long (shown_cut v.invariant c.loop-k-test.true c.if-k-most.true c.put_byte.ensures c.put_byte-then-k-most.ensures).0
 
 pub returns-then-k-most : goal.returns-then-k-most
-returns-then-k-most c = 
+returns-then-k-most c =
     let v = c.loop-k in
     shown_cut v.invariant c.loop-k-test.true c.if-k-most.true c.put_byte.ensures c.put_byte-then-k-most.ensures
 

@@ -1,7 +1,6 @@
 -- `explain_reasons::reason::ending_why` meets its contract.
 use borrow.Author.Tests.{eq-eqb, ne_eqb}
 use Rattle.explain_reasons.specs.Faults.{ending_why}
-use borrow.Author.Rules.{rules}
 use Rattle.explain_reasons.proofs.reason.ending_why.Goals as goal
 
 pub returns-then-first_byte-eq82 : goal.returns-then-first_byte-eq82

@@ -1,7 +1,6 @@
 -- `explain_reasons::reason::form_fault` meets its contract.
 use borrow.Author.Tests.{le-leb, lt-leb}
 use Rattle.explain_reasons.specs.Faults.{form_fault}
-use borrow.Author.Rules.{rules}
 use Rattle.explain_reasons.proofs.reason.form_fault.Goals as goal
 
 pub returns-then-count_parts-place : goal.returns-then-count_parts-place

@@ -1,7 +1,6 @@
 -- `explain_reasons::reason::reason_at` meets its contract.
 use borrow.Author.Tests.{ne_eqb}
 use Rattle.explain_reasons.specs.Faults.{fault_at}
-use borrow.Author.Rules.{rules}
 use Rattle.explain_reasons.proofs.reason.reason_at.Goals as goal
 
 pub returns-in-2 : goal.returns-in-2

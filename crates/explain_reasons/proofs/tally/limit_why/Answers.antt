@@ -1,7 +1,6 @@
 -- `explain_reasons::tally::limit_why` meets its contract.
 use mathlib.Core.Path.{ap, ◌∙◌}
 use Rattle.explain_reasons.specs.Tallies.{limit_of}
-use borrow.Author.Rules.{rules}
 use Rattle.explain_reasons.proofs.tally.limit_why.Goals as goal
 
 pub returns : goal.returns

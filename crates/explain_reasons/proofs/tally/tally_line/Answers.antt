@@ -3,7 +3,6 @@ use native.Mathlib.Omega.{arith}
 use borrow.Author.Tests.{eq-eqb, ne_eqb}
 use Rattle.explain_lines.proofs.Lines.{some_field, few_fields}
 use Rattle.explain_reasons.specs.Tallies.{tally_line}
-use borrow.Author.Rules.{rules}
 use Rattle.explain_reasons.proofs.tally.tally_line.Goals as goal
 
 pub returns-then-letter-eq80 : goal.returns-then-letter-eq80
@@ -24,7 +23,7 @@ pub overflow_sub-result-2 : goal.overflow_sub-result-2
 overflow_sub-result-2 c = omega (arith, c.count_parts-2.ensures, some_field 32 c.args.line.now)
 
 pub overflow_add-result-4 : goal.overflow_add-result-4
-overflow_add-result-4 c = 
+overflow_add-result-4 c =
     let s = c.args.line.now in
     record { fits = omega (arith, c.count_parts.ensures, c.count_parts-2.ensures, few_fields 9 s, few_fields 32 s, c.requires.0.pieces, c.requires.1) }
 

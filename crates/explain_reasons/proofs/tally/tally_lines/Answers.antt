@@ -1,7 +1,6 @@
 -- `explain_reasons::tally::tally_lines` meets its contract.
 use native.Mathlib.Omega.{arith}
-use Rattle.explain_reasons.proofs.Tallies.{Tallying, tallying_begun, bounded_small, all_tallied, tallied_last, tallying_on, part_long}
-use borrow.Author.Rules.{rules}
+use Rattle.explain_reasons.proofs.Tallies.{tallying_begun, bounded_small, all_tallied, tallied_last, tallying_on, part_long}
 use Rattle.explain_reasons.proofs.tally.tally_lines.Goals as goal
 
 pub loop-left-init : goal.loop-left-init
@@ -11,7 +10,7 @@ pub part_end-end-requires : goal.part_end-end-requires
 part_end-end-requires c = c.loop-left.invariant.inside
 
 pub tally_line-held-requires : goal.tally_line-held-requires
-tally_line-held-requires c = 
+tally_line-held-requires c =
     let v = c.loop-left.invariant in
     (bounded_small _ v.bounded (omega (arith, v.inside, c.requires)), part_long _ _ _ c.part_end-end.ensures.1 c.part_end-end.ensures.2 c.requires)
 

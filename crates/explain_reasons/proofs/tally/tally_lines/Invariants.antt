@@ -1,6 +1,4 @@
-use native.Mathlib.Omega.{arith}
-use Rattle.explain_reasons.proofs.Tallies.{Tallying, tallying_begun, bounded_small, all_tallied, tallied_last, tallying_on, part_long}
-use borrow.Author.Rules.{rules}
+use Rattle.explain_reasons.proofs.Tallies.{Tallying}
 use Rattle.explain_reasons.proofs.tally.tally_lines.Given as goal
 
 abbrev pub invariant-loop-left : goal.invariant-loop-left

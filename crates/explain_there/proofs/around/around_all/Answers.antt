@@ -1,9 +1,6 @@
 -- `explain_there::around::around_all` meets its contract.
-use Prim.Native.Nat.{◌-◌}
 use native.Mathlib.Omega.{arith}
-use lib.ListN.{length}
-use Rattle.explain_there.proofs.Arounds.{Telling, telling_begun, bounded_small, told_all, telling_on}
-use borrow.Author.Rules.{rules}
+use Rattle.explain_there.proofs.Arounds.{telling_begun, bounded_small, told_all, telling_on}
 use Rattle.explain_there.proofs.around.around_all.Goals as goal
 
 pub loop-held-init : goal.loop-held-init

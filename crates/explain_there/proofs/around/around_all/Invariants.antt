@@ -1,8 +1,6 @@
 use Prim.Native.Nat.{◌-◌}
-use native.Mathlib.Omega.{arith}
 use lib.ListN.{length}
-use Rattle.explain_there.proofs.Arounds.{Telling, telling_begun, bounded_small, told_all, telling_on}
-use borrow.Author.Rules.{rules}
+use Rattle.explain_there.proofs.Arounds.{Telling}
 use Rattle.explain_there.proofs.around.around_all.Given as goal
 
 abbrev pub invariant-loop-held : goal.invariant-loop-held

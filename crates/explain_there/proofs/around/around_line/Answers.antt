@@ -1,7 +1,6 @@
 -- `explain_there::around::around_line` meets its contract.
 use borrow.Author.Tests.{eq-eqb, ne_eqb, le-leb, lt-leb}
 use Rattle.explain_there.specs.Arounds.{around_line}
-use borrow.Author.Rules.{rules}
 use Rattle.explain_there.proofs.around.around_line.Goals as goal
 
 pub returns-then-place-held : goal.returns-then-place-held

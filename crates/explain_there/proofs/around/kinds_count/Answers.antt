@@ -2,7 +2,6 @@
 use native.Mathlib.Omega.{arith}
 use borrow.Author.Tests.{eq-eqb, ne_eqb}
 use Rattle.explain_there.specs.Arounds.{kinds_count}
-use borrow.Author.Rules.{rules}
 use Rattle.explain_there.proofs.around.kinds_count.Goals as goal
 
 pub returns-then-first_byte-eq45 : goal.returns-then-first_byte-eq45

@@ -4,7 +4,6 @@ use Prim.Native.Nat.{ℕ}
 use mathlib.Core.List.{List}
 use Rattle.text_piece.specs.Pieces.{figure_answer}
 use Rattle.explain_there.specs.Arounds.{value_in}
-use borrow.Author.Rules.{rules}
 use Rattle.explain_there.proofs.around.locals_on.Goals as goal
 
 pub returns : goal.returns

@@ -1,7 +1,6 @@
 -- `explain_there::around::scope_at` meets its contract.
 use native.Mathlib.Omega.{arith}
 use Rattle.explain_parts.proofs.Parts.{part_size}
-use borrow.Author.Rules.{rules}
 use Rattle.explain_there.proofs.around.scope_at.Goals as goal
 
 pub names_on-requires : goal.names_on-requires

@@ -1,5 +1,4 @@
 -- `explain_there::there::allowed_at` meets its contract.
-use borrow.Author.Rules.{rules}
 use Rattle.explain_there.proofs.there.allowed_at.Goals as goal
 
 pub returns : goal.returns

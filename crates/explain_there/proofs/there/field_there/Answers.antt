@@ -1,9 +1,6 @@
 -- `explain_there::there::field_there` meets its contract.
-use Prim.Native.Nat.{◌-◌}
 use native.Mathlib.Omega.{arith}
-use lib.ListN.{length}
-use Rattle.explain_there.proofs.Pointing.{Pointing, pointing_begun, missing_here, all_there, pointing_on}
-use borrow.Author.Rules.{rules}
+use Rattle.explain_there.proofs.Pointing.{pointing_begun, missing_here, all_there, pointing_on}
 use Rattle.explain_there.proofs.there.field_there.Goals as goal
 
 pub loop-scope-init : goal.loop-scope-init

@@ -1,8 +1,6 @@
 use Prim.Native.Nat.{◌-◌}
-use native.Mathlib.Omega.{arith}
 use lib.ListN.{length}
-use Rattle.explain_there.proofs.Pointing.{Pointing, pointing_begun, missing_here, all_there, pointing_on}
-use borrow.Author.Rules.{rules}
+use Rattle.explain_there.proofs.Pointing.{Pointing}
 use Rattle.explain_there.proofs.there.field_there.Given as goal
 
 abbrev pub invariant-loop-scope : goal.invariant-loop-scope

@@ -1,10 +1,8 @@
 -- `explain_there::there::fields_there` meets its contract.
-use Prim.Native.Nat.{◌+◌, ◌-◌}
 use mathlib.Core.Path.{◌∙◌}
 use native.Mathlib.Omega.{arith}
 use Rattle.explain_parts.proofs.Parts.{part_size}
-use Rattle.explain_there.proofs.Pointing.{Looking, looking_begun, looked_through, wrong_here, looking_on}
-use borrow.Author.Rules.{rules}
+use Rattle.explain_there.proofs.Pointing.{looking_begun, looked_through, wrong_here, looking_on}
 use Rattle.explain_there.proofs.there.fields_there.Goals as goal
 
 pub loop-number-init : goal.loop-number-init

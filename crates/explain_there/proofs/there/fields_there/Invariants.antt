@@ -1,9 +1,5 @@
 use Prim.Native.Nat.{◌+◌, ◌-◌}
-use mathlib.Core.Path.{◌∙◌}
-use native.Mathlib.Omega.{arith}
-use Rattle.explain_parts.proofs.Parts.{part_size}
-use Rattle.explain_there.proofs.Pointing.{Looking, looking_begun, looked_through, wrong_here, looking_on}
-use borrow.Author.Rules.{rules}
+use Rattle.explain_there.proofs.Pointing.{Looking}
 use Rattle.explain_there.proofs.there.fields_there.Given as goal
 
 abbrev pub invariant-loop-number : goal.invariant-loop-number

@@ -1,5 +1,4 @@
 -- `explain_there::there::is_below` meets its contract.
-use borrow.Author.Rules.{rules}
 use Rattle.explain_there.proofs.there.is_below.Goals as goal
 
 pub returns-in-Value : goal.returns-in-Value

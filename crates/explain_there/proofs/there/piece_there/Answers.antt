@@ -3,7 +3,6 @@ use mathlib.Core.Path.{ap, ◌∙◌}
 use Rattle.text_piece.specs.Pieces.{piece_answer}
 use Rattle.text_fields.specs.Gather.{is_there_by}
 use Rattle.explain_fields.proofs.Pieces.{whole}
-use borrow.Author.Rules.{rules}
 use Rattle.explain_there.proofs.there.piece_there.Goals as goal
 
 pub returns : goal.returns

@@ -3,7 +3,6 @@ use native.Mathlib.Omega.{arith}
 use borrow.Author.Tests.{eq-eqb, ne_eqb, le-leb, lt-leb}
 use Rattle.explain_lines.proofs.Lines.{some_field, few_fields}
 use Rattle.explain_there.specs.There.{there_fault}
-use borrow.Author.Rules.{rules}
 use Rattle.explain_there.proofs.there.there_fault.Goals as goal
 
 pub returns-then-place-le1 : goal.returns-then-place-le1

@@ -2,11 +2,10 @@
 use native.Mathlib.Omega.{arith}
 use Rattle.session_print.proofs.LineBytes as line
 use Rattle.windows_trace.proofs.PutLines.{input_line_is}
-use borrow.Author.Rules.{rules}
 use Rattle.windows_trace.proofs.lines.put_input_line.Goals as goal
 
 pub returns : goal.returns
-returns c = 
+returns c =
     let second = c.put_field-c in
     let letter = c.put_letter-a.ensures in
     let a = c.args in (

@@ -1,8 +1,6 @@
 -- `windows_trace::put_input_lines` meets its contract.
 use mathlib.Core.Path.{ap}
-use Prim.Native.Nat.{◌-◌}
 use native.Mathlib.Omega.{arith}
-use borrow.Author.Rules.{rules}
 use Rattle.session_print.proofs.LineBytes as line
 use Rattle.session_print.proofs.ListedWrites.{still_long, ends}
 use Rattle.windows_trace.specs.Trace.{trace_lines}
@@ -13,7 +11,7 @@ pub loop-k-init : goal.loop-k-init
 loop-k-init c = put.putting_begun _ _ _ _ _
 
 pub loop-k-preserved : goal.loop-k-preserved
-loop-k-preserved c = 
+loop-k-preserved c =
     let v = c.loop-k in
     let l = c.loop-k-test.true in
     let pre = c.requires in
@@ -24,7 +22,7 @@ pub shape_of-out : goal.shape_of-out
 shape_of-out c = still_long c.loop-k.invariant.puts
 
 pub returns : goal.returns
-returns c = 
+returns c =
     let a = c.args in
     let v = c.loop-k in
     let e = ends v.invariant.most c.loop-k-test.false in

@@ -1,5 +1,4 @@
 -- `windows_trace::first_bad_line` meets its contract.
-use borrow.Author.Rules.{rules}
 use Rattle.windows_trace.proofs.schedules.first_bad_line.Goals as goal
 
 pub read_schedule-requires : goal.read_schedule-requires

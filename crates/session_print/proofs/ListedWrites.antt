@@ -1,13 +1,12 @@
 -- The lines of writes listed side by side, one after another.
 -- Letters: ns numbers, vs values, k how many are printed.
-use mathlib.Core.Path.{◌≡◌, refl, sym, ap, ap₂, subst, ◌∙◌}
+use mathlib.Core.Path.{◌≡◌, refl, sym, ap, ap₂, ◌∙◌}
 use mathlib.Core.List.{List, [], ◌∷◌, ◌++◌, append_assoc, append-nil}
-use Prim.Native.Nat.{ℕ, zero, suc, ◌+◌, ◌*◌, ◌≤◌, ◌<◌}
+use Prim.Native.Nat.{ℕ, ◌+◌, ◌*◌, ◌≤◌, ◌<◌}
 use native.Mathlib.Omega.{arith}
 use native.Mathlib.Numerals.{add-one}
 use lib.ListN.{length, get_or, take}
 use lib.Seq.{take-suc, length-take-le, length-sets}
-use Rattle.walk.specs.Instant.{Write}
 use Rattle.walk.specs.Calls.{inputs_of}
 use Rattle.walk.specs.Events.{Event, events_at}
 use Rattle.walk.specs.Session.{write_line, write_lines}

@@ -1,7 +1,6 @@
 -- `session_print::digit_count` meets its contract.
 use mathlib.Core.Path.{refl}
 use native.Mathlib.Omega.{arith}
-use borrow.Author.Rules.{rules}
 use Rattle.session_print.proofs.Decimals as decimals
 use Rattle.session_print.proofs.figure.digit_count.Goals as goal
 
@@ -15,8 +14,7 @@ pub loop-rest-preserved : goal.loop-rest-preserved
 loop-rest-preserved c = decimals.count_on c.args.n _ _ c.loop-rest.invariant (omega (arith, c.loop-rest-test.true))
 
 pub returns : goal.returns
-returns c = 
-    (
+returns c = (
   decimals.count_done c.args.n _ c.loop-rest.rest c.loop-rest.invariant (omega (arith, c.loop-rest-test.false)),
   decimals.count_few c.args.n _ c.loop-rest.rest c.ranges.n.fits c.loop-rest.invariant,
 )

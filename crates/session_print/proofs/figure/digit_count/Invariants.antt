@@ -1,6 +1,3 @@
-use mathlib.Core.Path.{refl}
-use native.Mathlib.Omega.{arith}
-use borrow.Author.Rules.{rules}
 use Rattle.session_print.proofs.Decimals as decimals
 use Rattle.session_print.proofs.figure.digit_count.Given as goal
 

@@ -1,7 +1,6 @@
 -- `session_print::put_byte` meets its contract.
 use mathlib.Core.Path.{sym}
 use lib.Seq.{set_out}
-use borrow.Author.Rules.{rules}
 use Rattle.session_print.proofs.figure.put_byte.Goals as goal
 
 pub returns-else-at-out : goal.returns-else-at-out

@@ -1,7 +1,3 @@
-use mathlib.Core.Path.{ap}
-use native.Mathlib.Omega.{arith}
-use Prim.Native.Nat.{◌+◌}
-use borrow.Author.Rules.{rules}
 use Rattle.session_print.proofs.Decimals as decimals
 use Rattle.session_print.proofs.figure.put_figure.Given as goal
 

@@ -1,12 +1,10 @@
 -- `session_print::put_signed` meets its contract.
 use native.Mathlib.Omega.{arith}
-use Prim.Native.Nat.{◌+◌}
 use Rattle.session_print.proofs.LineBytes as line
-use borrow.Author.Rules.{rules}
 use Rattle.session_print.proofs.figure.put_signed.Goals as goal
 
 pub returns-then-word-lt-HALF : goal.returns-then-word-lt-HALF
-returns-then-word-lt-HALF c = 
+returns-then-word-lt-HALF c =
     let a = c.args in
     let e = c.put_figure.ensures in (
       line.same_bytes (line.signed_low a.word (omega (arith, c.if-word-lt-HALF.true))) e.0,
@@ -14,7 +12,7 @@ returns-then-word-lt-HALF c =
     )
 
 pub returns : goal.returns
-returns c = 
+returns c =
     let a = c.args in
     let e = c.put_figure-2.ensures in (
       line.same_bytes (line.signed_high a.word (omega (arith, c.if-word-lt-HALF.false)))

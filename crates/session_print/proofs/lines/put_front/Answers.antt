@@ -2,11 +2,10 @@
 use native.Mathlib.Omega.{arith}
 use Prim.Native.Nat.{◌+◌}
 use Rattle.session_print.proofs.LineBytes as line
-use borrow.Author.Rules.{rules}
 use Rattle.session_print.proofs.lines.put_front.Goals as goal
 
 pub returns : goal.returns
-returns c = 
+returns c =
     let a = c.args in
     let figure = c.put_figure-a.ensures in (
       line.then_bytes (line.one_byte a.out.now a.at a.letter _ c.put_byte.ensures)

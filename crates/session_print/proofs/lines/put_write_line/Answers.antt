@@ -1,11 +1,10 @@
 -- `session_print::put_write_line` meets its contract.
 use native.Mathlib.Omega.{arith}
 use Rattle.session_print.proofs.LineBytes as line
-use borrow.Author.Rules.{rules}
 use Rattle.session_print.proofs.lines.put_write_line.Goals as goal
 
 pub returns : goal.returns
-returns c = 
+returns c =
     let a = c.args in
     let front = c.put_front-a.ensures in
     let second = c.put_figure-b.ensures in

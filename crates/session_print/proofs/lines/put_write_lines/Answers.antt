@@ -1,8 +1,6 @@
 -- `session_print::put_write_lines` meets its contract.
-use mathlib.Core.Path.{ap, sym}
+use mathlib.Core.Path.{ap}
 use native.Mathlib.Omega.{arith}
-use Prim.Native.Nat.{◌+◌, ◌*◌, ◌-◌}
-use borrow.Author.Rules.{rules}
 use Rattle.session_print.proofs.LineBytes as line
 use Rattle.session_print.proofs.ListedWrites as listed
 use Rattle.session_print.proofs.lines.put_write_lines.Goals as goal
@@ -17,7 +15,7 @@ pub bounds-values-k : goal.bounds-values-k
 bounds-values-k c = omega (arith, c.loop-k-test.true, c.requires.3)
 
 pub put_write_line-place-requires : goal.put_write_line-place-requires
-put_write_line-place-requires c = 
+put_write_line-place-requires c =
     let few = c.loop-k.invariant.few in
     let most = c.loop-k.invariant.most in
     let pre = c.requires in
@@ -30,7 +28,7 @@ pub loop-k-smaller : goal.loop-k-smaller
 loop-k-smaller c = omega (arith, c.loop-k-test.true)
 
 pub loop-k-preserved : goal.loop-k-preserved
-loop-k-preserved c = 
+loop-k-preserved c =
     let a = c.args in
     let pre = c.requires in
     let v = c.loop-k in
@@ -42,7 +40,7 @@ pub shape_of-out : goal.shape_of-out
 shape_of-out c = listed.still_long c.loop-k.invariant.puts
 
 pub returns : goal.returns
-returns c = 
+returns c =
     let a = c.args in
     let v = c.loop-k in
     let e = listed.ends v.invariant.most c.loop-k-test.false in (

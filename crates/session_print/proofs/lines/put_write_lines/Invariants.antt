@@ -1,8 +1,4 @@
-use mathlib.Core.Path.{ap, sym}
-use native.Mathlib.Omega.{arith}
-use Prim.Native.Nat.{◌+◌, ◌*◌, ◌-◌}
-use borrow.Author.Rules.{rules}
-use Rattle.session_print.proofs.LineBytes as line
+use Prim.Native.Nat.{◌-◌}
 use Rattle.session_print.proofs.ListedWrites as listed
 use Rattle.session_print.proofs.lines.put_write_lines.Given as goal
 

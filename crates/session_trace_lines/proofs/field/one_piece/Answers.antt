@@ -1,7 +1,6 @@
 -- `session_trace_lines::one_piece` meets its contract.
 use mathlib.Core.Path.{◌≡◌, sym, ap, ◌∙◌}
 use lib.ListN.{get_or}
-use borrow.Author.Rules.{rules}
 use Rattle.text_place.specs.Texts.{piece_end}
 use Rattle.text_place.specs.Places.{taken_at}
 use Rattle.text_place.specs.declared.place.Taken.{Taken}
@@ -10,7 +9,7 @@ use Rattle.session_trace_lines.proofs.Fields as fields
 use Rattle.session_trace_lines.proofs.field.one_piece.Goals as goal
 
 pub returns-then-b-eq32 : goal.returns-then-b-eq32
-returns-then-b-eq32 c = 
+returns-then-b-eq32 c =
     let a = c.args in
     let s = a.s.now in
     let r = c.take_piece-t.result in
@@ -19,7 +18,7 @@ returns-then-b-eq32 c =
     fields.piece_space s a.place a.stop c.if-stop-eq9.true (sym stop_is ∙ c.if-b-eq32.true)
 
 pub returns-then-stop-eq9 : goal.returns-then-stop-eq9
-returns-then-stop-eq9 c = 
+returns-then-stop-eq9 c =
     let a = c.args in
     let s = a.s.now in
     let r = c.take_piece-t.result in

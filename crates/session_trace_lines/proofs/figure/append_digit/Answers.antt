@@ -1,7 +1,6 @@
 -- `session_trace_lines::append_digit` meets its contract.
 use native.Mathlib.Omega.{arith}
 use Prim.Native.Nat.{◌+◌, ◌*◌}
-use borrow.Author.Rules.{rules}
 use Rattle.session_trace_lines.proofs.Bounds as bounds
 use Rattle.session_trace_lines.proofs.figure.append_digit.Goals as goal
 

@@ -1,5 +1,5 @@
 -- `session_trace_lines::figure_up_to` meets its contract.
-use Prim.Native.Nat.{◌≤◌, ◌<◌, ◌-◌}
+use Prim.Native.Nat.{◌≤◌, ◌<◌}
 use mathlib.Core.Path.{sym, ◌∙◌}
 use native.Mathlib.Omega.{arith}
 use lib.ListN.{length, get_or}
@@ -11,14 +11,14 @@ pub returns-then-from-to : goal.returns-then-from-to
 returns-then-from-to c = let a = c.args in sym (bounds.figure_none _ a.s.now a.from a.to c.if-from-to.true)
 
 pub returns-then-from-to-2 : goal.returns-then-from-to-2
-returns-then-from-to-2 c = 
+returns-then-from-to-2 c =
     let a = c.args in
     let s = a.s.now in
     let k : a.to ≤ length s = c.requires.1 in
     sym (bounds.zero_only a.most s a.from a.to k c.if-s-from-eq48.true c.if-from-to-2.true)
 
 pub returns-then-s-from-eq48 : goal.returns-then-s-from-eq48
-returns-then-s-from-eq48 c = 
+returns-then-s-from-eq48 c =
     let a = c.args in
     let s = a.s.now in
     let k : a.to ≤ length s = c.requires.1 in
@@ -28,7 +28,7 @@ pub loop-i-init : goal.loop-i-init
 loop-i-init c = bounds.reading_begun _ _ _ c.requires.0
 
 pub returns-then-not-is_digit : goal.returns-then-not-is_digit
-returns-then-not-is_digit c = 
+returns-then-not-is_digit c =
     let a = c.args in
     let s = a.s.now in
     let k : a.to ≤ length s = c.requires.1 in
@@ -42,7 +42,7 @@ pub append_digit-requires : goal.append_digit-requires
 append_digit-requires c = let d = bounds.digit_high (get_or c.args.s.now c.loop-i.i 0) _ c.is_digit.ensures c.if-not-is_digit.false in omega (arith, d, c.wide.ensures)
 
 pub returns-in_default : goal.returns-in_default
-returns-in_default c = 
+returns-in_default c =
     let a = c.args in
     let s = a.s.now in
     let k : a.to ≤ length s = c.requires.1 in
@@ -52,7 +52,7 @@ returns-in_default c =
     (sym c.in_default.is ∙ c.append_digit.ensures))
 
 pub loop-i-preserved : goal.loop-i-preserved
-loop-i-preserved c = 
+loop-i-preserved c =
     let a = c.args in
     let s = a.s.now in
     let k : a.to ≤ length s = c.requires.1 in
@@ -61,7 +61,7 @@ loop-i-preserved c =
     _ c.wide.ensures _ (sym c.in-Value.is ∙ c.append_digit.ensures)
 
 pub returns-then-n-most : goal.returns-then-n-most
-returns-then-n-most c = 
+returns-then-n-most c =
     let a = c.args in
     let s = a.s.now in
     let k : a.to ≤ length s = c.requires.1 in
@@ -69,7 +69,7 @@ returns-then-n-most c =
     sym (bounds.reading_over s a.from a.to a.most v.n v.i k v.invariant c.loop-i-test.false c.if-n-most.true)
 
 pub returns : goal.returns
-returns c = 
+returns c =
     let a = c.args in
     let s = a.s.now in
     let k : a.to ≤ length s = c.requires.1 in

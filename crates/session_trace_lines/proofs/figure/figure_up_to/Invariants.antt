@@ -1,8 +1,4 @@
-use Prim.Native.Nat.{◌≤◌, ◌<◌, ◌-◌}
-use mathlib.Core.Path.{sym, ◌∙◌}
-use native.Mathlib.Omega.{arith}
-use lib.ListN.{length, get_or}
-use borrow.Author.Rules.{rules}
+use Prim.Native.Nat.{◌-◌}
 use Rattle.session_trace_lines.proofs.Bounds as bounds
 use Rattle.session_trace_lines.proofs.figure.figure_up_to.Given as goal
 

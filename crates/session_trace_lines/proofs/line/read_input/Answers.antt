@@ -1,7 +1,6 @@
 -- `session_trace_lines::read_input` meets its contract.
 use mathlib.Core.Path.{sym, ◌∙◌}
 use native.Mathlib.Omega.{arith}
-use borrow.Author.Rules.{rules}
 use Rattle.listing.specs.Expressions.{word_range}
 use Rattle.words.specs.Moments.{moment_range}
 use Rattle.walk.specs.Trace.{read_below, read_signed, read_input_line}
@@ -11,27 +10,27 @@ use Rattle.session_trace_lines.proofs.Lines as lines
 use Rattle.session_trace_lines.proofs.line.read_input.Goals as goal
 
 pub returns-in_default : goal.returns-in_default
-returns-in_default c = 
+returns-in_default c =
     let a = c.args in
     let s = a.s.now in
     lines.rest_bad s a.place a.stop read_input_line (fields.figure_unread (read_below moment_range) s a.place a.stop (sym c.in_default.is ∙ c.figure_field.ensures) _)
 
 pub figure_field-requires-2 : goal.figure_field-requires-2
-figure_field-requires-2 c = 
+figure_field-requires-2 c =
     let a = c.args in
     let s = a.s.now in
     let g1 = fields.figure_got (read_below moment_range) s a.place a.stop c.requires _ _ _ (sym c.in-Read.is ∙ c.figure_field.ensures) in
     g1.within
 
 pub returns-in_default-figure_field : goal.returns-in_default-figure_field
-returns-in_default-figure_field c = 
+returns-in_default-figure_field c =
     let a = c.args in
     let s = a.s.now in
     let g1 = fields.figure_got (read_below moment_range) s a.place a.stop c.requires _ _ _ (sym c.in-Read.is ∙ c.figure_field.ensures) in
     lines.rest_bad s a.place a.stop read_input_line (fields.figure_on (read_below moment_range) s _ _ g1 _ ∙ fields.figure_unread (read_below word_range) s c.in-Read.p1 _ (sym c.in_default-figure_field.is ∙ c.figure_field-2.ensures) _)
 
 pub value_field-requires : goal.value_field-requires
-value_field-requires c = 
+value_field-requires c =
     let a = c.args in
     let s = a.s.now in
     let g1 = fields.figure_got (read_below moment_range) s a.place a.stop c.requires _ _ _ (sym c.in-Read.is ∙ c.figure_field.ensures) in
@@ -39,7 +38,7 @@ value_field-requires c =
     g2.within
 
 pub returns-in_default-value_field : goal.returns-in_default-value_field
-returns-in_default-value_field c = 
+returns-in_default-value_field c =
     let a = c.args in
     let s = a.s.now in
     let g1 = fields.figure_got (read_below moment_range) s a.place a.stop c.requires _ _ _ (sym c.in-Read.is ∙ c.figure_field.ensures) in
@@ -47,7 +46,7 @@ returns-in_default-value_field c =
     lines.rest_bad s a.place a.stop read_input_line (fields.figure_on (read_below moment_range) s _ _ g1 _ ∙ fields.figure_on (read_below word_range) s _ _ g2 _ ∙ fields.figure_unread read_signed s c.in-Read-figure_field.p2 _ (sym c.in_default-value_field.is ∙ c.value_field.ensures) _)
 
 pub returns-then-b3-eq9 : goal.returns-then-b3-eq9
-returns-then-b3-eq9 c = 
+returns-then-b3-eq9 c =
     let a = c.args in
     let s = a.s.now in
     let g1 = fields.figure_got (read_below moment_range) s a.place a.stop c.requires _ _ _ (sym c.in-Read.is ∙ c.figure_field.ensures) in
@@ -56,7 +55,7 @@ returns-then-b3-eq9 c =
     lines.rest_bad s a.place a.stop read_input_line (fields.figure_on (read_below moment_range) s _ _ g1 _ ∙ fields.figure_on (read_below word_range) s _ _ g2 _ ∙ fields.figure_on read_signed s _ _ g3 _ ∙ lines.end_open s c.in-Read-value_field.p3.offset _ _ c.if-b3-eq9.true)
 
 pub overflow_cast-result : goal.overflow_cast-result
-overflow_cast-result c = 
+overflow_cast-result c =
     let a = c.args in
     let s = a.s.now in
     let g1 = fields.figure_got (read_below moment_range) s a.place a.stop c.requires _ _ _ (sym c.in-Read.is ∙ c.figure_field.ensures) in
@@ -64,7 +63,7 @@ overflow_cast-result c =
     omega (arith, lines.input_bits _ _ g2.read)
 
 pub overflow_cast-result-2 : goal.overflow_cast-result-2
-overflow_cast-result-2 c = 
+overflow_cast-result-2 c =
     let a = c.args in
     let s = a.s.now in
     let g1 = fields.figure_got (read_below moment_range) s a.place a.stop c.requires _ _ _ (sym c.in-Read.is ∙ c.figure_field.ensures) in
@@ -73,7 +72,7 @@ overflow_cast-result-2 c =
     omega (arith, lines.value_bits _ _ g3.read)
 
 pub returns : goal.returns
-returns c = 
+returns c =
     let a = c.args in
     let s = a.s.now in
     let g1 = fields.figure_got (read_below moment_range) s a.place a.stop c.requires _ _ _ (sym c.in-Read.is ∙ c.figure_field.ensures) in

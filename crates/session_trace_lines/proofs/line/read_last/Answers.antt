@@ -1,6 +1,5 @@
 -- `session_trace_lines::read_last` meets its contract.
 use mathlib.Core.Path.{sym, ◌∙◌}
-use borrow.Author.Rules.{rules}
 use Rattle.words.specs.Moments.{moment_range}
 use Rattle.walk.specs.Trace.{read_below, read_last_line}
 use Rattle.text_jumps.proofs.Chain as chain
@@ -9,20 +8,20 @@ use Rattle.session_trace_lines.proofs.Lines as lines
 use Rattle.session_trace_lines.proofs.line.read_last.Goals as goal
 
 pub returns-in_default : goal.returns-in_default
-returns-in_default c = 
+returns-in_default c =
     let a = c.args in
     let s = a.s.now in
     lines.rest_bad s a.place a.stop read_last_line (fields.figure_unread (read_below moment_range) s a.place a.stop (sym c.in_default.is ∙ c.figure_field.ensures) _)
 
 pub returns-then-b1-eq9 : goal.returns-then-b1-eq9
-returns-then-b1-eq9 c = 
+returns-then-b1-eq9 c =
     let a = c.args in
     let s = a.s.now in
     let g1 = fields.figure_got (read_below moment_range) s a.place a.stop c.requires _ _ _ (sym c.in-Read.is ∙ c.figure_field.ensures) in
     lines.rest_bad s a.place a.stop read_last_line (fields.figure_on (read_below moment_range) s _ _ g1 _ ∙ lines.end_open s c.in-Read.p1.offset _ _ c.if-b1-eq9.true)
 
 pub returns : goal.returns
-returns c = 
+returns c =
     let a = c.args in
     let s = a.s.now in
     let g1 = fields.figure_got (read_below moment_range) s a.place a.stop c.requires _ _ _ (sym c.in-Read.is ∙ c.figure_field.ensures) in

@@ -1,5 +1,7 @@
 // The figures of the calls' answers: number, place and the others, as document 01 lists them, in plain structs for C.
 // A refusal's and a stop's other figures are 0.
+#![tactic(auto)]
+
 pub mod loading;
 
 ghost use Rattle.std.specs.Prelude.{◌≡◌};

@@ -8,7 +8,7 @@ use lib.Dec.{leb}
 use lib.ListN.{length, length-append}
 use borrow.Author.Tests.{leb-true}
 use Rattle.listing.specs.Lists.{all, is_empty, all_yes}
-use Rattle.listing.specs.Listing.{Instruction, Line, ports, opens, instruction, Routine, Listing, name_count, routine_lines, lines_of}
+use Rattle.listing.specs.Listing.{Instruction, Line, instruction, Routine, Listing, name_count, routine_lines, lines_of}
 use Rattle.listing.specs.Questions.{is_there, opens_as_stated, routines_there, there_answers}
 use Rattle.listing.proofs.Tests.{and_left, and_right, all_head, all_tail, all_right}
 use Rattle.table.specs.Areas.{all_code}

@@ -1,12 +1,10 @@
 -- What a look tells of a machine that a call left: the moment of that call's instant, and the next moment due that its result gave.
-use mathlib.Core.Path.{◌≡◌, refl, sym}
-use mathlib.Core.Bool.{true}
+use mathlib.Core.Path.{◌≡◌}
 use mathlib.Core.List.{List}
 use Prim.Native.Nat.{ℕ, ◌≤◌}
-use lib.Dec.{leb}
 use lib.ListN.{length}
 use borrow.Author.Tests.{le-leb}
-use Rattle.walk.specs.Instant.{next_due, Done}
+use Rattle.walk.specs.Instant.{Done}
 use Rattle.walk.specs.Calls.{Layout, MachineAfter, runs, done, outcome_figures}
 use Rattle.call_look.specs.Look.{seen, seen_unstopped, seen_machine, seen_table, ask_looked, look_call}
 

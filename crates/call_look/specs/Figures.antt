@@ -1,6 +1,5 @@
 -- The figures of a look.
-use Rattle.std.specs.Prelude.{ℕ}
-use Rattle.walk.specs.Instant.{NextDue, never, moment}
+use Rattle.walk.specs.Instant.{never, moment}
 use Rattle.call_look.specs.Look.{Looked, not_seen_lem, seen}
 use Rattle.call_look.specs.declared.Sight.{Sight}
 

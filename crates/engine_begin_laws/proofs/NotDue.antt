@@ -77,7 +77,7 @@ rest_after t σ x (suc n) k = rest_after t σ x n (both_after t _ _ k).1
 
 -- ── the rows that hold a state ────────────────────────────────────────────────────────────────────
 module _ (listing : Listing) (rest : List Variable → Bool) {σ : Rows} where
-  own_rests : {d : Bool} {p : List Entry} {b level : ℕ} (t : Tree) → Held σ d p b t → Settled listing rest level (erase t) → (q : ℕ) → In q (slots_of t) →
+  own_rests : {d : Bool} (t : Tree) {p : List Entry} {b level : ℕ} → Held σ d p b t → Settled listing rest level (erase t) → (q : ℕ) → In q (slots_of t) →
       rest (σ q).own ≡ true
   unfolding erase slots_of row_for
   own_rests nil h w q i = elim i [ ]

@@ -127,7 +127,7 @@ module _ (listing : Listing) (σ : Rows) (environment : List Variable) where
         hangs = hangs_from z (root_count k) x U st e;
       }
 
-  tree_sits : {d : Bool} {u : Above} {p : List Entry} {c lo hi : ℕ} {t : Tree} (s : ℕ) → AboveIs u p → PathThere p c → Held σ d p c t →
+  tree_sits : {d : Bool} {t : Tree} {u : Above} {p : List Entry} {c lo hi : ℕ} (s : ℕ) → AboveIs u p → PathThere p c → Held σ d p c t →
       Steady listing u (length p) c t → Range lo hi t → hi ≤ 4294967296 → length (slots_of t) ≤ 64 → In s (slots_of t) → Sits listing σ environment s
   unfolding slots_of
   tree_sits s U P held_nil st r high few i = elim i [ ]
@@ -135,8 +135,8 @@ module _ (listing : Listing) (σ : Rows) (environment : List Variable) where
       subst (λ v. Sits listing σ environment v) (sym i) (one_sits z x k f U a P r high few e)
   tree_sits {p = p} {c = c} s U P (held_put {x = x} {k = k} {f = f} z m e hk hf) (steady_put a b q) r high few (there i) =
       go (in_cases (slots_of k) (slots_of f) i)
-      (tree_sits s (above_next z (root_count k) x (parts r).slots e) (path_under p c x.slot x.own (own_is z p c (root_count k) x e) P) hk b (parts r).children below (omega (arith, long)))
-      (tree_sits s U P hf q (parts r).siblings high (omega (arith, long)))
+      (tree_sits {t = k} s (above_next z (root_count k) x (parts r).slots e) (path_under p c x.slot x.own (own_is z p c (root_count k) x e) P) hk b (parts r).children below (omega (arith, long)))
+      (tree_sits {t = f} s U P hf q (parts r).siblings high (omega (arith, long)))
     where
       long : length (slots_of k ++ slots_of f) ≡ length (slots_of k) + length (slots_of f)
       long = length-append (slots_of k) (slots_of f)

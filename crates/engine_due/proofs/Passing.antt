@@ -44,7 +44,7 @@ due_slot_late t b k h = go (nonzero (b 0))
     go true = late_words_stay b t (min (b 4) 16) k (omega arith) (omega arith) (λ p q. omega arith)
     go false = refl
 
-free_stays : (t : ℕ) → with_own free_row (own_if free_row.used (due_writes t free_row.own_val) free_row.own_val) ≡ free_row
+free_stays : (t : ℕ) → with_own free_row (own_if free_row.used (due_writes t free_row.own) free_row.own) ≡ free_row
 unfolding free_row with_own own_if
 free_stays t = refl
 

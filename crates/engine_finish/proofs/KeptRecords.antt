@@ -106,6 +106,7 @@ pub record PlaceOf (s : ℕ) (l : List ℕ) : Type 0 where
 pub place_of : {s : ℕ} (l : List ℕ) → In s l → PlaceOf s l
 place_of (x ∷ l) (here e) = record { place = 0; within = omega arith; is = sym e }
 place_of (x ∷ l) (there i) = let p = place_of l i in record { place = suc p.place; within = omega (arith, p.within); is = p.is }
+place_of {s = s} [] x' = elim x' [ ]
 
 pub distinct_places : (l : List ℕ) → Distinct l → (i k : ℕ) → i < length l → k < length l → get_or l i 0 ≡ get_or l k 0 → i ≡ k
 distinct_places [] d i k h g e = absurd (let z : ⊥ = omega arith in z)

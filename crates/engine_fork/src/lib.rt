@@ -1,4 +1,6 @@
 // The instruction `F`, on the machine's words. `t` is the table, `m` the machine's memory.
+#![tactic(auto)]
+
 ghost use Rattle.std.specs.Prelude.{ℕ};
 ghost use Rattle.listing.specs.Listing.{fork};
 ghost use Rattle.table.specs.Decode.{calls_at, table_listing};

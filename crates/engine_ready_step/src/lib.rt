@@ -1,4 +1,6 @@
 // One instruction of the running routine that may change the ready list. `t` is the table, `m` the machine's memory.
+#![tactic(auto)]
+
 ghost use Rattle.std.specs.Prelude.{ℕ};
 ghost use Rattle.walk.specs.Walk.{instruction_at};
 ghost use Rattle.table.specs.Decode.{table_listing};

@@ -1,5 +1,7 @@
 // The routines of an instant, run to its end, to a stop, or until the allowance is used up. `t` is the table, `m` the
 // machine's memory.
+#![tactic(auto)]
+
 ghost use Rattle.engine_run_laws.specs.Runs.{MayRunOn, RunsOn};
 ghost use Rattle.engine_run.specs.Whole.{MayBeginRun, RunsReady};
 

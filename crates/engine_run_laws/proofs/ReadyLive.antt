@@ -30,10 +30,10 @@ others_live later_none live_none = live_none
 others_live {σ} {s = s} (later_one {x = x} l other later) (live_one u rest) =
     live_one (ap (λ (r : Row). r.used) (with_row_other σ s free_row x other) ∙ u) (others_live later rest)
 
-pub live_few : {σ τ : Rows} {q : List ℕ} → Ordered τ q → AllLive σ q → length q ≤ used_below σ 64
+pub live_few : {τ σ : Rows} {q : List ℕ} → Ordered τ q → AllLive σ q → length q ≤ used_below σ 64
 unfolding one free_row
 live_few ordered_none live_none = omega arith
-live_few {σ} (ordered_one {s = s} small later rest) (live_one u all) =
+live_few {σ = σ} (ordered_one {s = s} small later rest) (live_one u all) =
     let deep = live_few {σ = with_row σ s free_row} rest (others_live later all) in
     let count = used-with_row σ s free_row 64 small in
     let mine : one (σ s).used ≡ 1 = ap one u in

@@ -1,4 +1,5 @@
 // Definitions and theorems: what a run asks of the words, and that each step keeps it; and how a run ends.
+#![tactic(auto)]
 
 // The instant ended: the steps left, the live routines, the waits passed.
 #[derive(Clone, Copy)]

@@ -1,5 +1,7 @@
 // The steps of the running routine that leave the ready list alone, made without carrying it. `t` is the table, `m` the
 // machine's memory, `me` the running routine's slot.
+#![tactic(auto)]
+
 ghost use Rattle.std.specs.Prelude.{◌≡◌};
 ghost use Rattle.walk.specs.Walk.{instruction_at};
 ghost use Rattle.table.specs.Decode.{table_listing};

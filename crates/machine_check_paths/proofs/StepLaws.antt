@@ -11,7 +11,7 @@ use native.Mathlib.Numerals.{add-one}
 use Rattle.walk.specs.Instant.{main_call}
 use Rattle.walk.specs.Question7.{owned_by}
 use Rattle.table.specs.Decode.{head_after, word, calls_at, table_listing}
-use Rattle.machine.specs.Records.{Frame, asleep_at, scan, records_pass, main_frame, no_call_lem}
+use Rattle.machine.specs.Records.{asleep_at, scan, records_pass, main_frame, no_call_lem}
 use Rattle.machine.specs.Words.{records_in}
 use Rattle.table_child_fields.specs.Tables.{TableBounds, HeadsFit, Seen, at_wait, at_fork, at_other, line_at}
 use Rattle.table_child_fields.specs.declared.pick.Maker.{Maker}

@@ -1,6 +1,6 @@
 -- What the check of a whole table computes: one pass over the routines, with running numbers of the instructions and of the cells' words,
 -- then the unused words and the limit of pieces.
-use Rattle.std.specs.Prelude.{Bool, true, false, cond, ◌&&◌, not, List, [], ◌∷◌, ℕ, zero, suc, ◌+◌, ◌*◌, ◌-◌, eqb, leb, length}
+use Rattle.std.specs.Prelude.{Bool, true, false, cond, ◌&&◌, not, List, [], ◌∷◌, ℕ, zero, suc, ◌+◌, ◌*◌, eqb, leb, length}
 use Rattle.listing.specs.Lists.{all, is_empty, all_yes}
 use Rattle.listing.specs.Listing.{Routine, Listing, name_count}
 use Rattle.listing.specs.Limits.{instruction_limit, name_limit}

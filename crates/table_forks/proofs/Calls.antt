@@ -20,7 +20,7 @@ use Rattle.text_place.specs.Texts.{fields_left, field_end, field_pieces, Within}
 use Rattle.text_place.specs.declared.place.Place.{Place}
 use Rattle.text_place.proofs.Places.{left_open}
 use Rattle.text_jumps.specs.Records.{end_next}
-use Rattle.text_jumps.proofs.Chain.{Got, first, got_of, next_shut, left_none}
+use Rattle.text_jumps.proofs.Chain.{Got, got_of, next_shut, left_none}
 use Rattle.table_forks.specs.Calls.{WritesCall}
 use Rattle.table_cells.specs.Cells.{cells_of}
 use Rattle.table_lines.specs.Lines.{Good, rest_at, WritesRest}

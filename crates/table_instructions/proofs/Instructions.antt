@@ -3,7 +3,7 @@ use mathlib.Core.Path.{◌≡◌, refl, sym, ap, ◌∙◌}
 use mathlib.Core.Bool.{true, ◌&&◌}
 use mathlib.Core.List.{List, [], ◌∷◌, ◌++◌}
 use mathlib.Core.Option.{Option, some}
-use Prim.Native.Nat.{ℕ, ◌+◌, ◌*◌, ◌≤◌, ◌<◌}
+use Prim.Native.Nat.{ℕ, ◌+◌, ◌*◌, ◌≤◌}
 use native.Mathlib.Omega.{arith}
 use lib.Dec.{ltb}
 use lib.ListN.{length, drop, length-append}
@@ -11,7 +11,7 @@ use lib.Seq.{sets}
 use borrow.Author.Tests.{ltb-true}
 use Rattle.listing.specs.Lists.{all}
 use Rattle.listing.specs.Bytes.{read_figure}
-use Rattle.listing.specs.Expressions.{word_range, each, read_piece, leaves_one, read_expression}
+use Rattle.listing.specs.Expressions.{each, read_piece, leaves_one, read_expression}
 use Rattle.listing.specs.Form.{Field, next_field_lem, none_left_lem, read_number, read_names, one_to, most_names_awaited, read_assign, read_schedule, read_branch, read_jump, read_wait, read_end}
 use Rattle.listing.specs.Questions.{piece_is_there, is_there}
 use Rattle.listing.specs.Listing as L
@@ -20,7 +20,7 @@ use Rattle.table.proofs.Lengths.{piece_two}
 use Rattle.text_place.specs.Texts.{fields_left, field_pieces, Within}
 use Rattle.text_place.specs.declared.place.Place.{Place}
 use Rattle.text_jumps.specs.Records.{end_next}
-use Rattle.text_jumps.proofs.Chain.{Got, first, next_shut, expression_length}
+use Rattle.text_jumps.proofs.Chain.{Got, next_shut, expression_length}
 use Rattle.table_cells.specs.Cells.{cells_of, cells_answer, WritesCells}
 use Rattle.table_cells.specs.Words.{word_answer}
 use Rattle.table_lines.specs.Lines.{words_after, Fits, Good, line_of, Writes, rest_at, WritesRest}

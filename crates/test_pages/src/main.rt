@@ -11,11 +11,18 @@ use test_cases::report::read_file;
 use test_page_prints::run_case;
 use test_stored_pages::cases::read_case;
 
+// So many zeros. Of a length that is a parameter the check computes no list, which at 600,000 takes it too long.
+fn zeros<const N: usize>() -> [u8; N]
+    ensures { N ≡ length result }
+{
+    [0; N]
+}
+
 // Memory for the file of cases.
 fn text() -> [u8; 600000]
     ensures { 600000 ≡ length result }
 {
-    [0; 600000]
+    zeros::<600000>()
 }
 
 // A list for the moments, and one for the outputs or the values.

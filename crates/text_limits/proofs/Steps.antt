@@ -1,7 +1,7 @@
 -- What reading the next line of a text in form gives.
 use mathlib.Core.Path.{◌≡◌, ap, ◌∙◌}
 use mathlib.Core.List.{List}
-use Prim.Native.Nat.{ℕ, ◌+◌, ◌-◌}
+use Prim.Native.Nat.{ℕ, ◌+◌}
 use native.Mathlib.Omega.{arith}
 use Rattle.listing.specs.Listing as L
 use Rattle.text_place.specs.Texts.{line_end}

@@ -1,10 +1,8 @@
 -- `book::put_reason` meets its contract.
 use native.Mathlib.Omega.{arith}
 use Rattle.listing.specs.Bytes.{bytes_of}
-use borrow.Author.Tests.{not-true, not-false}
 use Rattle.book.specs.Reasons.{too_long_lem, too_many_lem, turned_away}
 use Rattle.book.proofs.Saying.{too_long, too_many, printed, turned_away_lem}
-use borrow.Author.Rules.{rules}
 use Rattle.book.proofs.put_reason.Goals as goal
 
 pub returns-then-read-eq-PRINT_BYTES : goal.returns-then-read-eq-PRINT_BYTES

@@ -1,7 +1,6 @@
 -- `call_alike::compare` meets its contract.
 use Rattle.call_alike.specs.Compared.{compared_of}
 use Rattle.call_alike.proofs.Comparing.{refused_by, compared_by}
-use borrow.Author.Rules.{rules}
 use Rattle.call_alike.proofs.compare.Goals as goal
 
 pub returns-then-number-ne0 : goal.returns-then-number-ne0

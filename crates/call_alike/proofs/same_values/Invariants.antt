@@ -1,7 +1,6 @@
 use Prim.Native.Nat.{◌+◌, ◌*◌, ◌-◌, ◌≤◌}
-use mathlib.Core.Path.{◌≡◌, sym, ◌∙◌}
-use native.Mathlib.Omega.{arith}
-use Rattle.call_alike.proofs.Comparing.{SameFrom, same_begins, same_more, same_not, same_ends}
+use mathlib.Core.Path.{◌≡◌}
+use Rattle.call_alike.proofs.Comparing.{SameFrom}
 use Rattle.call_alike.proofs.same_values.Given as goal
 
 abbrev pub invariant-loop-i : goal.invariant-loop-i

@@ -1,36 +1,32 @@
 -- `call_arguments::numbers_rise` meets its contract.
-use Prim.Native.Nat.{◌-◌, ◌≤◌}
-use mathlib.Core.Path.{◌≡◌, refl, sym, ◌∙◌}
+use mathlib.Core.Path.{refl, sym, ◌∙◌}
 use native.Mathlib.Omega.{arith}
-use lib.ListN.{length, drop}
-use Rattle.call_arguments.specs.Asked.{numbers_rise}
 use Rattle.call_arguments.proofs.Asking.{rise_more, not_rising_lem, not_below_lem, rise_ends}
-use borrow.Author.Rules.{rules}
 use Rattle.call_arguments.proofs.numbers_rise.Goals as goal
 
 pub loop-k-init : goal.loop-k-init
 loop-k-init c = (omega arith, omega arith, refl)
 
 pub returns-then-n-least : goal.returns-then-n-least
-returns-then-n-least c = 
+returns-then-n-least c =
     let v = c.loop-k in
     let a = c.args in
     sym (not_rising_lem a.inputs v.least a.numbers.now v.k _ (omega arith) c.number-n.ensures.0 (omega arith)) ∙ v.invariant.2
 
 pub returns-then-n-inputs : goal.returns-then-n-inputs
-returns-then-n-inputs c = 
+returns-then-n-inputs c =
     let v = c.loop-k in
     let a = c.args in
     sym (not_below_lem a.inputs v.least a.numbers.now v.k _ (omega arith) c.number-n.ensures.0 (omega arith) (omega arith)) ∙ v.invariant.2
 
 pub loop-k-preserved : goal.loop-k-preserved
-loop-k-preserved c = 
+loop-k-preserved c =
     let v = c.loop-k in
     let a = c.args in
     (omega arith, omega arith, sym (rise_more a.inputs v.least a.numbers.now v.k _ (omega arith) c.number-n.ensures.0 (omega arith) (omega arith)) ∙ v.invariant.2)
 
 pub returns : goal.returns
-returns c = 
+returns c =
     let v = c.loop-k in
     let a = c.args in
     sym (rise_ends a.inputs v.least a.numbers.now v.k (omega arith)) ∙ v.invariant.2

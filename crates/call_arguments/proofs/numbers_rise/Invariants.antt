@@ -1,10 +1,7 @@
 use Prim.Native.Nat.{◌-◌, ◌≤◌}
-use mathlib.Core.Path.{◌≡◌, refl, sym, ◌∙◌}
-use native.Mathlib.Omega.{arith}
+use mathlib.Core.Path.{◌≡◌}
 use lib.ListN.{length, drop}
 use Rattle.call_arguments.specs.Asked.{numbers_rise}
-use Rattle.call_arguments.proofs.Asking.{rise_more, not_rising_lem, not_below_lem, rise_ends}
-use borrow.Author.Rules.{rules}
 use Rattle.call_arguments.proofs.numbers_rise.Given as goal
 
 abbrev pub invariant-loop-k : goal.invariant-loop-k

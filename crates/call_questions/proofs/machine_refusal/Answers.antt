@@ -2,7 +2,6 @@
 use mathlib.Core.Path.{sym, ap, ◌∙◌}
 use Rattle.machine_check.specs.Answer.{check_of}
 use Rattle.call_arguments.proofs.Refusals.{refusal_none, refusal_stopped, refusal_running}
-use borrow.Author.Rules.{rules}
 use Rattle.call_questions.proofs.machine_refusal.Goals as goal
 
 pub returns-in-NotAState : goal.returns-in-NotAState

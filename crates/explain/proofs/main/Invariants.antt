@@ -1,6 +1,4 @@
 use Prim.Native.Nat.{◌-◌, ◌≤◌}
-use Rattle.explain.proofs.Sayings.{counted}
-use borrow.Author.Rules.{rules}
 use Rattle.explain.proofs.main.Given as goal
 
 abbrev pub invariant-loop-k : goal.invariant-loop-k

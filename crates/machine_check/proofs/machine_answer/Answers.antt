@@ -7,7 +7,7 @@ use borrow.Author.Rules.{rules}
 use Rattle.machine_check.proofs.machine_answer.Goals as goal
 
 pub returns-then-stopped_words : goal.returns-then-stopped_words
-returns-then-stopped_words c = 
+returns-then-stopped_words c =
     record {
       answer = answer_stopped _ _ _ refl (sym c.stopped_words.ensures ∙ c.if-stopped_words.true);
       each = λ d e. stopped_not_running e;
@@ -16,7 +16,7 @@ returns-then-stopped_words c =
     }
 
 pub returns-in-Fails : goal.returns-in-Fails
-returns-in-Fails c = 
+returns-in-Fails c =
     record {
       answer = answer_none _ _ (sym c.stopped_words.ensures ∙ c.if-stopped_words.false) (has_failed _ _ _ c.running_words.ensures.0 c.in-Fails.is);
       each = λ d e. none_not_running e;
@@ -25,7 +25,7 @@ returns-in-Fails c =
     }
 
 pub returns-in-Passes : goal.returns-in-Passes
-returns-in-Passes c = 
+returns-in-Passes c =
     let p = has_passed _ _ _ _ c.running_words.ensures.0 c.in-Passes.is in
     record {
       answer = answer_running _ _ _ (λ i. omega (arith, c.type_inv.m i)) (sym c.stopped_words.ensures ∙ c.if-stopped_words.false) p.0 p.1;

@@ -1,7 +1,6 @@
 -- `machine_check_records::blocks_in_place` meets its contract.
 use mathlib.Core.Path.{◌≡◌, sym, ◌∙◌}
 use mathlib.Core.Bool.{true, false}
-use borrow.Author.Tests.{not-true, not-false}
 use Rattle.machine.specs.Words.{moment_at, zero_from, blocks_in_place, slots_hold}
 use Rattle.machine_words.specs.Tests.{blocks_due}
 use Rattle.machine_words.proofs.TestLaws.{fails, not_both, has_failed, has_passed}
@@ -11,14 +10,14 @@ use borrow.Author.Rules.{rules}
 use Rattle.machine_check_records.proofs.blocks_in_place.Goals as goal
 
 pub returns-then-not-zero_from : goal.returns-then-not-zero_from
-returns-then-not-zero_from c = 
+returns-then-not-zero_from c =
     let a = c.args in
     let z : zero_from a.m.now 12104 8 ≡ false = sym c.zero_from.ensures ∙ c.if-not-zero_from.true in
     let no = environment_unfit a.size a.m.now z in
     (fails _ _ no, search rules, not_both no, none_kept _ _ _ z)
 
 pub returns-in_default : goal.returns-in_default
-returns-in_default c = 
+returns-in_default c =
     let a = c.args in
     let q = has_failed _ _ _ c.block_rests.ensures c.in_default.is in
     let z : zero_from a.m.now 12104 8 ≡ true = sym c.zero_from.ensures ∙ c.if-not-zero_from.false in
@@ -28,7 +27,7 @@ returns-in_default c =
 
 pub returns : goal.returns
 unfolding blocks_due
-returns c = 
+returns c =
     let q = has_passed _ _ _ _ c.block_rests.ensures c.in-Passes.is in
     let same : blocks_in_place c.args.size c.args.m.now ≡ slots_hold c.args.n c.present_moment-present.result.0 c.args.m.now 64 =
     unfold blocks_in_place in

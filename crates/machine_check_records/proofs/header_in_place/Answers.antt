@@ -1,8 +1,7 @@
 -- `machine_check_records::header_in_place` meets its contract.
 use mathlib.Core.Path.{sym, ◌∙◌}
-use borrow.Author.Tests.{le-leb, lt-leb, eq-eqb, ne_eqb, not-true, not-false}
+use borrow.Author.Tests.{le-leb, lt-leb, eq-eqb, ne_eqb}
 use Rattle.machine.specs.Words.{header_in_place}
-use borrow.Author.Rules.{rules}
 use Rattle.machine_check_records.proofs.header_in_place.Goals as goal
 
 pub returns-then-m-ne0 : goal.returns-then-m-ne0

@@ -1,7 +1,6 @@
 -- `machine_check_records::knows_place` meets its contract.
 use borrow.Author.Tests.{lt-ltb, le-ltb}
 use Rattle.machine.specs.Words.{knows_place}
-use borrow.Author.Rules.{rules}
 use Rattle.machine_check_records.proofs.knows_place.Goals as goal
 
 pub returns-then-s-ge-SLOTS : goal.returns-then-s-ge-SLOTS

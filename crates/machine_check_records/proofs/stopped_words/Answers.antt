@@ -2,7 +2,6 @@
 use Rattle.machine.specs.ReadMachine.{stopped_words}
 use Rattle.walk.specs.Calls.{is_stop}
 use borrow.Author.Tests.{le-leb, lt-leb}
-use borrow.Author.Rules.{rules}
 use Rattle.machine_check_records.proofs.stopped_words.Goals as goal
 
 pub returns-then-k-lt-FIRST_STOP : goal.returns-then-k-lt-FIRST_STOP

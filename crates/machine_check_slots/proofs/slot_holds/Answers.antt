@@ -1,12 +1,11 @@
 -- `machine_check_slots::slot_holds` meets its contract.
 use mathlib.Core.Path.{sym, ◌∙◌}
-use borrow.Author.Tests.{le-leb, lt-leb, eq-eqb, ne_eqb, not-true, not-false}
+use borrow.Author.Tests.{le-leb, lt-leb, eq-eqb, ne_eqb}
 use Rattle.machine.specs.Words.{slot_holds}
 use Rattle.machine.specs.Due.{due_at}
 use Rattle.machine_words.specs.Tests.{slot_due_lem}
 use Rattle.machine_words.proofs.DueOrder.{none_in_free}
 use Rattle.machine_words.proofs.TestLaws.{fails, passes}
-use borrow.Author.Rules.{rules}
 use Rattle.machine_check_slots.proofs.slot_holds.Goals as goal
 
 pub returns-then-not-zero_from : goal.returns-then-not-zero_from
@@ -31,7 +30,7 @@ returns-then-not-zero_from-2 c = fails _ _ (rw (← c.number-p.ensures.0, ne_eqb
 
 pub returns : goal.returns
 unfolding slot_holds slot_due_lem
-returns c = 
+returns c =
     rw (
       ← c.number-p.ensures.0,
       ne_eqb _ _ c.if-p-eq0.false,

@@ -1,14 +1,12 @@
 -- `machine_check_slots::slots_hold` meets its contract.
 use mathlib.Core.Path.{◌≡◌, refl, sym, ◌∙◌}
 use mathlib.Core.Bool.{true, false}
-use lib.ListN.{length, length-set}
+use lib.ListN.{length-set}
 use native.Mathlib.Omega.{arith}
-use Rattle.machine_words.specs.Tests.{SlotDues}
 use Rattle.machine_check_slots.proofs.Laws.{one_slot}
 use Rattle.machine_words.proofs.TestLaws.{fails, not_both, has_failed, has_passed}
-use Rattle.machine_check_slots.proofs.SlotLaws.{SlotsLeft, slots_begin, slots_go_on, slots_end, no_slot_kept, one_more_kept}
+use Rattle.machine_check_slots.proofs.SlotLaws.{slots_begin, slots_go_on, slots_end, no_slot_kept, one_more_kept}
 use Rattle.machine_check_slots.proofs.KeptLaws.{kept_on, kept_so_far, kept_all}
-use Rattle.machine_check_slots.specs.Kept.{slots_kept}
 use borrow.Author.Rules.{rules}
 use Rattle.machine_check_slots.proofs.slots_hold.Goals as goal
 
@@ -16,7 +14,7 @@ pub loop-s-init : goal.loop-s-init
 loop-s-init c = (slots_begin _ _ _ _, search rules, no_slot_kept _ _, refl)
 
 pub returns-in_default : goal.returns-in_default
-returns-in_default c = 
+returns-in_default c =
     let v = c.loop-s in
     let more = c.loop-s-test.true in
     let f = has_failed _ _ _ c.slot_holds.ensures c.in_default.is in
@@ -24,7 +22,7 @@ returns-in_default c =
     (fails _ _ no, v.invariant.1, not_both no, kept_so_far _ _ _ _ v.s more f ∙ v.invariant.3)
 
 pub loop-s-preserved : goal.loop-s-preserved
-loop-s-preserved c = 
+loop-s-preserved c =
     let v = c.loop-s in
     let more = c.loop-s-test.true in
     let p = has_passed _ _ _ _ c.slot_holds.ensures c.in-Passes.is in (
@@ -35,7 +33,7 @@ loop-s-preserved c =
     )
 
 pub returns : goal.returns
-returns c = 
+returns c =
     let v = c.loop-s in
     let z : v.s ≡ 0 = omega (arith, c.loop-s-test.false) in
     (slots_end _ _ _ _ _ _ c.loop-s-test.false v.invariant.0, v.invariant.1, λ e. rw z at v.invariant.2, kept_all _ _ _ _ v.s z ∙ v.invariant.3)

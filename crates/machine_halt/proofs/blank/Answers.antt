@@ -1,6 +1,5 @@
 use Rattle.machine_halt.proofs.Zeroes.{blank_form}
-use mathlib.Core.Path.{◌≡◌, ◌∙◌}
-use borrow.Author.Rules.{rules}
+use mathlib.Core.Path.{◌∙◌}
 use Rattle.machine_halt.proofs.blank.Goals as goal
 
 pub returns : goal.returns

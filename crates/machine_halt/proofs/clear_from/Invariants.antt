@@ -1,12 +1,7 @@
-use Rattle.machine_halt.proofs.Zeroes.{zeroed_none, zeroed_next}
 use Rattle.machine_halt.specs.Zeroed.{zeroed}
 use Prim.Native.Nat.{◌≤◌, ◌-◌}
-use mathlib.Core.Path.{◌≡◌, ap, ◌∙◌}
-use mathlib.Core.List.{List}
-use Prim.Native.Nat.{ℕ}
-use lib.ListN.{length, set, length-set}
-use native.Mathlib.Omega.{arith}
-use borrow.Author.Rules.{rules}
+use mathlib.Core.Path.{◌≡◌}
+use lib.ListN.{length}
 use Rattle.machine_halt.proofs.clear_from.Given as goal
 
 abbrev pub invariant-loop-k : goal.invariant-loop-k

@@ -1,10 +1,9 @@
 -- `machine_words::block_rests` meets its contract.
 use mathlib.Core.Path.{sym, ◌∙◌}
-use borrow.Author.Tests.{lt-leb, not-true, not-false}
+use borrow.Author.Tests.{lt-leb}
 use Rattle.machine.specs.Words.{block_rests}
 use Rattle.machine_words.proofs.Laws.{block_by_variables, block_with_junk}
 use Rattle.machine_words.proofs.TestLaws.{fails}
-use borrow.Author.Rules.{rules}
 use Rattle.machine_words.proofs.block_rests.Goals as goal
 
 pub returns-then-k-gt-MOST_VARIABLES : goal.returns-then-k-gt-MOST_VARIABLES

@@ -1,8 +1,6 @@
 -- `machine_words::variable_rests` meets its contract.
 use mathlib.Core.Path.{sym, ◌∙◌}
-use borrow.Author.Tests.{not-true, not-false}
 use Rattle.machine.specs.Words.{variable_rests}
-use borrow.Author.Rules.{rules}
 use Rattle.machine_words.proofs.variable_rests.Goals as goal
 
 pub returns-then-not-due_later : goal.returns-then-not-due_later

@@ -1,12 +1,7 @@
 use Prim.Native.Nat.{◌+◌, ◌*◌, ◌-◌}
-use mathlib.Core.Path.{◌≡◌, sym, ◌∙◌}
-use mathlib.Core.Bool.{true, false}
-use borrow.Author.Tests.{not-true, not-false}
+use mathlib.Core.Path.{◌≡◌}
 use Rattle.machine.specs.Words.{variables_rest}
-use Rattle.machine_words.proofs.Laws.{rest_begins, one_variable}
-use Rattle.machine_words.proofs.DueLaws.{VariablesLeft, variables_begin, variables_go_on}
-use Rattle.machine_words.proofs.TestLaws.{fails, variables_pass}
-use borrow.Author.Rules.{rules}
+use Rattle.machine_words.proofs.DueLaws.{VariablesLeft}
 use Rattle.machine_words.proofs.variables_rest.Given as goal
 
 abbrev pub invariant-loop-i : goal.invariant-loop-i

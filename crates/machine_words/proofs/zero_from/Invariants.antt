@@ -1,11 +1,7 @@
 use Prim.Native.Nat.{◌+◌, ◌-◌, ◌≤◌}
 use mathlib.Core.Path.{◌≡◌}
 use mathlib.Core.Bool.{◌&&◌}
-use mathlib.Core.Logic.{⊎_elim}
-use native.Mathlib.Omega.{arith}
 use Rattle.machine.specs.Words.{zero_from}
-use Rattle.machine_words.proofs.Laws.{clear_stays, clear_no_more, clear_ends}
-use borrow.Author.Rules.{rules}
 use Rattle.machine_words.proofs.zero_from.Given as goal
 
 abbrev pub invariant-loop-i : goal.invariant-loop-i

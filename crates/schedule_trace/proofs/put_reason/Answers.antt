@@ -4,7 +4,6 @@ use Rattle.listing.specs.Bytes.{bytes_of}
 use Rattle.session_print.proofs.LineBytes as line
 use Rattle.schedule_trace.specs.Reasons.{too_long_lem, no_date, no_window}
 use Rattle.schedule_trace.proofs.Saying.{too_long, printed, no_date_lem, no_window_lem}
-use borrow.Author.Rules.{rules}
 use Rattle.schedule_trace.proofs.put_reason.Goals as goal
 
 pub returns-then-read-eq-SCHEDULE_BYTES : goal.returns-then-read-eq-SCHEDULE_BYTES

@@ -1,10 +1,7 @@
-use mathlib.Core.Path.{◌≡◌, sym, ◌∙◌}
-use native.Mathlib.Omega.{arith}
+use mathlib.Core.Path.{◌≡◌}
 use Rattle.listing.specs.Lists.{all}
 use Rattle.listing.specs.Questions.{is_by_reference}
 use Rattle.table.specs.Decode.{kinds_of_bits}
-use Rattle.table_check.proofs.Opening as opening
-use borrow.Author.Rules.{rules}
 use Rattle.table_check.proofs.all_by_reference.Given as goal
 
 abbrev pub invariant-loop-left : goal.invariant-loop-left

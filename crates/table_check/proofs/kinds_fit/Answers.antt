@@ -1,19 +1,15 @@
 -- `table_check::kinds_fit` meets its contract.
-use mathlib.Core.Path.{◌≡◌, sym, ◌∙◌}
+use mathlib.Core.Path.{sym, ◌∙◌}
 use native.Mathlib.Omega.{arith}
-use lib.Dec.{eqb}
-use Rattle.table.specs.Areas.{kind_bits}
-use Rattle.table.specs.Decode.{kinds_of_bits}
 use Rattle.table_check.proofs.Opening as opening
-use borrow.Author.Rules.{rules}
 use Rattle.table_check.proofs.kinds_fit.Goals as goal
 
 pub loop-left-preserved : goal.loop-left-preserved
-loop-left-preserved c = 
+loop-left-preserved c =
     let v = c.loop-left in
     opening.kinds_fit_turn v.left v.rest (omega arith) ∙ v.invariant
 
 pub returns : goal.returns
-returns c = 
+returns c =
     let v = c.loop-left in
     sym (opening.kinds_fit_end v.left v.rest (omega arith)) ∙ v.invariant

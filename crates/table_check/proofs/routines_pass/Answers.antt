@@ -1,22 +1,21 @@
 -- `table_check::routines_pass` meets its contract.
-use Prim.Native.Nat.{ℕ, ◌≤◌, ◌+◌, ◌-◌, ◌*◌}
+use Prim.Native.Nat.{ℕ, ◌+◌, ◌-◌, ◌*◌}
 use mathlib.Core.Path.{◌≡◌, sym, ap, ◌∙◌}
 use native.Mathlib.Omega.{arith}
 use Rattle.table.specs.Decode.{word}
 use Rattle.table_check_ends.specs.Ends.{tail_test}
 use Rattle.table_check.specs.Check.{routine_past, pass_from}
 use Rattle.table_check.proofs.RoutinePass as routines
-use borrow.Author.Rules.{rules}
 use Rattle.table_check.proofs.routines_pass.Goals as goal
 
 pub loop-number-init : goal.loop-number-init
-loop-number-init c = 
+loop-number-init c =
     let a = c.args in
     let z : a.n - 0 ≡ a.n = omega arith in
     (omega arith, omega arith, omega arith, omega arith, ap (λ (k : ℕ). pass_from a.t.now 0 0 2888 k) z)
 
 pub returns-then-next-eq0 : goal.returns-then-next-eq0
-returns-then-next-eq0 c = 
+returns-then-next-eq0 c =
     let v = c.loop-number in
     let a = c.args in
     let z : routine_past a.t.now v.number v.first v.cells ≡ 0 = sym c.routine_past-next.ensures ∙ c.if-next-eq0.true in
@@ -26,7 +25,7 @@ pub overflow_cast-first : goal.overflow_cast-first
 overflow_cast-first c = omega (arith, c.type_inv.t (8 + 5 * c.loop-number.number + 4))
 
 pub overflow_add-first-in-loop-number : goal.overflow_add-first-in-loop-number
-overflow_add-first-in-loop-number c = 
+overflow_add-first-in-loop-number c =
     let v = c.loop-number in
     let w = c.args.t.now in
     let q = c.routine_past-next.ensures in
@@ -34,7 +33,7 @@ overflow_add-first-in-loop-number c =
     omega (arith, (routines.routine_past_room w v.number v.first v.cells ne).0)
 
 pub loop-number-preserved : goal.loop-number-preserved
-loop-number-preserved c = 
+loop-number-preserved c =
     let v = c.loop-number in
     let a = c.args in
     let w = a.t.now in
@@ -46,7 +45,7 @@ loop-number-preserved c =
     (omega arith, omega arith, omega arith, omega arith, ap (λ (k : ℕ). pass_from w (v.number + 1) (v.first + word w (8 + 5 * v.number + 4)) next k) (sym s) ∙ (turn ∙ v.invariant.4))
 
 pub returns : goal.returns
-returns c = 
+returns c =
     let v = c.loop-number in
     let a = c.args in
     let w = a.t.now in

@@ -1,11 +1,6 @@
-use Prim.Native.Nat.{ℕ, ◌≤◌, ◌+◌, ◌-◌, ◌*◌}
-use mathlib.Core.Path.{◌≡◌, sym, ap, ◌∙◌}
-use native.Mathlib.Omega.{arith}
-use Rattle.table.specs.Decode.{word}
-use Rattle.table_check_ends.specs.Ends.{tail_test}
-use Rattle.table_check.specs.Check.{routine_past, pass_from}
-use Rattle.table_check.proofs.RoutinePass as routines
-use borrow.Author.Rules.{rules}
+use Prim.Native.Nat.{◌≤◌, ◌-◌}
+use mathlib.Core.Path.{◌≡◌}
+use Rattle.table_check.specs.Check.{pass_from}
 use Rattle.table_check.proofs.routines_pass.Given as goal
 
 abbrev pub invariant-loop-number : goal.invariant-loop-number

@@ -1,9 +1,6 @@
 use Prim.Native.Nat.{◌≤◌, ◌+◌, ◌*◌}
-use mathlib.Core.Path.{◌≡◌, refl, sym, ◌∙◌}
-use native.Mathlib.Omega.{arith}
-use Rattle.table_check_cells.specs.Pass.{entry_past, code_past}
-use Rattle.table_check_code.proofs.Instructions as instructions
-use borrow.Author.Rules.{rules}
+use mathlib.Core.Path.{◌≡◌}
+use Rattle.table_check_cells.specs.Pass.{code_past}
 use Rattle.table_check_code.proofs.code_past.Given as goal
 
 abbrev pub invariant-loop-left : goal.invariant-loop-left

@@ -6,14 +6,13 @@ use native.Mathlib.Omega.{arith}
 use Rattle.table.specs.Decode.{word}
 use Rattle.table_check_cells.specs.Pass.{Words, entry_past}
 use Rattle.table_check_code.proofs.Entries as entries
-use borrow.Author.Rules.{rules}
 use Rattle.table_check_code.proofs.entry_past.Goals as goal
 
 pub overflow_cast-at : goal.overflow_cast-at
 overflow_cast-at c = omega (arith, c.type_inv.t (c.args.e + 2))
 
 pub returns-then-at-cells : goal.returns-then-at-cells
-returns-then-at-cells c = 
+returns-then-at-cells c =
     let a = c.args in
     let w = a.t.now in
     let small : Words w = λ j. omega (arith, c.type_inv.t j) in
@@ -72,7 +71,7 @@ returns-in-7 c =
     past a.t.now (λ j. omega (arith, c.type_inv.t j)) a.names a.size a.e a.cells x entries.past_end c.in-7.is c.plain_past-in-7.ensures
 
 pub returns-in_default : goal.returns-in_default
-returns-in_default c = 
+returns-in_default c =
     let a = c.args in
     let w = a.t.now in
     let r = c.in_default.in_default-own.rest in

@@ -7,7 +7,6 @@ use lib.Dec.{eqb, ltb}
 use borrow.Author.Tests.{lt-ltb, le-ltb, eq-eqb, ne_eqb}
 use Rattle.table_check_cells.specs.Pass.{expression_test}
 use Rattle.table_check_instructions.proofs.Ends as ends
-use borrow.Author.Rules.{rules}
 use Rattle.table_check_instructions.proofs.expression_past.Goals as goal
 
 pub returns-then-operand-limit : goal.returns-then-operand-limit

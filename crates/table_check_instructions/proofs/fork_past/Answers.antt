@@ -1,6 +1,5 @@
 -- `table_check_instructions::fork_past` meets its contract.
 use mathlib.Core.Path.{refl, sym, ◌∙◌}
-use borrow.Author.Rules.{rules}
 use Rattle.table_check_instructions.proofs.fork_past.Goals as goal
 
 pub returns-then-counts_pass : goal.returns-then-counts_pass

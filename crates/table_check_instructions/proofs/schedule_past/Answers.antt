@@ -4,10 +4,9 @@ use mathlib.Core.Path.{◌≡◌, sym, ◌∙◌}
 use mathlib.Core.Bool.{true, false}
 use native.Mathlib.Omega.{arith}
 use lib.Dec.{ltb}
-use borrow.Author.Tests.{lt-ltb, le-ltb, not-true, not-false}
+use borrow.Author.Tests.{lt-ltb, le-ltb}
 use Rattle.table_check_cells.specs.Pass.{expression_test}
 use Rattle.table_check_instructions.proofs.Ends as ends
-use borrow.Author.Rules.{rules}
 use Rattle.table_check_instructions.proofs.schedule_past.Goals as goal
 
 pub returns-then-operand-names : goal.returns-then-operand-names

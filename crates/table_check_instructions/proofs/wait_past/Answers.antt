@@ -3,10 +3,8 @@ use Prim.Native.Nat.{◌*◌}
 use mathlib.Core.Path.{◌≡◌, sym, ◌∙◌}
 use mathlib.Core.Bool.{true, false}
 use native.Mathlib.Omega.{arith}
-use borrow.Author.Tests.{not-true, not-false}
 use Rattle.table_check_cells.specs.Pass.{names_test}
 use Rattle.table_check_instructions.proofs.Ends as ends
-use borrow.Author.Rules.{rules}
 use Rattle.table_check_instructions.proofs.wait_past.Goals as goal
 
 pub returns-then-not-counts_pass : goal.returns-then-not-counts_pass

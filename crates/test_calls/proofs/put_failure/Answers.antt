@@ -3,7 +3,6 @@ use native.Mathlib.Omega.{arith}
 use Rattle.listing.specs.Bytes.{bytes_of}
 use Rattle.session_print.proofs.LineBytes as line
 use Rattle.test_calls.specs.Failures.{failure_line}
-use borrow.Author.Rules.{rules}
 use Rattle.test_calls.proofs.put_failure.Goals as goal
 
 pub returns : goal.returns

@@ -1,5 +1,4 @@
 use Rattle.test_calls.proofs.Loading.{it_loads, it_fails}
-use borrow.Author.Rules.{rules}
 use Rattle.test_calls.proofs.refusals.Goals as goal
 
 pub returns-in-Done : goal.returns-in-Done

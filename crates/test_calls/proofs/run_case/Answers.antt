@@ -1,8 +1,5 @@
 use mathlib.Core.Path.{refl}
-use native.Mathlib.Omega.{arith}
-use Rattle.test_calls.proofs.Loading.{once}
 use Rattle.test_calls.proofs.Casing.{case_ran}
-use borrow.Author.Rules.{rules}
 use Rattle.test_calls.proofs.run_case.Goals as goal
 
 pub returns : goal.returns

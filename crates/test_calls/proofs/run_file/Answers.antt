@@ -1,9 +1,7 @@
-use mathlib.Core.Path.{◌≡◌, refl, ◌∙◌}
+use mathlib.Core.Path.{◌≡◌, ◌∙◌}
 use native.Mathlib.Omega.{arith}
-use Prim.Native.Nat.{◌-◌, ◌≤◌, ◌<◌}
-use Rattle.test_cases.specs.Frame.{word_at, onward}
-use Rattle.test_calls.proofs.Turning.{CasesLeft, cases_begun, case_agrees, case_fails, cases_ended}
-use borrow.Author.Rules.{rules}
+use Prim.Native.Nat.{◌-◌}
+use Rattle.test_calls.proofs.Turning.{cases_begun, case_agrees, case_fails, cases_ended}
 use Rattle.test_calls.proofs.run_file.Goals as goal
 use Rattle.test_calls.proofs.run_file.Goals.{then-run-ne0, else-run-ne0}
 
@@ -20,7 +18,7 @@ loop-done-preserved c =
       omega arith,
       elim c.if-run-ne0.branch [ then-run-ne0 w ↦ omega arith | else-run-ne0 w ↦ omega arith ],
       elim c.if-run-ne0.branch [
-          then-run-ne0 w ↦ case_fails r.next h r.counts i.4 w.if-run-ne0.true w.failed-is
+        | then-run-ne0 w ↦ case_fails r.next h r.counts i.4 w.if-run-ne0.true w.failed-is
         | else-run-ne0 w ↦ case_agrees r.next h r.counts i.4 w.if-run-ne0.false w.failed-is
       ],
     )

@@ -1,10 +1,7 @@
-use mathlib.Core.Path.{◌≡◌, refl, ◌∙◌}
-use mathlib.Core.Logic.{⊎_elim}
-use native.Mathlib.Omega.{arith}
+use mathlib.Core.Path.{◌≡◌}
 use Prim.Native.Nat.{◌-◌, ◌≤◌, ◌<◌}
 use Rattle.test_cases.specs.Frame.{word_at, onward}
-use Rattle.test_calls.proofs.Turning.{CasesLeft, cases_begun, case_agrees, case_fails, cases_ended}
-use borrow.Author.Rules.{rules}
+use Rattle.test_calls.proofs.Turning.{CasesLeft}
 use Rattle.test_calls.proofs.run_file.Given as goal
 
 abbrev pub invariant-loop-done : goal.invariant-loop-done

@@ -1,12 +1,9 @@
 -- `test_calls::run_items` meets its contract.
-use mathlib.Core.Path.{◌≡◌, refl, sym, ap, ◌∙◌}
+use mathlib.Core.Path.{refl, ap, ◌∙◌}
 use native.Mathlib.Omega.{arith}
-use Prim.Native.Nat.{◌-◌, ◌≤◌}
+use Prim.Native.Nat.{◌-◌}
 use lib.ListN.{length}
-use borrow.Author.Tests.{not-true, not-false}
-use Rattle.test_calls.proofs.Turning.{Rest, begun, told_of, one_agrees, one_fails, ended, ended_place}
-use lib.Seq.{length-take-le}
-use borrow.Author.Rules.{rules}
+use Rattle.test_calls.proofs.Turning.{begun, told_of, one_agrees, one_fails, ended, ended_place}
 use Rattle.test_calls.proofs.run_items.Goals as goal
 use Rattle.test_calls.proofs.run_items.Goals.{then-not-run_item, else-not-run_item}
 
@@ -25,7 +22,7 @@ loop-done-preserved c =
       r.auto.machine ∙ i.4,
       r.auto.kept ∙ i.5,
       elim c.if-not-run_item.branch [
-          then-not-run_item w ↦ one_fails c.after_item-at.ensures (omega arith) i.6 (told_of i.3 w.if-not-run_item.true r.ensures.1) (omega arith)
+        | then-not-run_item w ↦ one_fails c.after_item-at.ensures (omega arith) i.6 (told_of i.3 w.if-not-run_item.true r.ensures.1) (omega arith)
         | else-not-run_item w ↦ one_agrees c.after_item-at.ensures (omega arith) i.6 (told_of i.3 w.if-not-run_item.false r.ensures.1) w.failed-is
       ],
     )

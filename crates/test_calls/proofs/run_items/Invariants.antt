@@ -1,12 +1,7 @@
-use mathlib.Core.Path.{◌≡◌, refl, sym, ap, ◌∙◌}
-use mathlib.Core.Logic.{⊎_elim}
-use native.Mathlib.Omega.{arith}
+use mathlib.Core.Path.{◌≡◌}
 use Prim.Native.Nat.{◌-◌, ◌≤◌}
 use lib.ListN.{length}
-use borrow.Author.Tests.{not-true, not-false}
-use Rattle.test_calls.proofs.Turning.{Rest, begun, told_of, one_agrees, one_fails, ended, ended_place}
-use lib.Seq.{length-take-le}
-use borrow.Author.Rules.{rules}
+use Rattle.test_calls.proofs.Turning.{Rest}
 use Rattle.test_calls.proofs.run_items.Given as goal
 
 abbrev pub invariant-loop-done : goal.invariant-loop-done

@@ -2,7 +2,6 @@
 use native.Mathlib.Omega.{arith}
 use Rattle.listing.specs.Bytes.{bytes_of}
 use Rattle.test_files.specs.Endings.{ending_line}
-use borrow.Author.Rules.{rules}
 use Rattle.test_files.proofs.put_ending.Goals as goal
 
 pub returns-in-Ended : goal.returns-in-Ended

@@ -1,6 +1,4 @@
-use borrow.Author.Tests.{not-true, not-false}
 use Rattle.test_load.proofs.Passing.{first_differs, second_differs, by_tables}
-use borrow.Author.Rules.{rules}
 use Rattle.test_load.proofs.run_case.Goals as goal
 
 pub returns-then-not-agree : goal.returns-then-not-agree

@@ -1,13 +1,8 @@
 use mathlib.Core.Path.{◌≡◌, refl, ap, ◌∙◌}
-use Prim.Native.Nat.{ℕ, ◌-◌, ◌≤◌, ◌<◌}
+use Prim.Native.Nat.{ℕ, ◌-◌}
 use native.Mathlib.Omega.{arith}
 use lib.Dec.{leb}
-use lib.ListN.{length}
-use borrow.Author.Tests.{not-false}
-use Rattle.listing.specs.Load.{is_long_enough}
-use Rattle.test_cases.specs.Frame.{word_at, onward}
-use Rattle.test_load.proofs.Turning.{Rest, begun, one_agrees, one_fails, ended}
-use borrow.Author.Rules.{rules}
+use Rattle.test_load.proofs.Turning.{begun, one_agrees, one_fails, ended}
 use Rattle.test_load.proofs.run_file.Goals as goal
 use Rattle.test_load.proofs.run_file.Goals.{then-not-run_case, else-not-run_case}
 
@@ -27,7 +22,7 @@ loop-done-preserved c =
       r.auto.table ∙ v.4,
       r.auto.other ∙ v.5,
       elim c.if-not-run_case.branch [
-          then-not-run_case w ↦ one_fails c.loop-done.failed w.failed-is
+        | then-not-run_case w ↦ one_fails c.loop-done.failed w.failed-is
         | else-not-run_case w ↦ one_agrees case.result case.ensures (ap (λ (n : ℕ). leb 12288 n) v.4) (r.ensures.tells.means w.if-not-run_case.false).first more w.failed-is v.6
       ],
     )

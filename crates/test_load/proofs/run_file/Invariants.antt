@@ -1,14 +1,9 @@
-use mathlib.Core.Path.{◌≡◌, refl, ap, ◌∙◌}
-use Prim.Native.Nat.{ℕ, ◌-◌, ◌≤◌, ◌<◌}
-use mathlib.Core.Logic.{⊎_elim}
-use native.Mathlib.Omega.{arith}
-use lib.Dec.{leb}
+use mathlib.Core.Path.{◌≡◌}
+use Prim.Native.Nat.{◌-◌, ◌≤◌, ◌<◌}
 use lib.ListN.{length}
-use borrow.Author.Tests.{not-false}
 use Rattle.listing.specs.Load.{is_long_enough}
 use Rattle.test_cases.specs.Frame.{word_at, onward}
-use Rattle.test_load.proofs.Turning.{Rest, begun, one_agrees, one_fails, ended}
-use borrow.Author.Rules.{rules}
+use Rattle.test_load.proofs.Turning.{Rest}
 use Rattle.test_load.proofs.run_file.Given as goal
 
 abbrev pub invariant-loop-done : goal.invariant-loop-done

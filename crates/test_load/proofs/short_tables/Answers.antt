@@ -2,7 +2,6 @@ use mathlib.Core.Path.{refl, sym}
 use native.Mathlib.Omega.{arith}
 use lib.Seq.{length-take-le, length_front}
 use Rattle.test_load.proofs.Right.{both_fronts}
-use borrow.Author.Rules.{rules}
 use Rattle.test_load.proofs.short_tables.Goals as goal
 
 pub returns-then-table-lt12287 : goal.returns-then-table-lt12287

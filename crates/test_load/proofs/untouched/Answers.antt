@@ -1,4 +1,3 @@
-use borrow.Author.Tests.{not-true, not-false}
 use Rattle.test_cases.proofs.Telling.{tells_same, tells_else}
 use Rattle.test_load.proofs.untouched.Goals as goal
 

@@ -1,6 +1,5 @@
 use mathlib.Core.Path.{sym}
 use lib.Seq.{length-take-le}
-use borrow.Author.Tests.{not-true, not-false}
 use Rattle.test_cases.proofs.Telling.{tells_same, tells_else}
 use Rattle.test_load.proofs.written.Goals as goal
 

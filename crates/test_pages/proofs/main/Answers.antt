@@ -1,9 +1,5 @@
 -- `test_pages::main` meets its contract.
-use mathlib.Core.Path.{◌≡◌, sym}
-use Prim.Native.Nat.{◌-◌, ◌≤◌}
-use lib.ListN.{length}
-use lib.Seq.{length-take-le}
-use borrow.Author.Rules.{rules}
+use Prim.Native.Nat.{◌-◌}
 use Rattle.test_pages.proofs.main.Goals as goal
 
 pub run_case-n-requires : goal.run_case-n-requires
@@ -18,6 +14,3 @@ run_case-n-requires c =
     let few_bytes = e.few_bytes in
     let memory_long = c.loop-done.invariant.3 in
     (rw moments_long few_moments, rw outputs_long few_outputs, rw values_long few_values, rw memory_long few_bytes)
-
-pub slice_bounds-write_all-end : goal.slice_bounds-write_all-end
-slice_bounds-write_all-end c = sym (length-take-le _ _ (search rules))

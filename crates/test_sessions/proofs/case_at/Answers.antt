@@ -1,7 +1,6 @@
 use mathlib.Core.Path.{ap, ◌∙◌}
 use Prim.Native.Nat.{ℕ}
 use Rattle.test_cases.specs.Frame.{word_at, onward}
-use borrow.Author.Rules.{rules}
 use Rattle.test_sessions.proofs.case_at.Goals as goal
 
 pub returns : goal.returns

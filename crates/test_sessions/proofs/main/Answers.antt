@@ -1,6 +1,5 @@
 -- `test_sessions::main` meets its contract. The memories that it lends are long enough.
 use Rattle.test_sessions.proofs.Steps.{lent_long}
-use borrow.Author.Rules.{rules}
 use Rattle.test_sessions.proofs.main.Goals as goal
 
 pub run_file-tally-requires : goal.run_file-tally-requires

@@ -1,15 +1,10 @@
 -- `test_sessions::run_file` meets its contract.
 use mathlib.Core.Path.{◌≡◌, refl, sym, ◌∙◌}
 use native.Mathlib.Omega.{arith}
-use Prim.Native.Nat.{◌-◌, ◌≤◌, ◌<◌}
-use borrow.Author.Tests.{not-true, not-false}
-use Rattle.test_cases.specs.Frame.{word_at, onward}
-use Rattle.session_replay.specs.Phases.{memories}
-use Rattle.session_replay.specs.Ending.{AsLong}
+use Prim.Native.Nat.{◌-◌}
 use Rattle.session_replay.proofs.Ending.{still_long}
 use Rattle.test_cases.proofs.Telling.{never}
-use Rattle.test_sessions.proofs.Turning.{Rest, begun, one_agrees, one_fails, ended}
-use borrow.Author.Rules.{rules}
+use Rattle.test_sessions.proofs.Turning.{begun, one_agrees, one_fails, ended}
 use Rattle.test_sessions.proofs.run_file.Goals as goal
 use Rattle.test_sessions.proofs.run_file.Goals.{then-not-run_case, else-not-run_case}
 
@@ -30,7 +25,7 @@ loop-done-preserved c =
       elim c.if-not-run_case.branch [ then-not-run_case w ↦ omega arith | else-not-run_case w ↦ omega arith ],
       record { table_is = r.1.table_is ∙ i.4.table_is; machine_is_lem = r.1.machine_is_lem ∙ i.4.machine_is_lem; out_is = r.1.out_is ∙ i.4.out_is },
       elim c.if-not-run_case.branch [
-          then-not-run_case w ↦ one_fails case.result case.ensures.0 c.loop-done-test.true i.5 (λ a. never (sym w.if-not-run_case.true ∙ r.0.whenever a)) w.failed-is
+        | then-not-run_case w ↦ one_fails case.result case.ensures.0 c.loop-done-test.true i.5 (λ a. never (sym w.if-not-run_case.true ∙ r.0.whenever a)) w.failed-is
         | else-not-run_case w ↦ one_agrees case.result case.ensures.0 c.loop-done-test.true i.5 (r.0.means w.if-not-run_case.false) w.failed-is
       ],
     )

@@ -1,15 +1,9 @@
-use mathlib.Core.Path.{◌≡◌, refl, sym, ◌∙◌}
-use mathlib.Core.Logic.{⊎_elim}
-use native.Mathlib.Omega.{arith}
+use mathlib.Core.Path.{◌≡◌}
 use Prim.Native.Nat.{◌-◌, ◌≤◌, ◌<◌}
-use borrow.Author.Tests.{not-true, not-false}
 use Rattle.test_cases.specs.Frame.{word_at, onward}
 use Rattle.session_replay.specs.Phases.{memories}
 use Rattle.session_replay.specs.Ending.{AsLong}
-use Rattle.session_replay.proofs.Ending.{still_long}
-use Rattle.test_cases.proofs.Telling.{never}
-use Rattle.test_sessions.proofs.Turning.{Rest, begun, one_agrees, one_fails, ended}
-use borrow.Author.Rules.{rules}
+use Rattle.test_sessions.proofs.Turning.{Rest}
 use Rattle.test_sessions.proofs.run_file.Given as goal
 
 abbrev pub invariant-loop-done : goal.invariant-loop-done

@@ -1,9 +1,5 @@
 -- `test_stored_answers::answer_right` meets its contract.
-use mathlib.Core.Path.{sym}
-use lib.Seq.{length-take-le}
-use borrow.Author.Tests.{not-true, not-false}
 use Rattle.test_stored_answers.proofs.Answering.{other_answer, by_outputs}
-use borrow.Author.Rules.{rules}
 use Rattle.test_stored_answers.proofs.answer_right.Goals as goal
 
 pub returns-then-not-same_reports : goal.returns-then-not-same_reports

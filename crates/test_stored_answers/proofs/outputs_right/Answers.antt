@@ -1,6 +1,4 @@
-use borrow.Author.Tests.{not-true, not-false}
 use Rattle.test_stored_answers.proofs.Answering.{other_numbers_lem, by_values}
-use borrow.Author.Rules.{rules}
 use Rattle.test_stored_answers.proofs.outputs_right.Goals as goal
 
 pub returns-then-not-same : goal.returns-then-not-same

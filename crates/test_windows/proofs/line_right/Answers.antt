@@ -1,6 +1,5 @@
 -- `test_windows::line_right` meets its contract.
 use Rattle.test_windows.proofs.Passing.{by_line}
-use borrow.Author.Rules.{rules}
 use Rattle.test_windows.proofs.line_right.Goals as goal
 
 pub returns : goal.returns

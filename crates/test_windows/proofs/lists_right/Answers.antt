@@ -1,7 +1,5 @@
 -- `test_windows::lists_right` meets its contract.
-use borrow.Author.Tests.{not-true, not-false}
 use Rattle.test_windows.proofs.Passing.{figures_differ, few_moments, few_words, moments_differ, by_words}
-use borrow.Author.Rules.{rules}
 use Rattle.test_windows.proofs.lists_right.Goals as goal
 
 pub returns-then-not-figures_right : goal.returns-then-not-figures_right

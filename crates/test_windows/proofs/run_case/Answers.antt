@@ -2,7 +2,6 @@
 use mathlib.Core.Path.{sym, ap}
 use lib.ListN.{take}
 use lib.Seq.{length-take-le}
-use borrow.Author.Tests.{not-true, not-false}
 use Rattle.test_windows.proofs.Passing.{lists_differ, lists_agree}
 use borrow.Author.Rules.{rules}
 use Rattle.test_windows.proofs.run_case.Goals as goal

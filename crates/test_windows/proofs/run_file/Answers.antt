@@ -1,12 +1,8 @@
 -- `test_windows::run_file` meets its contract.
-use mathlib.Core.Path.{◌≡◌, sym, ◌∙◌}
-use Prim.Native.Nat.{◌-◌, ◌≤◌, ◌<◌}
+use mathlib.Core.Path.{◌≡◌, ◌∙◌}
+use Prim.Native.Nat.{◌-◌}
 use native.Mathlib.Omega.{arith}
-use lib.Seq.{length-take-le}
-use borrow.Author.Rules.{rules}
-use borrow.Author.Tests.{not-false}
-use Rattle.test_cases.specs.Frame.{word_at, onward}
-use Rattle.test_windows.proofs.Turning.{Rest, begun, one_agrees, one_fails, ended}
+use Rattle.test_windows.proofs.Turning.{begun, one_agrees, one_fails, ended}
 use Rattle.test_windows.proofs.run_file.Goals as goal
 use Rattle.test_windows.proofs.run_file.Goals.{then-not-run_case, else-not-run_case}
 
@@ -31,7 +27,7 @@ loop-done-preserved c =
       omega arith,
       elim c.if-not-run_case.branch [ then-not-run_case w ↦ omega arith | else-not-run_case w ↦ omega arith ],
       elim c.if-not-run_case.branch [
-          then-not-run_case w ↦ one_fails c.loop-done.failed (omega arith)
+        | then-not-run_case w ↦ one_fails c.loop-done.failed (omega arith)
         | else-not-run_case w ↦ one_agrees case.result case.ensures (c.run_case.ensures.means w.if-not-run_case.false) more w.failed-is v.4
       ],
     )

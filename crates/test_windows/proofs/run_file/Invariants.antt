@@ -1,12 +1,7 @@
-use mathlib.Core.Path.{◌≡◌, sym, ◌∙◌}
-use mathlib.Core.Logic.{⊎_elim}
+use mathlib.Core.Path.{◌≡◌}
 use Prim.Native.Nat.{◌-◌, ◌≤◌, ◌<◌}
-use native.Mathlib.Omega.{arith}
-use lib.Seq.{length-take-le}
-use borrow.Author.Rules.{rules}
-use borrow.Author.Tests.{not-false}
 use Rattle.test_cases.specs.Frame.{word_at, onward}
-use Rattle.test_windows.proofs.Turning.{Rest, begun, one_agrees, one_fails, ended}
+use Rattle.test_windows.proofs.Turning.{Rest}
 use Rattle.test_windows.proofs.run_file.Given as goal
 
 abbrev pub invariant-loop-done : goal.invariant-loop-done

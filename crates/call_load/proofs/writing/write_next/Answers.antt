@@ -2,7 +2,6 @@
 use native.Mathlib.Omega.{arith}
 use Rattle.call_load.proofs.Beginning as beginning
 use Rattle.call_load.proofs.Turn as turn
-use borrow.Author.Rules.{rules}
 use Rattle.call_load.proofs.writing.write_next.Goals as goal
 
 pub overflow_mul-instructions : goal.overflow_mul-instructions
@@ -15,23 +14,23 @@ pub overflow_add-cells : goal.overflow_add-cells
 overflow_add-cells c = omega (arith, (turn.bounded _ c.requires.0 _ _ c.requires.1).2)
 
 pub write_line-written-requires : goal.write_line-written-requires
-write_line-written-requires c = 
+write_line-written-requires c =
     let p = c.requires in
     let b = turn.bounded _ p.0 _ _ p.1 in
     (p.1.formed.within, beginning.is_short _ p.0, omega (arith, b.1), omega (arith, b.2), turn.good _ p.0 _ _ p.1 p.2)
 
 pub enter-requires : goal.enter-requires
-enter-requires c = 
+enter-requires c =
     let p = c.requires in
     turn.room _ p.0 _ _ p.1 p.2 _ _ c.write_line-written.ensures
 
 pub advance-requires : goal.advance-requires
-advance-requires c = 
+advance-requires c =
     let p = c.requires in
     turn.room _ p.0 _ _ p.1 p.2 _ _ c.write_line-written.ensures
 
 pub returns : goal.returns
-returns c = 
+returns c =
     let p = c.requires in
     let w = c.write_line-written.ensures in
     let e = c.enter.ensures in (

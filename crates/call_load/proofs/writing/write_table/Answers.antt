@@ -1,8 +1,4 @@
 -- `call_load::write_table` meets its contract.
-use Prim.Native.Nat.{◌-◌}
-use lib.ListN.{length}
-use mathlib.Core.Path.{◌≡◌}
-use Rattle.call_load.specs.Writing.{Writing}
 use Rattle.call_load.proofs.Beginning as beginning
 use borrow.Author.Rules.{rules}
 use Rattle.call_load.proofs.writing.write_table.Goals as goal

@@ -2,8 +2,6 @@ use Prim.Native.Nat.{◌-◌}
 use lib.ListN.{length}
 use mathlib.Core.Path.{◌≡◌}
 use Rattle.call_load.specs.Writing.{Writing}
-use Rattle.call_load.proofs.Beginning as beginning
-use borrow.Author.Rules.{rules}
 use Rattle.call_load.proofs.writing.write_table.Given as goal
 
 abbrev pub invariant-loop-p : goal.invariant-loop-p

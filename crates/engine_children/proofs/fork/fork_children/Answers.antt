@@ -20,7 +20,7 @@ pub overflow_cast-n : goal.overflow_cast-n
 overflow_cast-n c = omega (arith, c.requires.divides.most)
 
 pub new_child-requires : goal.new_child-requires
-new_child-requires c = 
+new_child-requires c =
     let F = c.requires in
     let G = c.loop-i.invariant in
     let more = c.loop-i-test.true in
@@ -33,7 +33,7 @@ pub bounds-places-i : goal.bounds-places-i
 bounds-places-i c = omega (arith, c.loop-i.invariant.size, c.requires.divides.most, c.loop-i-test.true)
 
 pub next_head-head-requires : goal.next_head-head-requires
-next_head-head-requires c = 
+next_head-head-requires c =
     let F = c.requires in
     (table_size_lem c.args.t.now F.table, head_inside (may_make F c.loop-i.invariant c.loop-i-test.true))
 
@@ -41,7 +41,7 @@ pub overflow_add-i : goal.overflow_add-i
 overflow_add-i c = omega (arith, c.requires.divides.most, c.loop-i-test.true)
 
 pub loop-i-preserved : goal.loop-i-preserved
-loop-i-preserved c = 
+loop-i-preserved c =
     let F = c.requires in
     let G = c.loop-i.invariant in
     let more = c.loop-i-test.true in

@@ -16,13 +16,13 @@ pub overflow_add-head : goal.overflow_add-head
 overflow_add-head c = omega (arith, head_inside c.requires)
 
 pub pass_values-own-requires : goal.pass_values-own-requires
-pass_values-own-requires c = 
+pass_values-own-requires c =
     let M = c.requires in
     let O = c.opening_of-opening.ensures.1 in
     may_pass M (argument_count_lem M.field c.head_at-field.ensures.1 O) (omega (arith, O.names))
 
 pub parent_of-parent-requires : goal.parent_of-parent-requires
-parent_of-parent-requires c = 
+parent_of-parent-requires c =
     let M = c.requires in
     let p = c.pass_values-own.ensures.in_block in
     (still_long M p, M.caller, may_divide M p)
@@ -34,7 +34,7 @@ pub overflow_cast-own : goal.overflow_cast-own
 overflow_cast-own c = omega (arith, c.pass_values-own.ensures.few, c.opening_of-opening.ensures.1.names)
 
 pub put_kept-requires : goal.put_kept-requires
-put_kept-requires c = 
+put_kept-requires c =
     let M = c.requires in
     let p = c.pass_values-own.ensures.in_block in
     (still_long M p, M.slot)
@@ -43,7 +43,7 @@ pub overflow_cast-callee : goal.overflow_cast-callee
 overflow_cast-callee c = omega (arith, callee_small c.requires.table c.requires.field c.head_at-field.ensures.1)
 
 pub put_working-requires : goal.put_working-requires
-put_working-requires c = 
+put_working-requires c =
     let M = c.requires in
     let p = c.pass_values-own.ensures.in_block in
     let P = c.parent_of-parent.ensures in
@@ -53,7 +53,7 @@ pub overflow_add-head-2 : goal.overflow_add-head-2
 overflow_add-head-2 c = omega (arith, head_inside c.requires)
 
 pub bind_names-requires : goal.bind_names-requires
-bind_names-requires c = 
+bind_names-requires c =
     let M = c.requires in
     let O = c.opening_of-opening.ensures.1 in
     let p = c.pass_values-own.ensures.in_block in
@@ -63,7 +63,7 @@ pub shape_of-m : goal.shape_of-m
 shape_of-m c = omega (arith, c.pass_values-own.ensures.in_block.size, c.put_kept.ensures.size, c.put_working.ensures.size, c.bind_names.ensures.in_block.size)
 
 pub returns : goal.returns
-returns c = 
+returns c =
     child_made (record {
       may = c.requires;
       called = c.head_at-field.ensures.1;

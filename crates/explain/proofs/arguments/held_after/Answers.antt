@@ -1,7 +1,6 @@
 -- `explain::arguments::held_after` meets its contract.
 use mathlib.Core.Path.{sym, ◌∙◌}
 use Rattle.explain.specs.Arguments.{held_after}
-use borrow.Author.Rules.{rules}
 use Rattle.explain.proofs.arguments.held_after.Goals as goal
 
 pub returns-then-held : goal.returns-then-held

@@ -1,7 +1,6 @@
 -- `explain::arguments::put_end` meets its contract.
 use native.Mathlib.Omega.{arith}
 use Rattle.explain.proofs.Sayings.{trace_to_come, no_argument, all_said}
-use borrow.Author.Rules.{rules}
 use Rattle.explain.proofs.arguments.put_end.Goals as goal
 
 pub returns-then-held : goal.returns-then-held

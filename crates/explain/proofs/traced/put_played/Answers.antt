@@ -2,7 +2,6 @@
 use Rattle.listing.specs.Bytes.{bytes_of}
 use Rattle.explain.specs.Traced.{unplayed, too_long, fails, played}
 use Rattle.explain.proofs.Sayings.{session_few}
-use borrow.Author.Rules.{rules}
 use Rattle.explain.proofs.traced.put_played.Goals as goal
 
 pub returns-in-TooLong : goal.returns-in-TooLong

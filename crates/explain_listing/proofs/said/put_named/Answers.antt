@@ -1,7 +1,6 @@
 -- `explain::said::put_named` meets its contract.
 use native.Mathlib.Omega.{arith}
 use Rattle.session_print.proofs.LineBytes as line
-use borrow.Author.Rules.{rules}
 use Rattle.explain_listing.proofs.said.put_named.Goals as goal
 
 pub returns : goal.returns

@@ -3,7 +3,6 @@ use native.Mathlib.Omega.{arith}
 use Rattle.listing.specs.Bytes.{bytes_of}
 use Rattle.session_print.proofs.LineBytes as line
 use Rattle.explain_listing.specs.Said.{question_line}
-use borrow.Author.Rules.{rules}
 use Rattle.explain_listing.proofs.said.put_question.Goals as goal
 
 pub returns : goal.returns

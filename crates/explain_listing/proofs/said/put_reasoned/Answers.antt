@@ -8,7 +8,6 @@ use Rattle.explain_there.specs.There.{allowed_at}
 use Rattle.explain_said.specs.Reasons.{allowed_text}
 use Rattle.explain_said.specs.Spots.{fault_text}
 use Rattle.explain_listing.specs.Said.{reasoned}
-use borrow.Author.Rules.{rules}
 use Rattle.explain_listing.proofs.said.put_reasoned.Goals as goal
 
 pub returns : goal.returns

@@ -5,7 +5,6 @@ use Rattle.session_print.proofs.LineBytes as line
 use Rattle.explain_parts.specs.Parts.{part_of}
 use Rattle.explain_parts.proofs.Parts.{part_size}
 use Rattle.explain_listing.specs.Said.{reasoned, refusal}
-use borrow.Author.Rules.{rules}
 use Rattle.explain_listing.proofs.said.put_refusal.Goals as goal
 
 pub put_reasoned-requires : goal.put_reasoned-requires

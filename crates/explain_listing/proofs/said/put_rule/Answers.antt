@@ -1,11 +1,7 @@
 -- `explain::said::put_rule` meets its contract.
 use native.Mathlib.Omega.{arith}
 use Rattle.session_print.proofs.LineBytes as line
-use borrow.Author.Rules.{rules}
 use Rattle.explain_listing.proofs.said.put_rule.Goals as goal
-
-pub put_byte-requires : goal.put_byte-requires
-put_byte-requires c = tt
 
 pub returns : goal.returns
 returns c =

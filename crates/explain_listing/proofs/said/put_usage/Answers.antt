@@ -6,15 +6,11 @@ use Rattle.listing.specs.Bytes.{bytes_of}
 use Rattle.session_print.proofs.LineBytes as line
 use Rattle.session_print.proofs.ListedWrites.{still_long}
 use Rattle.explain_listing.specs.Said.{opening, rules}
-use Rattle.explain_listing.proofs.Sayings.{Ruling, ruling_begun, ruling_on}
-use borrow.Author.Rules.{rules}
+use Rattle.explain_listing.proofs.Sayings.{ruling_begun, ruling_on}
 use Rattle.explain_listing.proofs.said.put_usage.Goals as goal
 
 pub loop-done-init : goal.loop-done-init
 loop-done-init c = ruling_begun _ _ (omega (arith, c.put_text-at.ensures.1))
-
-pub put_byte-requires : goal.put_byte-requires
-put_byte-requires c = tt
 
 pub loop-done-preserved : goal.loop-done-preserved
 loop-done-preserved c =

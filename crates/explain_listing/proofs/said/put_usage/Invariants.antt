@@ -1,12 +1,6 @@
 use Prim.Native.Nat.{◌-◌}
-use mathlib.Core.Path.{◌≡◌, ap, ◌∙◌}
-use native.Mathlib.Omega.{arith}
-use Rattle.listing.specs.Bytes.{bytes_of}
 use Rattle.session_print.proofs.LineBytes as line
-use Rattle.session_print.proofs.ListedWrites.{still_long}
-use Rattle.explain_listing.specs.Said.{opening, rules}
-use Rattle.explain_listing.proofs.Sayings.{Ruling, ruling_begun, ruling_on}
-use borrow.Author.Rules.{rules}
+use Rattle.explain_listing.proofs.Sayings.{Ruling}
 use Rattle.explain_listing.proofs.said.put_usage.Given as goal
 
 abbrev pub invariant-loop-done : goal.invariant-loop-done

@@ -3,7 +3,6 @@ use mathlib.Core.Path.{refl}
 use Rattle.listing.specs.Bytes.{bytes_of}
 use Rattle.explain_listing.specs.Said.{verdict_line}
 use Rattle.explain_listing.proofs.Sayings.{verdict_said}
-use borrow.Author.Rules.{rules}
 use Rattle.explain_listing.proofs.said.put_verdict.Goals as goal
 
 pub returns-in-TooLong : goal.returns-in-TooLong

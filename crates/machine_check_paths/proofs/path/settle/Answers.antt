@@ -5,14 +5,13 @@ use native.Mathlib.Omega.{arith}
 use Rattle.machine_check_paths.specs.Scan.{record_of}
 use Rattle.machine_check_paths.proofs.ScanLaws.{no_sleep, too_deep, level_from, child_from, place_from_lem}
 use Rattle.machine_check_paths.proofs.StepLaws.{refused_step, waiting_step, forking_step, entered_fields, pushed_fields, settled_as, at_wait_path, at_other_path, at_deep_path, at_fork_path}
-use borrow.Author.Rules.{rules}
 use Rattle.machine_check_paths.proofs.path.settle.Goals as goal
 
 pub block_of-at-requires : goal.block_of-at-requires
 block_of-at-requires c = (c.requires.1, omega (arith, c.requires.3.few, c.requires.2), c.requires.3.slot c.args.k c.requires.2)
 
 pub entered-q-requires : goal.entered-q-requires
-entered-q-requires c = 
+entered-q-requires c =
     let a = c.args in
     let e : c.number-level.result ≡ (record_of a.m.now a.k).level = level_from a.m.now a.k _ _ c.block_of-at.ensures.0 c.number-level.ensures.0 in
     let s : c.number-level.result < 11 = rw e c.requires.5.shallow in
@@ -22,7 +21,7 @@ pub line_at-line-requires : goal.line_at-line-requires
 line_at-line-requires c = (c.requires.0, c.requires.5.there, c.requires.3.table)
 
 pub returns-then-kind-eq-WAIT : goal.returns-then-kind-eq-WAIT
-returns-then-kind-eq-WAIT c = 
+returns-then-kind-eq-WAIT c =
     let a = c.args in
     let e : c.number-level.result ≡ (record_of a.m.now a.k).level = level_from a.m.now a.k _ _ c.block_of-at.ensures.0 c.number-level.ensures.0 in
     let f : c.number-child.result ≡ (record_of a.m.now a.k).child = child_from a.m.now a.k _ _ c.block_of-at.ensures.0 c.number-child.ensures.0 in
@@ -34,7 +33,7 @@ returns-then-kind-eq-WAIT c =
     )
 
 pub returns-then-kind-ne-FORK : goal.returns-then-kind-ne-FORK
-returns-then-kind-ne-FORK c = 
+returns-then-kind-ne-FORK c =
     let a = c.args in
     let g : c.number-place.result ≡ (record_of a.m.now a.k).place = place_from_lem a.m.now a.k _ _ c.block_of-at.ensures.0 c.number-place.ensures.0 in
     let e : c.number-level.result ≡ (record_of a.m.now a.k).level = level_from a.m.now a.k _ _ c.block_of-at.ensures.0 c.number-level.ensures.0 in
@@ -47,7 +46,7 @@ returns-then-kind-ne-FORK c =
     )
 
 pub returns-then-level-gt9 : goal.returns-then-level-gt9
-returns-then-level-gt9 c = 
+returns-then-level-gt9 c =
     let a = c.args in
     let e : c.number-level.result ≡ (record_of a.m.now a.k).level
     = level_from a.m.now a.k _ _ c.block_of-at.ensures.0 c.number-level.ensures.0 in
@@ -61,7 +60,7 @@ returns-then-level-gt9 c =
     )
 
 pub returns : goal.returns
-returns c = 
+returns c =
     let a = c.args in
     let e : c.number-level.result ≡ (record_of a.m.now a.k).level
     = level_from a.m.now a.k _ _ c.block_of-at.ensures.0 c.number-level.ensures.0 in

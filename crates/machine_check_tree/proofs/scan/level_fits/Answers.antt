@@ -1,7 +1,6 @@
 -- `machine_check_tree::scan::level_fits` meets its contract.
 use native.Mathlib.Numerals.{add-one}
 use Rattle.machine.specs.Records.{level_fits}
-use borrow.Author.Rules.{rules}
 use Rattle.machine_check_tree.proofs.scan.level_fits.Goals as goal
 
 pub returns-then-forked : goal.returns-then-forked

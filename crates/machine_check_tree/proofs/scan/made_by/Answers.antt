@@ -3,18 +3,16 @@ use Prim.Native.Nat.{◌<◌}
 use mathlib.Core.Path.{◌≡◌, sym, ap, ◌∙◌}
 use lib.ListN.{get_or}
 use native.Mathlib.Omega.{arith}
-use borrow.Author.Tests.{not-true, not-false}
 use Rattle.machine_check_paths.specs.Scan.{record_of}
 use Rattle.machine_check_paths.proofs.ScanLaws.{level_below, level_unfit, picked_made, level_from, child_from, no_maker_made, frame_fits, maker_unfit, maker_fit}
 use Rattle.table_child_fields.proofs.PickLaws.{picked}
-use borrow.Author.Rules.{rules}
 use Rattle.machine_check_tree.proofs.scan.made_by.Goals as goal
 
 pub block_of-at-requires : goal.block_of-at-requires
 block_of-at-requires c = (c.requires.1, omega (arith, c.requires.3.few, c.requires.2), c.requires.3.slot c.args.k c.requires.2)
 
 pub returns-then-not-level_fits : goal.returns-then-not-level_fits
-returns-then-not-level_fits c = 
+returns-then-not-level_fits c =
     let a = c.args in
     let e : c.number-level.result ≡ (record_of a.m.now a.k).level = level_from a.m.now a.k _ _ c.block_of-at.ensures.0 c.number-level.ensures.0 in
     let h = rw e at (sym c.level_fits.ensures ∙ c.if-not-level_fits.true) in (
@@ -24,28 +22,28 @@ returns-then-not-level_fits c =
     )
 
 pub bounds-p-level : goal.bounds-p-level
-bounds-p-level c = 
+bounds-p-level c =
     let b : c.number-level.result < c.args.p.depth = level_below _ _ _ (sym c.level_fits.ensures ∙ c.if-not-level_fits.false) in
     omega (arith, b, c.requires.4.room)
 
 pub bounds-p-level-2 : goal.bounds-p-level-2
-bounds-p-level-2 c = 
+bounds-p-level-2 c =
     let b : c.number-level.result < c.args.p.depth = level_below _ _ _ (sym c.level_fits.ensures ∙ c.if-not-level_fits.false) in
     omega (arith, b, c.requires.4.room)
 
 pub bounds-p-level-3 : goal.bounds-p-level-3
-bounds-p-level-3 c = 
+bounds-p-level-3 c =
     let b : c.number-level.result < c.args.p.depth = level_below _ _ _ (sym c.level_fits.ensures ∙ c.if-not-level_fits.false) in
     omega (arith, b, c.requires.4.room)
 
 pub pick-requires : goal.pick-requires
-pick-requires c = 
+pick-requires c =
     let a = c.args in
     let b : c.number-level.result < a.p.depth = level_below _ _ _ (sym c.level_fits.ensures ∙ c.if-not-level_fits.false) in
     (c.requires.0, frame_fits a.t.now a.m.now a.k a.p c.number-level.result c.requires.4 b)
 
 pub returns : goal.returns
-returns c = 
+returns c =
     let a = c.args in
     let e : c.number-level.result ≡ (record_of a.m.now a.k).level = level_from a.m.now a.k _ _ c.block_of-at.ensures.0 c.number-level.ensures.0 in
     let f : c.number-child.result ≡ (record_of a.m.now a.k).child = child_from a.m.now a.k _ _ c.block_of-at.ensures.0 c.number-child.ensures.0 in

@@ -8,11 +8,10 @@ use borrow.Author.Tests.{not-true, not-false}
 use Rattle.machine_check_paths.specs.Scan.{record_of}
 use Rattle.machine_check_paths.proofs.ScanLaws.{size_from, wrong_size}
 use Rattle.machine_check_paths.proofs.StepLaws.{refused_step, unmade_path, wrong_size_path, right_size_path}
-use borrow.Author.Rules.{rules}
 use Rattle.machine_check_tree.proofs.scan.step.Goals as goal
 
 pub returns-then-not-made : goal.returns-then-not-made
-returns-then-not-made c = 
+returns-then-not-made c =
     let a = c.args in
     let n = not-true _ c.if-not-made.true in (
       c.refused.ensures ∙ unmade_path _ _ _ _ _ c.made_by-made.ensures.0 n,
@@ -26,7 +25,7 @@ pub owned_by-owned-requires : goal.owned_by-owned-requires
 owned_by-owned-requires c = (c.requires.0, (c.made_by-made.ensures.1.a_maker (not-false _ c.if-not-made.false)).there, c.requires.3.table.most)
 
 pub returns-then-number-owned : goal.returns-then-number-owned
-returns-then-number-owned c = 
+returns-then-number-owned c =
     let a = c.args in
     let e : c.number.result ≡ length (record_of a.m.now a.k).own = size_from a.m.now a.k _ _ c.block_of-at.ensures.0 c.number.ensures.0 in
     let C = c.made_by-made.ensures.1.a_maker (not-false _ c.if-not-made.false) in
@@ -37,14 +36,14 @@ returns-then-number-owned c =
     )
 
 pub settle-requires : goal.settle-requires
-settle-requires c = 
+settle-requires c =
     let a = c.args in
     let e : c.number.result ≡ length (record_of a.m.now a.k).own = size_from a.m.now a.k _ _ c.block_of-at.ensures.0 c.number.ensures.0 in
     let C = c.made_by-made.ensures.1.a_maker (not-false _ c.if-not-made.false) in
     (c.requires.0, c.requires.1, c.requires.2, c.requires.3, c.requires.4, C, sym e ∙ c.if-number-owned.false ∙ c.owned_by-owned.ensures)
 
 pub returns : goal.returns
-returns c = 
+returns c =
     let a = c.args in
     let e : c.number.result ≡ length (record_of a.m.now a.k).own = size_from a.m.now a.k _ _ c.block_of-at.ensures.0 c.number.ensures.0 in (
       c.settle.ensures.0 ∙ right_size_path _ _ _ _ _ c.made_by-made.ensures.0 (not-false _ c.if-not-made.false) (sym e ∙ c.if-number-owned.false ∙ c.owned_by-owned.ensures),

@@ -1,7 +1,5 @@
 -- `machine_words::due::sooner_of_variables` meets its contract.
-use Prim.Native.Nat.{◌-◌}
-use Rattle.machine_words.proofs.DueLaws.{VariablesLeft, variables_begin, variables_go_on, variables_end}
-use borrow.Author.Rules.{rules}
+use Rattle.machine_words.proofs.DueLaws.{variables_begin, variables_go_on, variables_end}
 use Rattle.machine_words.proofs.due.sooner_of_variables.Goals as goal
 
 pub loop-i-init : goal.loop-i-init

@@ -1,6 +1,5 @@
 use Prim.Native.Nat.{◌-◌}
-use Rattle.machine_words.proofs.DueLaws.{VariablesLeft, variables_begin, variables_go_on, variables_end}
-use borrow.Author.Rules.{rules}
+use Rattle.machine_words.proofs.DueLaws.{VariablesLeft}
 use Rattle.machine_words.proofs.due.sooner_of_variables.Given as goal
 
 abbrev pub invariant-loop-i : goal.invariant-loop-i

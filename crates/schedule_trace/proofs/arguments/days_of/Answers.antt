@@ -2,7 +2,6 @@
 use mathlib.Core.Path.{sym, ◌∙◌}
 use native.Mathlib.Omega.{arith}
 use Rattle.schedule_trace.proofs.Days.{days_read, no_days}
-use borrow.Author.Rules.{rules}
 use Rattle.schedule_trace.proofs.arguments.days_of.Goals as goal
 
 pub returns-in-Value : goal.returns-in-Value

@@ -1,6 +1,4 @@
 -- `table_cells::cell_value` meets its contract.
-use Prim.Native.Nat.{◌-◌}
-use borrow.Author.Rules.{rules}
 use Rattle.table_cells.proofs.cell.cell_value.Goals as goal
 
 pub returns-in-Value : goal.returns-in-Value

@@ -1,7 +1,5 @@
 -- `table_cells::low_word` meets its contract.
-use Prim.Native.Nat.{◌-◌}
 use borrow.Author.Tests.{lt-ltb, le-ltb}
-use borrow.Author.Rules.{rules}
 use Rattle.table_cells.proofs.cell.low_word.Goals as goal
 
 pub returns-then-n-lt4294967296 : goal.returns-then-n-lt4294967296

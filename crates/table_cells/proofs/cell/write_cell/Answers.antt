@@ -1,7 +1,5 @@
 -- `table_cells::write_cell` meets its contract.
 use mathlib.Core.Path.{◌∙◌}
-use Prim.Native.Nat.{◌-◌}
-use borrow.Author.Rules.{rules}
 use Rattle.table_cells.proofs.cell.write_cell.Goals as goal
 
 pub returns : goal.returns

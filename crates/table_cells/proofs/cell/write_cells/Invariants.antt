@@ -1,8 +1,5 @@
-use mathlib.Core.Path.{refl}
 use Prim.Native.Nat.{◌-◌}
-use native.Mathlib.Omega.{arith}
 use lib.ListN.{length}
-use Rattle.text_fields.proofs.OnField as on
 use Rattle.table_cells.proofs.CellLoop as loop
 use Rattle.table_cells.proofs.cell.write_cells.Given as goal
 

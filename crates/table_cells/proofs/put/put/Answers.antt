@@ -1,8 +1,6 @@
 -- `table_cells::put` meets its contract.
 use mathlib.Core.Path.{sym}
-use Prim.Native.Nat.{◌-◌}
 use lib.Seq.{set_out}
-use borrow.Author.Rules.{rules}
 use Rattle.table_cells.proofs.put.put.Goals as goal
 
 pub returns-else-a-t : goal.returns-else-a-t

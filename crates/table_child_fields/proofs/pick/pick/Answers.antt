@@ -1,10 +1,8 @@
 -- `table_child_fields::pick::pick` meets its contract.
-use Prim.Native.Nat.{◌+◌, ◌-◌, ◌≤◌}
-use mathlib.Core.Path.{◌≡◌, ◌∙◌}
-use lib.ListN.{length}
+use Prim.Native.Nat.{◌-◌}
+use mathlib.Core.Path.{◌∙◌}
 use native.Mathlib.Omega.{arith}
 use Rattle.table_child_fields.proofs.PickLaws.{no_maker_low, no_maker_high, a_maker_picked}
-use borrow.Author.Rules.{rules}
 use Rattle.table_child_fields.proofs.pick.pick.Goals as goal
 
 pub returns-then-child-next : goal.returns-then-child-next
@@ -31,7 +29,7 @@ next_head-after-requires c =
     (c.requires.0, omega (arith, i, c.head_after-head.ensures))
 
 pub returns : goal.returns
-returns c = 
+returns c =
     let a = c.args in
     a_maker_picked a.t.now a.first a.left a.next a.child c.head_after-head.result _ _ c.if-child-next.false c.if-left-skip.false c.head_after-head.ensures
     c.head_at-routine.ensures.1 c.next_head-after.ensures

@@ -1,7 +1,6 @@
 -- `table_forks::write_call` meets its contract.
 use mathlib.Core.Path.{◌∙◌}
 use native.Mathlib.Omega.{arith}
-use borrow.Author.Rules.{rules}
 use Rattle.table_forks.proofs.fork.write_call.Goals as goal
 
 pub write_cells-cells-requires : goal.write_cells-cells-requires
@@ -14,6 +13,6 @@ pub overflow_cast-cells : goal.overflow_cast-cells
 overflow_cast-cells c = omega (arith, c.write_cells-cells.ensures.few, c.requires.1)
 
 pub returns : goal.returns
-returns c = 
+returns c =
     let w = c.write_cells-cells.ensures in
     record { answer = w.answer; written = c.put.ensures ∙ rw w.written; few = w.few; within = w.within }

@@ -1,5 +1,4 @@
 -- `table_forks::write_fork` meets its contract.
-use Prim.Native.Nat.{◌-◌}
 use native.Mathlib.Omega.{arith}
 use Rattle.table_forks.proofs.Calls as calls
 use Rattle.table_forks.proofs.fork.write_fork.Goals as goal
@@ -8,39 +7,39 @@ pub loop-b-init : goal.loop-b-init
 loop-b-init c = calls.forking_begun _ _ _ _ _ _ c.requires.0
 
 pub overflow_mul-cells : goal.overflow_mul-cells
-overflow_mul-cells c = 
+overflow_mul-cells c =
     let v = c.loop-b.invariant in
     omega (arith, v.small, calls.fork_room _ _ _ _ _ _ c.requires.4 _ _ _ _ _ _ v c.loop-b-test.true)
 
 pub overflow_add-a : goal.overflow_add-a
-overflow_add-a c = 
+overflow_add-a c =
     let v = c.loop-b.invariant in
     omega (arith, v.small, calls.fork_room _ _ _ _ _ _ c.requires.4 _ _ _ _ _ _ v c.loop-b-test.true, c.requires.3)
 
 pub write_call-call-requires : goal.write_call-call-requires
-write_call-call-requires c = 
+write_call-call-requires c =
     let v = c.loop-b.invariant in
     let few = calls.fork_room _ _ _ _ _ _ c.requires.4 _ _ _ _ _ _ v c.loop-b-test.true in
     (v.within, c.requires.1, omega (arith, v.small, few, c.requires.3))
 
 pub overflow_add-cells : goal.overflow_add-cells
-overflow_add-cells c = 
+overflow_add-cells c =
     let v = c.loop-b.invariant in
     let few = calls.fork_room _ _ _ _ _ _ c.requires.4 _ _ _ _ _ _ v c.loop-b-test.true in
     omega (arith, v.small, few, c.write_call-call.ensures.few, c.requires.1)
 
 pub overflow_add-count : goal.overflow_add-count
-overflow_add-count c = 
+overflow_add-count c =
     let v = c.loop-b.invariant in
     omega (arith, v.few)
 
 pub loop-b-smaller : goal.loop-b-smaller
-loop-b-smaller c = 
+loop-b-smaller c =
     let v = c.loop-b.invariant in
     omega (arith, calls.fork_room _ _ _ _ _ _ c.requires.4 _ _ _ _ _ _ v c.loop-b-test.true)
 
 pub loop-b-preserved : goal.loop-b-preserved
-loop-b-preserved c = 
+loop-b-preserved c =
     let v = c.loop-b.invariant in
     let tab = c.loop-b-test.true in
     let p = c.requires in

@@ -1,5 +1,4 @@
 use Prim.Native.Nat.{◌-◌}
-use native.Mathlib.Omega.{arith}
 use Rattle.table_forks.proofs.Calls as calls
 use Rattle.table_forks.proofs.fork.write_fork.Given as goal
 

@@ -1,10 +1,9 @@
 -- `table_instructions::write_branch` meets its contract.
 use Rattle.table_instructions.proofs.Instructions as written
-use borrow.Author.Rules.{rules}
 use Rattle.table_instructions.proofs.instruction.write_branch.Goals as goal
 
 pub returns : goal.returns
-returns c = 
+returns c =
     let a = c.args in
     let p = c.requires in
     let word = c.word_field-jump.ensures in

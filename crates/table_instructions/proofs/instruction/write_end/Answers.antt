@@ -1,10 +1,9 @@
 -- `table_instructions::write_end` meets its contract.
 use Rattle.table_instructions.proofs.Instructions as written
-use borrow.Author.Rules.{rules}
 use Rattle.table_instructions.proofs.instruction.write_end.Goals as goal
 
 pub returns : goal.returns
-returns c = 
+returns c =
     let a = c.args in
     let p = c.requires in
     let entry = c.put_entry.ensures in

@@ -1,7 +1,6 @@
 -- `table_instructions::write_schedule` meets its contract.
 use native.Mathlib.Omega.{arith}
 use Rattle.table_instructions.proofs.Instructions as written
-use borrow.Author.Rules.{rules}
 use Rattle.table_instructions.proofs.instruction.write_schedule.Goals as goal
 
 pub overflow_cast-delay_cells : goal.overflow_cast-delay_cells
@@ -20,12 +19,12 @@ pub overflow_mul-result-2 : goal.overflow_mul-result-2
 overflow_mul-result-2 c = omega (arith, c.write_cells-value_cells.ensures.few, c.requires.1)
 
 pub overflow_add-result : goal.overflow_add-result
-overflow_add-result c = 
+overflow_add-result c =
     let p = c.requires in
     omega (arith, c.write_cells-delay_cells.ensures.few, c.write_cells-value_cells.ensures.few, p.1)
 
 pub returns : goal.returns
-returns c = 
+returns c =
     let a = c.args in
     let p = c.requires in
     let word = c.word_field-name.ensures in

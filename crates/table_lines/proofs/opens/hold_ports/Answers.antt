@@ -9,6 +9,6 @@ pub word_field-outputs-requires : goal.word_field-outputs-requires
 word_field-outputs-requires c = c.word_field-inputs.ensures.1
 
 pub returns : goal.returns
-returns c = 
+returns c =
     let a = c.args in
     openings.ports_held a.s.now a.place a.stop c.requires.0 c.requires.1 _ c.word_field-inputs.ensures.0 _ c.word_field-outputs.ensures.0

@@ -7,4 +7,4 @@ pub returns-then-b-eq114 : goal.returns-then-b-eq114
 returns-then-b-eq114 c = (rw c.if-b-eq114.true, omega arith)
 
 pub returns : goal.returns
-returns c = (rw (ne_eqb _ 114 c.if-b-eq114.false), omega arith)
+returns c = (rw (ne_eqb c.args.b 114 (λ e. omega arith)), omega arith)

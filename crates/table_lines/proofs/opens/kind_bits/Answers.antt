@@ -1,8 +1,6 @@
 -- `table_lines::kind_bits` meets its contract.
-use Prim.Native.Nat.{◌-◌}
 use native.Mathlib.Omega.{arith}
 use Rattle.table_lines.proofs.Openings as openings
-use borrow.Author.Rules.{rules}
 use Rattle.table_lines.proofs.opens.kind_bits.Goals as goal
 
 pub loop-i-init : goal.loop-i-init

@@ -1,7 +1,5 @@
 use Prim.Native.Nat.{◌-◌}
-use native.Mathlib.Omega.{arith}
 use Rattle.table_lines.proofs.Openings as openings
-use borrow.Author.Rules.{rules}
 use Rattle.table_lines.proofs.opens.kind_bits.Given as goal
 
 abbrev pub invariant-loop-i : goal.invariant-loop-i

@@ -2,7 +2,6 @@
 use mathlib.Core.Path.{ap}
 use native.Mathlib.Omega.{arith}
 use Rattle.table_progress.specs.Progress.{words_in}
-use borrow.Author.Rules.{rules}
 use Rattle.table_progress.proofs.progress.advance.Goals as goal
 
 pub overflow_add-result-in-Instruction-2 : goal.overflow_add-result-in-Instruction-2

@@ -1,5 +1,4 @@
 -- `table_progress::enter` meets its contract.
-use borrow.Author.Rules.{rules}
 use Rattle.table_progress.proofs.progress.enter.Goals as goal
 
 pub returns-in-Ports : goal.returns-in-Ports

@@ -1,4 +1,3 @@
-use borrow.Author.Rules.{rules}
 use Rattle.test_cases.proofs.frame.moment_at.Goals as goal
 
 pub returns : goal.returns

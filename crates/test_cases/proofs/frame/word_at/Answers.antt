@@ -6,7 +6,6 @@ use Rattle.test_cases.specs.Frame.{word_of, word_at}
 use native.Mathlib.Omega.{arith}
 use mathlib.Core.Path.{refl}
 use lib.ListN.{length, drop_of_length-le}
-use borrow.Author.Rules.{rules}
 use Rattle.test_cases.proofs.frame.word_at.Goals as goal
 
 pub returns-then-at-s : goal.returns-then-at-s

@@ -1,5 +1,4 @@
 use native.Mathlib.Omega.{arith}
-use borrow.Author.Rules.{rules}
 use Rattle.test_cases.proofs.Telling.{none_from, one_from}
 use Rattle.test_cases.proofs.memories.all_from.Goals as goal
 

@@ -1,11 +1,7 @@
-use mathlib.Core.Path.{◌≡◌, ap, ◌∙◌}
-use Prim.Native.Nat.{ℕ, ◌-◌, ◌≤◌, min}
-use mathlib.Core.List.{List}
-use native.Mathlib.Omega.{arith}
-use lib.ListN.{length, get_or, set, length-set}
+use mathlib.Core.Path.{◌≡◌}
+use Prim.Native.Nat.{◌-◌, ◌≤◌, min}
+use lib.ListN.{length}
 use Rattle.test_cases.specs.Words.{copied}
-use Rattle.test_cases.proofs.Storing.{copied_next}
-use borrow.Author.Rules.{rules}
 use Rattle.test_cases.proofs.memories.copy.Given as goal
 
 abbrev pub invariant-loop-k : goal.invariant-loop-k

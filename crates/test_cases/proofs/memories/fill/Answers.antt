@@ -1,10 +1,10 @@
 use mathlib.Core.List.{append-nil}
 use lib.Seq.{drop-length}
 use mathlib.Core.Path.{◌≡◌, ap, ◌∙◌}
-use Prim.Native.Nat.{ℕ, ◌+◌, ◌-◌, ◌≤◌}
-use mathlib.Core.List.{List, ◌++◌}
+use Prim.Native.Nat.{ℕ, ◌-◌}
+use mathlib.Core.List.{List}
 use native.Mathlib.Omega.{arith}
-use lib.ListN.{length, set, replicate, drop, length-set}
+use lib.ListN.{length, set, replicate, length-set}
 use Rattle.test_cases.proofs.Storing.{filled_next}
 use borrow.Author.Rules.{rules}
 use Rattle.test_cases.proofs.memories.fill.Goals as goal

@@ -1,12 +1,7 @@
-use mathlib.Core.List.{append-nil}
-use lib.Seq.{drop-length}
-use mathlib.Core.Path.{◌≡◌, ap, ◌∙◌}
-use Prim.Native.Nat.{ℕ, ◌+◌, ◌-◌, ◌≤◌}
-use mathlib.Core.List.{List, ◌++◌}
-use native.Mathlib.Omega.{arith}
-use lib.ListN.{length, set, replicate, drop, length-set}
-use Rattle.test_cases.proofs.Storing.{filled_next}
-use borrow.Author.Rules.{rules}
+use mathlib.Core.Path.{◌≡◌}
+use Prim.Native.Nat.{◌+◌, ◌-◌, ◌≤◌}
+use mathlib.Core.List.{◌++◌}
+use lib.ListN.{length, replicate, drop}
 use Rattle.test_cases.proofs.memories.fill.Given as goal
 
 abbrev pub invariant-loop-k : goal.invariant-loop-k

@@ -2,7 +2,6 @@
 use native.Mathlib.Omega.{arith}
 use Rattle.listing.specs.Bytes.{bytes_of}
 use Rattle.session_print.proofs.LineBytes as line
-use borrow.Author.Rules.{rules}
 use Rattle.test_cases.proofs.Texts as texts
 use Rattle.test_cases.proofs.report.put_summary.Goals as goal
 

@@ -1,8 +1,6 @@
 -- `test_cases::report::put_text` meets its contract.
 use Prim.Native.Nat.{◌-◌}
 use native.Mathlib.Omega.{arith}
-use lib.ListN.{length}
-use borrow.Author.Rules.{rules}
 use Rattle.test_cases.proofs.Texts as texts
 use Rattle.test_cases.proofs.report.put_text.Goals as goal
 

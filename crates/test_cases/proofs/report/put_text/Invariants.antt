@@ -1,7 +1,5 @@
 use Prim.Native.Nat.{◌-◌}
-use native.Mathlib.Omega.{arith}
 use lib.ListN.{length}
-use borrow.Author.Rules.{rules}
 use Rattle.test_cases.proofs.Texts as texts
 use Rattle.test_cases.proofs.report.put_text.Given as goal
 

@@ -1,6 +1,5 @@
 use mathlib.Core.Path.{sym, ◌∙◌}
 use Rattle.test_lending.proofs.Lending.{copy_is}
-use borrow.Author.Rules.{rules}
 use Rattle.test_lending.proofs.machine.copy_of.Goals as goal
 
 pub returns : goal.returns

@@ -1,5 +1,4 @@
 use native.Mathlib.Omega.{arith}
-use borrow.Author.Tests.{not-true, not-false}
 use Rattle.test_cases.proofs.Telling.{tells_yes, tells_same, tells_else}
 use Rattle.test_lending.proofs.machine.is_right.Goals as goal
 

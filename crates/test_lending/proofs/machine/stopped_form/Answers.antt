@@ -1,6 +1,5 @@
 use native.Mathlib.Omega.{arith}
 use Rattle.test_cases.proofs.Telling.{tells_no, tells_same}
-use borrow.Author.Rules.{rules}
 use Rattle.test_lending.proofs.machine.stopped_form.Goals as goal
 
 pub returns-then-machine-lt-MEMORY : goal.returns-then-machine-lt-MEMORY

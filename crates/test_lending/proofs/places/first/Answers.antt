@@ -1,5 +1,4 @@
 use Rattle.test_lending.proofs.Lending.{no_first}
-use borrow.Author.Rules.{rules}
 use Rattle.test_lending.proofs.places.first.Goals as goal
 
 pub returns-then-words-eq0 : goal.returns-then-words-eq0

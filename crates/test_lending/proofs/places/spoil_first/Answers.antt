@@ -1,5 +1,4 @@
 use Rattle.test_lending.proofs.Lending.{first_left, first_spoilt}
-use borrow.Author.Rules.{rules}
 use Rattle.test_lending.proofs.places.spoil_first.Goals as goal
 
 pub returns-then-spoil-which : goal.returns-then-spoil-which

@@ -1,6 +1,5 @@
 use mathlib.Core.Path.{refl}
 use Rattle.test_lending.proofs.Lending.{no_first}
-use borrow.Author.Rules.{rules}
 use Rattle.test_lending.proofs.places.swap_first.Goals as goal
 
 pub returns-then-words-eq0 : goal.returns-then-words-eq0

@@ -1,4 +1,3 @@
-use borrow.Author.Rules.{rules}
 use Rattle.test_load.proofs.figures.load_figures.Goals as goal
 
 pub returns : goal.returns

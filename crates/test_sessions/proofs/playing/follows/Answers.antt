@@ -4,7 +4,6 @@ use lib.Seq.{length-take-le}
 use Rattle.test_cases.proofs.Telling.{never}
 use Rattle.test_sessions.specs.Playing.{follows, differs}
 use Rattle.test_sessions.proofs.Steps.{part_is}
-use borrow.Author.Rules.{rules}
 use Rattle.test_sessions.proofs.playing.follows.Goals as goal
 
 pub returns-then-out-n : goal.returns-then-out-n

@@ -1,10 +1,6 @@
-use mathlib.Core.Path.{sym, ◌∙◌}
-use borrow.Author.Tests.{not-true, not-false}
 use Rattle.session_replay.specs.Phases.{memories}
 use Rattle.session_replay.specs.Ending.{steps_left}
-use Rattle.session_replay.proofs.Ending.{made_as_long, still_long}
-use Rattle.test_sessions.proofs.Steps.{Playing, begun, played, taken_on, taken_less, taken_wrong}
-use borrow.Author.Rules.{rules}
+use Rattle.test_sessions.proofs.Steps.{Playing}
 use Rattle.test_sessions.proofs.playing.plays.Given as goal
 
 abbrev pub invariant-loop-phase : goal.invariant-loop-phase

@@ -1,11 +1,9 @@
 use mathlib.Core.Path.{ap, ◌∙◌}
-use Prim.Native.Nat.{◌-◌, ◌≤◌}
+use Prim.Native.Nat.{◌-◌}
 use native.Mathlib.Omega.{arith}
-use lib.ListN.{length}
 use Rattle.test_cases.specs.Frame.{word_at}
 use Rattle.test_stored_answers.specs.Pairs.{fitting}
-use Rattle.test_stored_answers.proofs.Pairing.{Reading, begun, turn, ended}
-use borrow.Author.Rules.{rules}
+use Rattle.test_stored_answers.proofs.Pairing.{begun, turn, ended}
 use Rattle.test_stored_answers.proofs.inputs.read_pairs.Goals as goal
 
 pub loop-k-init : goal.loop-k-init

@@ -1,11 +1,6 @@
-use mathlib.Core.Path.{ap, ◌∙◌}
 use Prim.Native.Nat.{◌-◌, ◌≤◌}
-use native.Mathlib.Omega.{arith}
 use lib.ListN.{length}
-use Rattle.test_cases.specs.Frame.{word_at}
-use Rattle.test_stored_answers.specs.Pairs.{fitting}
-use Rattle.test_stored_answers.proofs.Pairing.{Reading, begun, turn, ended}
-use borrow.Author.Rules.{rules}
+use Rattle.test_stored_answers.proofs.Pairing.{Reading}
 use Rattle.test_stored_answers.proofs.inputs.read_pairs.Given as goal
 
 abbrev pub invariant-loop-k : goal.invariant-loop-k

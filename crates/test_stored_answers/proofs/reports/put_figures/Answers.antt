@@ -3,7 +3,6 @@ use native.Mathlib.Omega.{arith}
 use Rattle.listing.specs.Bytes.{bytes_of}
 use Rattle.session_print.proofs.LineBytes as line
 use Rattle.test_stored_answers.specs.Reports.{figures_of}
-use borrow.Author.Rules.{rules}
 use Rattle.test_stored_answers.proofs.reports.put_figures.Goals as goal
 
 pub returns : goal.returns

@@ -1,7 +1,6 @@
 -- `test_stored_answers::reports::put_named` meets its contract.
 use native.Mathlib.Omega.{arith}
 use Rattle.session_print.proofs.LineBytes as line
-use borrow.Author.Rules.{rules}
 use Rattle.test_stored_answers.proofs.reports.put_named.Goals as goal
 
 pub returns : goal.returns

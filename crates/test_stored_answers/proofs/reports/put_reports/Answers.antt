@@ -3,7 +3,6 @@ use native.Mathlib.Omega.{arith}
 use Rattle.listing.specs.Bytes.{bytes_of}
 use Rattle.session_print.proofs.LineBytes as line
 use Rattle.test_stored_answers.specs.Reports.{report_lines}
-use borrow.Author.Rules.{rules}
 use Rattle.test_stored_answers.proofs.reports.put_reports.Goals as goal
 
 pub returns : goal.returns

@@ -1,10 +1,8 @@
-use mathlib.Core.Path.{◌≡◌, ap, ◌∙◌}
+use mathlib.Core.Path.{◌≡◌}
 use Prim.Native.Nat.{min}
 use native.Mathlib.Omega.{arith}
 use lib.ListN.{length}
-use borrow.Author.Tests.{not-true, not-false}
 use Rattle.test_stored_items.proofs.Agreeing.{answer_fails, by_machine}
-use borrow.Author.Rules.{rules}
 use Rattle.test_stored_items.proofs.calls.run_call.Goals as goal
 
 pub shape_of-machine-then-not-answer_right : goal.shape_of-machine-then-not-answer_right

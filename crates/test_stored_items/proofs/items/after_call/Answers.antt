@@ -1,4 +1,3 @@
-use borrow.Author.Rules.{rules}
 use Rattle.test_stored_items.proofs.items.after_call.Goals as goal
 
 pub returns : goal.returns

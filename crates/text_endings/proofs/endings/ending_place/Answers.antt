@@ -1,8 +1,6 @@
 -- `text_endings::ending_place` meets its contract.
 use mathlib.Core.Path.{sym, ap, ◌∙◌}
-use Prim.Native.Nat.{◌-◌}
 use native.Mathlib.Omega.{arith}
-use lib.ListN.{length}
 use Rattle.text_records.proofs.Lines as lines
 use Rattle.text_limits.proofs.Steps as steps
 use Rattle.text_endings.specs.Endings.{ends_badly, may_end_with}
@@ -21,7 +19,7 @@ pub read_line-requires : goal.read_line-requires
 read_line-requires c = (c.loop-at.invariant.formed.within, omega arith, search rules)
 
 pub returns-in_default : goal.returns-in_default
-returns-in_default c = 
+returns-in_default c =
     let v = c.loop-at in
     let s = c.args.s.now in
     absurd (steps.never_bad s v.at v.line (lines.next_line s v.at v.line v.invariant.formed c.loop-at-test.true) _ nothing (sym c.in_default.is ∙ c.read_line.ensures))
@@ -30,7 +28,7 @@ pub overflow_sub-result : goal.overflow_sub-result
 overflow_sub-result c = omega (arith, c.loop-at.invariant.formed.some_line)
 
 pub returns-then-ends_badly : goal.returns-then-ends_badly
-returns-then-ends_badly c = 
+returns-then-ends_badly c =
     let v = c.loop-at in
     let s = c.args.s.now in
     let n = lines.next_line s v.at v.line v.invariant.formed c.loop-at-test.true in
@@ -39,7 +37,7 @@ returns-then-ends_badly c =
     pass.ending_bad s v.at v.line v.may_end v.invariant n _ nothing (ap (ends_badly v.may_end) (sym r) ∙ sym c.ends_badly.ensures ∙ c.if-ends_badly.true)
 
 pub loop-at-smaller : goal.loop-at-smaller
-loop-at-smaller c = 
+loop-at-smaller c =
     let v = c.loop-at in
     let s = c.args.s.now in
     let n = lines.next_line s v.at v.line v.invariant.formed c.loop-at-test.true in
@@ -48,7 +46,7 @@ loop-at-smaller c =
     omega (arith, o, c.loop-at-test.true)
 
 pub loop-at-preserved : goal.loop-at-preserved
-loop-at-preserved c = 
+loop-at-preserved c =
     let v = c.loop-at in
     let s = c.args.s.now in
     let n = lines.next_line s v.at v.line v.invariant.formed c.loop-at-test.true in
@@ -60,7 +58,7 @@ loop-at-preserved c =
     rw (o, l, m) (pass.ending_on s v.at v.line v.may_end v.invariant n _ nothing (ap (ends_badly v.may_end) (sym r) ∙ sym c.ends_badly.ensures ∙ c.if-ends_badly.false))
 
 pub returns-then-may_end : goal.returns-then-may_end
-returns-then-may_end c = 
+returns-then-may_end c =
     let v = c.loop-at in
     let d = pass.ending_done c.args.s.now v.at v.line v.may_end v.invariant c.loop-at-test.false in
     rw c.if-may_end.true at d
@@ -69,7 +67,7 @@ pub overflow_sub-result-2 : goal.overflow_sub-result-2
 overflow_sub-result-2 c = omega (arith, c.loop-at.invariant.formed.some_line)
 
 pub returns : goal.returns
-returns c = 
+returns c =
     let v = c.loop-at in
     let d = pass.ending_done c.args.s.now v.at v.line v.may_end v.invariant c.loop-at-test.false in
     rw c.if-may_end.false at d

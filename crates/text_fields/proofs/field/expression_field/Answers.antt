@@ -5,7 +5,6 @@ use native.Mathlib.Omega.{arith}
 use borrow.Author.Tests.{eq-eqb, ne_eqb}
 use Rattle.text_fields.specs.declared.field.Expression.TheVariants as EV
 use Rattle.text_fields.proofs.Gather as gather
-use borrow.Author.Rules.{rules}
 use Rattle.text_fields.proofs.field.expression_field.Goals as goal
 
 pub returns-in_default : goal.returns-in_default

@@ -3,7 +3,6 @@ use mathlib.Core.Path.{sym, ap, ◌∙◌}
 use mathlib.Core.Bool.{Bool, cond}
 use Rattle.text_fields.specs.Gather.{figures_by}
 use Rattle.text_fields.specs.declared.field.Figures.TheVariants as GV
-use borrow.Author.Rules.{rules}
 use Rattle.text_fields.proofs.field.figures_field.Goals as goal
 
 pub returns-in_default : goal.returns-in_default

@@ -1,5 +1,4 @@
 -- `text_fields::number_field` meets its contract.
-use Prim.Native.Nat.{◌-◌}
 use mathlib.Core.Path.{◌≡◌, sym, ap, ◌∙◌}
 use lib.ListN.{drop, get_or}
 use lib.Seq.{slice}
@@ -10,7 +9,6 @@ use Rattle.text_place.specs.declared.place.Taken.{Taken}
 use Rattle.text_place.proofs.Places as places
 use Rattle.text_fields.proofs.Numbers as numbers
 use Rattle.text_fields.specs.declared.field.Number.TheVariants as NV
-use borrow.Author.Rules.{rules}
 use Rattle.text_fields.proofs.field.number_field.Goals as goal
 
 pub returns-then-b-eq32 : goal.returns-then-b-eq32

@@ -1,8 +1,6 @@
 -- `text_fields::pieces_field` meets its contract.
-use Prim.Native.Nat.{◌-◌}
 use mathlib.Core.Path.{refl, ap, ◌∙◌}
 use native.Mathlib.Omega.{arith}
-use lib.ListN.{length}
 use Rattle.text_fields.proofs.OnField as on
 use Rattle.text_fields.specs.Gather.{gather_one}
 use Rattle.text_fields.proofs.Gather as gather

@@ -1,9 +1,5 @@
 use Prim.Native.Nat.{◌-◌}
-use mathlib.Core.Path.{refl, ap, ◌∙◌}
-use native.Mathlib.Omega.{arith}
 use lib.ListN.{length}
-use Rattle.text_fields.proofs.OnField as on
-use Rattle.text_fields.specs.Gather.{gather_one}
 use Rattle.text_fields.proofs.Gather as gather
 use Rattle.text_fields.proofs.field.pieces_field.Given as goal
 

@@ -2,7 +2,6 @@
 use mathlib.Core.Path.{ap, ◌∙◌}
 use Rattle.listing_effect.specs.Held.{held_after}
 use Rattle.text_fields.proofs.Gather as gather
-use borrow.Author.Rules.{rules}
 use Rattle.text_fields.proofs.gathering.gathered.Goals as goal
 
 pub returns-then-g-eq0 : goal.returns-then-g-eq0

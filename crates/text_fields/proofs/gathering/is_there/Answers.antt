@@ -1,5 +1,4 @@
 -- `text_fields::is_there` meets its contract.
-use borrow.Author.Rules.{rules}
 use Rattle.text_fields.proofs.gathering.is_there.Goals as goal
 
 pub returns-in-Value : goal.returns-in-Value

@@ -1,5 +1,4 @@
 -- `text_fields::is_kind` meets its contract.
-use Prim.Native.Nat.{◌-◌}
 use borrow.Author.Tests.{ne_eqb}
 use Rattle.text_fields.proofs.kinds.is_kind.Goals as goal
 

@@ -1,5 +1,4 @@
 -- `text_fields::kinds_field` meets its contract.
-use Prim.Native.Nat.{◌-◌}
 use mathlib.Core.Path.{◌≡◌, sym, ap, ◌∙◌}
 use lib.ListN.{drop, get_or}
 use lib.Seq.{slice}
@@ -10,7 +9,6 @@ use Rattle.text_place.specs.declared.place.Taken.{Taken}
 use Rattle.text_place.proofs.Places as places
 use Rattle.text_fields.proofs.Letters as kinds
 use Rattle.text_fields.specs.declared.kinds.KindsField.TheVariants as KFV
-use borrow.Author.Rules.{rules}
 use Rattle.text_fields.proofs.kinds.kinds_field.Goals as goal
 
 pub returns-then-b-eq32 : goal.returns-then-b-eq32

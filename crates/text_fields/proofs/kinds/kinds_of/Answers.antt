@@ -1,10 +1,9 @@
 -- `text_fields::kinds_of` meets its contract.
-use Prim.Native.Nat.{◌<◌, ◌-◌}
+use Prim.Native.Nat.{◌<◌}
 use mathlib.Core.Path.{◌≡◌, sym, ◌∙◌}
 use native.Mathlib.Omega.{arith}
 use Rattle.text_fields.proofs.Letters as letters
 use Rattle.text_fields.proofs.Letters.{LettersLeft}
-use borrow.Author.Rules.{rules}
 use Rattle.text_fields.proofs.kinds.kinds_of.Goals as goal
 
 pub returns-then-from-to : goal.returns-then-from-to

@@ -1,9 +1,5 @@
-use Prim.Native.Nat.{◌<◌, ◌-◌}
-use mathlib.Core.Path.{◌≡◌, sym, ◌∙◌}
-use native.Mathlib.Omega.{arith}
-use Rattle.text_fields.proofs.Letters as letters
+use Prim.Native.Nat.{◌-◌}
 use Rattle.text_fields.proofs.Letters.{LettersLeft}
-use borrow.Author.Rules.{rules}
 use Rattle.text_fields.proofs.kinds.kinds_of.Given as goal
 
 abbrev pub invariant-loop-i : goal.invariant-loop-i

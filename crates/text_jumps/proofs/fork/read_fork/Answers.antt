@@ -5,18 +5,15 @@ use native.Mathlib.Omega.{arith}
 use lib.ListN.{length}
 use Rattle.text_piece.specs.Pieces.{cap}
 use Rattle.text_jumps.proofs.Chain as chain
-use Prim.Native.Nat.{◌-◌}
 use lib.ListN.{take, length-take}
-use Rattle.text_jumps.specs.Records.{stand_ins}
 use Rattle.text_jumps.proofs.Forks as forks
-use borrow.Author.Rules.{rules}
 use Rattle.text_jumps.proofs.fork.read_fork.Goals as goal
 
 pub loop-b-init : goal.loop-b-init
 loop-b-init c = forks.forking_begun _ _ c.args.s.now _ _ _ c.requires.0
 
 pub returns-then-count-ge8 : goal.returns-then-count-ge8
-returns-then-count-ge8 c = 
+returns-then-count-ge8 c =
     let a = c.args in
     chain.rest_bad _ a.scope _ _ _ (forks.fork_over _ _ a.s.now _ _ _ _ _ _ _ _ _ c.loop-b.invariant c.loop-b-test.true c.if-count-ge8.true)
 
@@ -24,7 +21,7 @@ pub figures_field-requires : goal.figures_field-requires
 figures_field-requires c = c.loop-b.invariant.within
 
 pub returns-in_default : goal.returns-in_default
-returns-in_default c = 
+returns-in_default c =
     let a = c.args in
     chain.rest_bad _ a.scope _ _ _ (forks.fork_unread _ a.scope.names a.s.now _ _ _ _ _ _ _ _ _ c.loop-b.invariant (omega (arith, c.well_formed)) c.loop-b-test.true (sym c.in_default.is ∙ c.figures_field.ensures))
 
@@ -32,7 +29,7 @@ pub overflow_add-count : goal.overflow_add-count
 overflow_add-count c = omega (arith, c.loop-b.invariant.few)
 
 pub overflow_add-sum : goal.overflow_add-sum
-overflow_add-sum c = 
+overflow_add-sum c =
     let a = c.args in
     let s = a.s.now in
     let v = c.loop-b in
@@ -42,10 +39,10 @@ overflow_add-sum c =
     omega (arith, c.well_formed)
 
 pub loop-b-smaller : goal.loop-b-smaller
-loop-b-smaller c = omega (arith, c.if-count-ge8.false)
+loop-b-smaller c = omega arith
 
 pub loop-b-preserved : goal.loop-b-preserved
-loop-b-preserved c = 
+loop-b-preserved c =
     let a = c.args in
     let s = a.s.now in
     let v = c.loop-b in
@@ -53,15 +50,15 @@ loop-b-preserved c =
     let g = chain.figures_got s _ _ a.scope.names small v.invariant.within _ _ _ (sym c.in-Read.is ∙ c.figures_field.ensures) in
     let few : length (take a.scope.routines a.arguments.now) ≤ 64 = omega (arith, length-take a.scope.routines a.arguments.now, c.requires.1) in
     forks.fork_on _ _ s _ _ _ _ _ _ _ _ _ v.invariant _ _ _ g.0 g.1 g.2 g.4 _
-    (forks.call_there (take a.scope.routines a.arguments.now) few a.scope.names _ g.0 g.1 g.4 ∙ sym c.call_is_there.ensures) _ c.both-there.ensures c.if-count-ge8.false
+    (forks.call_there (take a.scope.routines a.arguments.now) few a.scope.names _ g.0 g.1 g.4 ∙ sym c.call_is_there.ensures) _ c.both-there.ensures (omega arith)
 
 pub returns-then-count-eq0 : goal.returns-then-count-eq0
-returns-then-count-eq0 c = 
+returns-then-count-eq0 c =
     let a = c.args in
     chain.rest_bad _ a.scope _ _ _ (forks.fork_empty _ _ a.s.now _ _ _ _ _ _ _ _ _ c.loop-b.invariant c.loop-b-test.false c.if-count-eq0.true)
 
 pub returns : goal.returns
-returns c = 
+returns c =
     let a = c.args in
     let s = a.s.now in
     let v = c.loop-b in

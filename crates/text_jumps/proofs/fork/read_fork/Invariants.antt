@@ -1,14 +1,7 @@
-use mathlib.Core.Path.{refl, sym, ◌∙◌}
-use Prim.Native.Nat.{◌≤◌}
-use native.Mathlib.Omega.{arith}
-use lib.ListN.{length}
-use Rattle.text_piece.specs.Pieces.{cap}
-use Rattle.text_jumps.proofs.Chain as chain
 use Prim.Native.Nat.{◌-◌}
-use lib.ListN.{take, length-take}
+use lib.ListN.{take}
 use Rattle.text_jumps.specs.Records.{stand_ins}
 use Rattle.text_jumps.proofs.Forks as forks
-use borrow.Author.Rules.{rules}
 use Rattle.text_jumps.proofs.fork.read_fork.Given as goal
 
 abbrev pub invariant-loop-b : goal.invariant-loop-b

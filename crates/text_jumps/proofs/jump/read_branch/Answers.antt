@@ -6,31 +6,30 @@ use Rattle.listing.specs.Listing as L
 use Rattle.text_piece.specs.Pieces.{cap}
 use Rattle.text_jumps.proofs.Chain as chain
 use Rattle.text_jumps.proofs.Summaries as summaries
-use borrow.Author.Rules.{rules}
 use Rattle.text_jumps.proofs.jump.read_branch.Goals as goal
 
 pub returns-in_default : goal.returns-in_default
-returns-in_default c = 
+returns-in_default c =
     let a = c.args in
     let s = a.s.now in
     λ routines. chain.rest_bad routines a.scope _ _ _ (chain.expression_none s a.place a.stop c.requires a.scope.names (sym c.in_default.is ∙ c.expression_field.ensures) _)
 
 pub number_field-requires : goal.number_field-requires
-number_field-requires c = 
+number_field-requires c =
     let a = c.args in
     let s = a.s.now in
     let g1 = chain.expression_got s a.place a.stop c.requires a.scope.names _ _ _ _ (sym c.in-Read.is ∙ c.expression_field.ensures) in
     g1.1.within
 
 pub returns-in_default-number_field : goal.returns-in_default-number_field
-returns-in_default-number_field c = 
+returns-in_default-number_field c =
     let a = c.args in
     let s = a.s.now in
     let g1 = chain.expression_got s a.place a.stop c.requires a.scope.names _ _ _ _ (sym c.in-Read.is ∙ c.expression_field.ensures) in
     λ routines. chain.rest_bad routines a.scope _ _ _ (g1.1.on _ ∙ chain.number_none s _ _ g1.1.within (sym c.in_default-number_field.is ∙ c.number_field.ensures) _)
 
 pub returns-then-b2-eq9 : goal.returns-then-b2-eq9
-returns-then-b2-eq9 c = 
+returns-then-b2-eq9 c =
     let a = c.args in
     let s = a.s.now in
     let g1 = chain.expression_got s a.place a.stop c.requires a.scope.names _ _ _ _ (sym c.in-Read.is ∙ c.expression_field.ensures) in
@@ -38,7 +37,7 @@ returns-then-b2-eq9 c =
     λ routines. chain.rest_bad routines a.scope _ _ _ (g1.1.on _ ∙ g2.1.on _ ∙ chain.end_open s c.in-Read-number_field.p2.offset _ (L.Line.instruction (L.Instruction.branch g1.0 g2.0)) c.if-b2-eq9.true)
 
 pub overflow_add-result : goal.overflow_add-result
-overflow_add-result c = 
+overflow_add-result c =
     let a = c.args in
     let s = a.s.now in
     let small : a.scope.names ≤ cap = omega (arith, c.well_formed) in
@@ -47,7 +46,7 @@ overflow_add-result c =
     omega (arith, c.well_formed, chain.expression_length s _ _ _ _ g1.0 g1.1, g1.2, g1.1.moves, g1.1.within.inside, g2.1.opens, g1.1.moved g2.1.opens)
 
 pub returns : goal.returns
-returns c = 
+returns c =
     let a = c.args in
     let s = a.s.now in
     let small : a.scope.names ≤ cap = omega (arith, c.well_formed) in

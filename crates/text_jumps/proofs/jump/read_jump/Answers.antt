@@ -6,24 +6,23 @@ use Rattle.listing.specs.Listing as L
 use Rattle.text_piece.specs.Pieces.{cap}
 use Rattle.text_jumps.proofs.Chain as chain
 use Rattle.text_jumps.proofs.Summaries as summaries
-use borrow.Author.Rules.{rules}
 use Rattle.text_jumps.proofs.jump.read_jump.Goals as goal
 
 pub returns-in_default : goal.returns-in_default
-returns-in_default c = 
+returns-in_default c =
     let a = c.args in
     let s = a.s.now in
     λ routines. chain.rest_bad routines a.scope _ _ _ (chain.number_none s a.place a.stop c.requires (sym c.in_default.is ∙ c.number_field.ensures) _)
 
 pub returns-then-b1-eq9 : goal.returns-then-b1-eq9
-returns-then-b1-eq9 c = 
+returns-then-b1-eq9 c =
     let a = c.args in
     let s = a.s.now in
     let g1 = chain.number_got s a.place a.stop c.requires _ _ _ (sym c.in-Read.is ∙ c.number_field.ensures) in
     λ routines. chain.rest_bad routines a.scope _ _ _ (g1.1.on _ ∙ chain.end_open s c.in-Read.p1.offset _ (L.Line.instruction (L.Instruction.jump g1.0)) c.if-b1-eq9.true)
 
 pub returns : goal.returns
-returns c = 
+returns c =
     let a = c.args in
     let s = a.s.now in
     let small : a.scope.names ≤ cap = omega (arith, c.well_formed) in

@@ -1,7 +1,6 @@
 -- `text_limits::count_instruction` meets its contract.
 use native.Mathlib.Omega.{arith}
 use Rattle.text_limits.proofs.CountLaws as laws
-use borrow.Author.Rules.{rules}
 use Rattle.text_limits.proofs.counts.count_instruction.Goals as goal
 
 pub returns-then-held-ge-MOST_INSTRUCTIONS : goal.returns-then-held-ge-MOST_INSTRUCTIONS

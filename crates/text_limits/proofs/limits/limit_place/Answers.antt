@@ -1,8 +1,6 @@
 -- `text_limits::limit_place` meets its contract.
 use mathlib.Core.Path.{sym, ◌∙◌}
-use Prim.Native.Nat.{◌-◌}
 use native.Mathlib.Omega.{arith}
-use lib.ListN.{length}
 use Rattle.text_records.proofs.Lines as lines
 use Rattle.text_limits.proofs.Steps as steps
 use Rattle.text_limits.proofs.LimitPass as pass
@@ -20,7 +18,7 @@ pub read_line-requires : goal.read_line-requires
 read_line-requires c = (c.loop-at.invariant.formed.within, omega arith, search rules)
 
 pub returns-in_default : goal.returns-in_default
-returns-in_default c = 
+returns-in_default c =
     let v = c.loop-at in
     let s = c.args.s.now in
     absurd (steps.never_bad s v.at v.line (lines.next_line s v.at v.line v.invariant.formed c.loop-at-test.true) _ nothing (sym c.in_default.is ∙ c.read_line.ensures))
@@ -29,7 +27,7 @@ pub count_line-requires : goal.count_line-requires
 count_line-requires c = c.loop-at.invariant.limits
 
 pub returns-in_default-count_line : goal.returns-in_default-count_line
-returns-in_default-count_line c = 
+returns-in_default-count_line c =
     let v = c.loop-at in
     let s = c.args.s.now in
     let n = lines.next_line s v.at v.line v.invariant.formed c.loop-at-test.true in
@@ -37,7 +35,7 @@ returns-in_default-count_line c =
     pass.limit_passed s v.at v.line v.held v.invariant n _ nothing _ _ (steps.record_is s v.at v.line n _ nothing _ _ _ e) (steps.offset_is s v.at v.line n _ nothing _ _ _ e) _ c.count_line.ensures c.in_default-count_line.is
 
 pub loop-at-smaller : goal.loop-at-smaller
-loop-at-smaller c = 
+loop-at-smaller c =
     let v = c.loop-at in
     let s = c.args.s.now in
     let n = lines.next_line s v.at v.line v.invariant.formed c.loop-at-test.true in
@@ -46,7 +44,7 @@ loop-at-smaller c =
     omega (arith, o, c.loop-at-test.true)
 
 pub loop-at-preserved : goal.loop-at-preserved
-loop-at-preserved c = 
+loop-at-preserved c =
     let v = c.loop-at in
     let s = c.args.s.now in
     let n = lines.next_line s v.at v.line v.invariant.formed c.loop-at-test.true in
@@ -56,6 +54,6 @@ loop-at-preserved c =
     rw (o, l) (pass.limit_met s v.at v.line v.held v.invariant n _ nothing _ _ (steps.record_is s v.at v.line n _ nothing _ _ _ e) o _ c.count_line.ensures _ c.in-Within.is)
 
 pub returns : goal.returns
-returns c = 
+returns c =
     let v = c.loop-at in
     sym (pass.limiting_done c.args.s.now v.at v.line v.held v.invariant c.loop-at-test.false)

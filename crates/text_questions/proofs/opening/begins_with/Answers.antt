@@ -1,8 +1,5 @@
 -- `text_questions::begins_with` meets its contract.
-use Prim.Native.Nat.{◌-◌}
-use lib.ListN.{length}
 use Rattle.text_questions.proofs.Comparing as laws
-use borrow.Author.Rules.{rules}
 use Rattle.text_questions.proofs.opening.begins_with.Goals as goal
 
 pub returns-then-s-i : goal.returns-then-s-i

@@ -1,7 +1,6 @@
 use Prim.Native.Nat.{◌-◌}
 use lib.ListN.{length}
 use Rattle.text_questions.proofs.Comparing as laws
-use borrow.Author.Rules.{rules}
 use Rattle.text_questions.proofs.opening.begins_with.Given as goal
 
 abbrev pub invariant-loop-i : goal.invariant-loop-i

@@ -1,7 +1,6 @@
 -- `text_questions::form_question` meets its contract.
 use mathlib.Core.Path.{sym, ◌∙◌}
 use Rattle.text_questions.proofs.Comparing as laws
-use borrow.Author.Rules.{rules}
 use Rattle.text_questions.proofs.opening.form_question.Goals as goal
 
 pub returns : goal.returns

@@ -1,8 +1,6 @@
 -- `text_records::form_place` meets its contract.
 use mathlib.Core.Path.{◌≡◌, sym, ◌∙◌}
-use Prim.Native.Nat.{◌-◌}
 use native.Mathlib.Omega.{arith}
-use lib.ListN.{length}
 use borrow.Author.Tests.{lt-ltb}
 use Rattle.text_records.proofs.Lines as lines
 use borrow.Author.Rules.{rules}
@@ -15,20 +13,20 @@ pub read_line-requires : goal.read_line-requires
 read_line-requires c = (c.loop-at.invariant.within, omega arith, search rules)
 
 pub returns-in_default : goal.returns-in_default
-returns-in_default c = 
+returns-in_default c =
     let v = c.loop-at in
     let s = c.args.s.now in
     sym (sym v.invariant.same ∙ lines.place_unread s v.at v.line c.loop-at-test.true (lines.line_unread _ (record { names = 0; size = 0; routines = 0 }) s v.at v.line (sym c.in_default.is ∙ c.read_line.ensures)))
 
 pub returns-then-stop-ne10 : goal.returns-then-stop-ne10
-returns-then-stop-ne10 c = 
+returns-then-stop-ne10 c =
     let v = c.loop-at in
     let s = c.args.s.now in
     let l = lines.line_read _ (record { names = 0; size = 0; routines = 0 }) s v.at v.line _ _ _ (sym c.in-Is.is ∙ c.read_line.ensures) in
     sym (sym v.invariant.same ∙ lines.place_open s v.at v.line c.loop-at-test.true (λ e. c.if-stop-ne10.true (sym l.stop_is ∙ e)))
 
 pub loop-at-smaller : goal.loop-at-smaller
-loop-at-smaller c = 
+loop-at-smaller c =
     let v = c.loop-at in
     let s = c.args.s.now in
     let l = lines.line_read _ (record { names = 0; size = 0; routines = 0 }) s v.at v.line _ _ _ (sym c.in-Is.is ∙ c.read_line.ensures) in
@@ -36,7 +34,7 @@ loop-at-smaller c =
     omega (arith, lines.pass_moved s v.at v.line _ _ v.invariant m (sym c.may_stand_on.ensures ∙ c.if-may_stand_on.true), c.loop-at-test.true)
 
 pub loop-at-preserved : goal.loop-at-preserved
-loop-at-preserved c = 
+loop-at-preserved c =
     let v = c.loop-at in
     let s = c.args.s.now in
     let l = lines.line_read _ (record { names = 0; size = 0; routines = 0 }) s v.at v.line _ _ _ (sym c.in-Is.is ∙ c.read_line.ensures) in
@@ -44,20 +42,20 @@ loop-at-preserved c =
     lines.pass_on s v.at v.line _ _ v.invariant m (sym c.may_stand_on.ensures ∙ c.if-may_stand_on.true)
 
 pub returns-else-may_stand_on : goal.returns-else-may_stand_on
-returns-else-may_stand_on c = 
+returns-else-may_stand_on c =
     let v = c.loop-at in
     let s = c.args.s.now in
     let l = lines.line_read _ (record { names = 0; size = 0; routines = 0 }) s v.at v.line _ _ _ (sym c.in-Is.is ∙ c.read_line.ensures) in
     sym (sym v.invariant.same ∙ lines.place_unread s v.at v.line c.loop-at-test.true (l.refused (sym c.may_stand_on.ensures ∙ c.if-may_stand_on.false)))
 
 pub returns-then-line-eq1 : goal.returns-then-line-eq1
-returns-then-line-eq1 c = 
+returns-then-line-eq1 c =
     let v = c.loop-at in
     let s = c.args.s.now in
     sym (sym v.invariant.same ∙ lines.place_end s v.at v.line c.loop-at-test.false ∙ rw c.if-line-eq1.true)
 
 pub returns : goal.returns
-returns c = 
+returns c =
     let v = c.loop-at in
     let s = c.args.s.now in
     let n : v.line ≡ 1 → ⊥ = c.if-line-eq1.false in

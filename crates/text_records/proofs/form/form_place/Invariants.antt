@@ -1,10 +1,6 @@
-use mathlib.Core.Path.{◌≡◌, sym, ◌∙◌}
 use Prim.Native.Nat.{◌-◌}
-use native.Mathlib.Omega.{arith}
 use lib.ListN.{length}
-use borrow.Author.Tests.{lt-ltb}
 use Rattle.text_records.proofs.Lines as lines
-use borrow.Author.Rules.{rules}
 use Rattle.text_records.proofs.form.form_place.Given as goal
 
 abbrev pub invariant-loop-at : goal.invariant-loop-at

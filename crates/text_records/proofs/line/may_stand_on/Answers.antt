@@ -1,5 +1,4 @@
 -- `text_records::may_stand_on` meets its contract.
-use borrow.Author.Rules.{rules}
 use Rattle.text_records.proofs.line.may_stand_on.Goals as goal
 
 pub returns-in-Ports : goal.returns-in-Ports

@@ -9,14 +9,13 @@ use Rattle.text_place.specs.declared.place.Taken.{Taken}
 use Rattle.text_place.proofs.Places as places
 use Rattle.text_jumps.specs.Records.{stand_ins, rest_answer}
 use Rattle.text_records.proofs.Letters as letters
-use borrow.Author.Rules.{rules}
 use Rattle.text_records.proofs.line.read_line.Goals as goal
 
 pub take_piece-t-requires : goal.take_piece-t-requires
 take_piece-t-requires c = c.requires.0
 
 pub returns-then-b-eq32 : goal.returns-then-b-eq32
-returns-then-b-eq32 c = 
+returns-then-b-eq32 c =
     let a = c.args in
     let s = a.s.now in
     let r = c.take_piece-t.result in
@@ -28,7 +27,7 @@ returns-then-b-eq32 c =
     letters.line_space _ a.scope s a.place (sym stop_is ∙ c.if-b-eq32.true)
 
 pub returns-then-from-to : goal.returns-then-from-to
-returns-then-from-to c = 
+returns-then-from-to c =
     let a = c.args in
     let s = a.s.now in
     let r = c.take_piece-t.result in
@@ -40,7 +39,7 @@ returns-then-from-to c =
     letters.line_short _ a.scope s a.place (λ e. c.if-b-eq32.false (stop_is ∙ e)) (λ e. omega (arith, c.if-from-to.true, from_is, to_is, e))
 
 pub overflow_add-from : goal.overflow_add-from
-overflow_add-from c = 
+overflow_add-from c =
     let a = c.args in
     let s = a.s.now in
     let r = c.take_piece-t.result in
@@ -52,7 +51,7 @@ overflow_add-from c =
     omega (arith, from_is, c.requires.0.inside, c.well_formed)
 
 pub bounds-s-from : goal.bounds-s-from
-bounds-s-from c = 
+bounds-s-from c =
     let a = c.args in
     let s = a.s.now in
     let r = c.take_piece-t.result in
@@ -64,7 +63,7 @@ bounds-s-from c =
     omega (arith, c.if-from-to-2.true, to_is, places.end_in ends_piece s a.place.offset c.requires.0.inside)
 
 pub read_rest-requires : goal.read_rest-requires
-read_rest-requires c = 
+read_rest-requires c =
     let a = c.args in
     let s = a.s.now in
     let r = c.take_piece-t.result in
@@ -76,7 +75,7 @@ read_rest-requires c =
     (rw next_is_lem (places.passed_in s a.place.offset a.place.line (piece_end s a.place.offset) c.requires.0 (omega arith) (places.end_in ends_piece s a.place.offset c.requires.0.inside)), c.requires.1, c.requires.2)
 
 pub returns-in_default : goal.returns-in_default
-returns-in_default c = 
+returns-in_default c =
     let a = c.args in
     let s = a.s.now in
     let r = c.take_piece-t.result in
@@ -91,7 +90,7 @@ returns-in_default c =
     letters.line_bad rs a.scope s a.place c.requires.0 (λ e. c.if-b-eq32.false (stop_is ∙ e)) (omega (arith, c.if-from-to-2.true, from_is, to_is)) (sym c.in_default.is ∙ c.read_rest.ensures ∙ said)
 
 pub returns-then-from-to-2 : goal.returns-then-from-to-2
-returns-then-from-to-2 c = 
+returns-then-from-to-2 c =
     let a = c.args in
     let s = a.s.now in
     let r = c.take_piece-t.result in
@@ -106,7 +105,7 @@ returns-then-from-to-2 c =
     letters.line_is_lem rs a.scope s a.place c.requires.0 (λ e. c.if-b-eq32.false (stop_is ∙ e)) (omega (arith, c.if-from-to-2.true, from_is, to_is)) _ _ _ (sym c.in-Is.is ∙ c.read_rest.ensures ∙ said)
 
 pub returns : goal.returns
-returns c = 
+returns c =
     let a = c.args in
     let s = a.s.now in
     let r = c.take_piece-t.result in

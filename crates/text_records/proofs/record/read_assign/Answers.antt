@@ -6,31 +6,30 @@ use Rattle.listing.specs.Listing as L
 use Rattle.text_piece.specs.Pieces.{cap}
 use Rattle.text_jumps.proofs.Chain as chain
 use Rattle.text_jumps.proofs.Summaries as summaries
-use borrow.Author.Rules.{rules}
 use Rattle.text_records.proofs.record.read_assign.Goals as goal
 
 pub returns-in_default : goal.returns-in_default
-returns-in_default c = 
+returns-in_default c =
     let a = c.args in
     let s = a.s.now in
     λ routines. chain.rest_bad routines a.scope _ _ _ (chain.number_none s a.place a.stop c.requires (sym c.in_default.is ∙ c.number_field.ensures) _)
 
 pub expression_field-requires : goal.expression_field-requires
-expression_field-requires c = 
+expression_field-requires c =
     let a = c.args in
     let s = a.s.now in
     let g1 = chain.number_got s a.place a.stop c.requires _ _ _ (sym c.in-Read.is ∙ c.number_field.ensures) in
     g1.1.within
 
 pub returns-in_default-expression_field : goal.returns-in_default-expression_field
-returns-in_default-expression_field c = 
+returns-in_default-expression_field c =
     let a = c.args in
     let s = a.s.now in
     let g1 = chain.number_got s a.place a.stop c.requires _ _ _ (sym c.in-Read.is ∙ c.number_field.ensures) in
     λ routines. chain.rest_bad routines a.scope _ _ _ (g1.1.on _ ∙ chain.expression_none s _ _ g1.1.within a.scope.names (sym c.in_default-expression_field.is ∙ c.expression_field.ensures) _)
 
 pub returns-then-b2-eq9 : goal.returns-then-b2-eq9
-returns-then-b2-eq9 c = 
+returns-then-b2-eq9 c =
     let a = c.args in
     let s = a.s.now in
     let g1 = chain.number_got s a.place a.stop c.requires _ _ _ (sym c.in-Read.is ∙ c.number_field.ensures) in
@@ -38,7 +37,7 @@ returns-then-b2-eq9 c =
     λ routines. chain.rest_bad routines a.scope _ _ _ (g1.1.on _ ∙ g2.1.on _ ∙ chain.end_open s c.in-Read-expression_field.p2.offset _ (L.Line.instruction (L.Instruction.assign g1.0 g2.0)) c.if-b2-eq9.true)
 
 pub overflow_add-result : goal.overflow_add-result
-overflow_add-result c = 
+overflow_add-result c =
     let a = c.args in
     let s = a.s.now in
     let small : a.scope.names ≤ cap = omega (arith, c.well_formed) in
@@ -47,7 +46,7 @@ overflow_add-result c =
     omega (arith, c.well_formed, chain.expression_length s _ _ _ _ g2.0 g2.1, g2.2, g2.1.moves, g2.1.within.inside)
 
 pub returns : goal.returns
-returns c = 
+returns c =
     let a = c.args in
     let s = a.s.now in
     let small : a.scope.names ≤ cap = omega (arith, c.well_formed) in

@@ -3,31 +3,30 @@ use mathlib.Core.Path.{sym, ◌∙◌}
 use Rattle.listing.specs.Listing as L
 use Rattle.text_jumps.proofs.Chain as chain
 use Rattle.text_jumps.proofs.Summaries as summaries
-use borrow.Author.Rules.{rules}
 use Rattle.text_records.proofs.record.read_ports.Goals as goal
 
 pub returns-in_default : goal.returns-in_default
-returns-in_default c = 
+returns-in_default c =
     let a = c.args in
     let s = a.s.now in
     λ routines. chain.rest_bad routines a.scope _ _ _ (chain.number_none s a.place a.stop c.requires (sym c.in_default.is ∙ c.number_field.ensures) _)
 
 pub number_field-requires-2 : goal.number_field-requires-2
-number_field-requires-2 c = 
+number_field-requires-2 c =
     let a = c.args in
     let s = a.s.now in
     let g1 = chain.number_got s a.place a.stop c.requires _ _ _ (sym c.in-Read.is ∙ c.number_field.ensures) in
     g1.1.within
 
 pub returns-in_default-number_field : goal.returns-in_default-number_field
-returns-in_default-number_field c = 
+returns-in_default-number_field c =
     let a = c.args in
     let s = a.s.now in
     let g1 = chain.number_got s a.place a.stop c.requires _ _ _ (sym c.in-Read.is ∙ c.number_field.ensures) in
     λ routines. chain.rest_bad routines a.scope _ _ _ (g1.1.on _ ∙ chain.number_none s _ _ g1.1.within (sym c.in_default-number_field.is ∙ c.number_field-2.ensures) _)
 
 pub returns-then-b2-eq9 : goal.returns-then-b2-eq9
-returns-then-b2-eq9 c = 
+returns-then-b2-eq9 c =
     let a = c.args in
     let s = a.s.now in
     let g1 = chain.number_got s a.place a.stop c.requires _ _ _ (sym c.in-Read.is ∙ c.number_field.ensures) in
@@ -35,7 +34,7 @@ returns-then-b2-eq9 c =
     λ routines. chain.rest_bad routines a.scope _ _ _ (g1.1.on _ ∙ g2.1.on _ ∙ chain.end_open s c.in-Read-number_field.p2.offset _ (L.Line.ports g1.0 g2.0) c.if-b2-eq9.true)
 
 pub returns : goal.returns
-returns c = 
+returns c =
     let a = c.args in
     let s = a.s.now in
     let g1 = chain.number_got s a.place a.stop c.requires _ _ _ (sym c.in-Read.is ∙ c.number_field.ensures) in

@@ -1,7 +1,6 @@
 -- `text_records::read_rest` meets its contract.
 use borrow.Author.Tests.{ne_eqb}
 use Rattle.listing.specs.Form.{read_by_letter}
-use borrow.Author.Rules.{rules}
 use Rattle.text_records.proofs.record.read_rest.Goals as goal
 
 pub returns-in-80 : goal.returns-in-80
@@ -42,6 +41,6 @@ returns-in-69 c = rw c.in-69.is (c.read_end.ensures _ _)
 
 pub returns-in_default : goal.returns-in_default
 unfolding read_by_letter
-returns-in_default c = 
+returns-in_default c =
     let r = c.in_default.in_default-own.rest in
     rw (ne_eqb _ 80 r.0.0.0.0.0.0.0.0.1, ne_eqb _ 82 r.0.0.0.0.0.0.0.1, ne_eqb _ 83 r.0.0.0.0.0.0.1, ne_eqb _ 65 r.0.0.0.0.0.1, ne_eqb _ 85 r.0.0.0.0.1, ne_eqb _ 71 r.0.0.0.1, ne_eqb _ 87 r.0.0.1, ne_eqb _ 70 r.0.1, ne_eqb _ 69 r.1)

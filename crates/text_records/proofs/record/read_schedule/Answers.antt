@@ -6,31 +6,30 @@ use Rattle.listing.specs.Listing as L
 use Rattle.text_piece.specs.Pieces.{cap}
 use Rattle.text_jumps.proofs.Chain as chain
 use Rattle.text_jumps.proofs.Summaries as summaries
-use borrow.Author.Rules.{rules}
 use Rattle.text_records.proofs.record.read_schedule.Goals as goal
 
 pub returns-in_default : goal.returns-in_default
-returns-in_default c = 
+returns-in_default c =
     let a = c.args in
     let s = a.s.now in
     λ routines. chain.rest_bad routines a.scope _ _ _ (chain.number_none s a.place a.stop c.requires (sym c.in_default.is ∙ c.number_field.ensures) _)
 
 pub expression_field-requires : goal.expression_field-requires
-expression_field-requires c = 
+expression_field-requires c =
     let a = c.args in
     let s = a.s.now in
     let g1 = chain.number_got s a.place a.stop c.requires _ _ _ (sym c.in-Read.is ∙ c.number_field.ensures) in
     g1.1.within
 
 pub returns-in_default-expression_field : goal.returns-in_default-expression_field
-returns-in_default-expression_field c = 
+returns-in_default-expression_field c =
     let a = c.args in
     let s = a.s.now in
     let g1 = chain.number_got s a.place a.stop c.requires _ _ _ (sym c.in-Read.is ∙ c.number_field.ensures) in
     λ routines. chain.rest_bad routines a.scope _ _ _ (g1.1.on _ ∙ chain.expression_none s _ _ g1.1.within a.scope.names (sym c.in_default-expression_field.is ∙ c.expression_field.ensures) _)
 
 pub expression_field-requires-2 : goal.expression_field-requires-2
-expression_field-requires-2 c = 
+expression_field-requires-2 c =
     let a = c.args in
     let s = a.s.now in
     let g1 = chain.number_got s a.place a.stop c.requires _ _ _ (sym c.in-Read.is ∙ c.number_field.ensures) in
@@ -38,7 +37,7 @@ expression_field-requires-2 c =
     g2.1.within
 
 pub returns-in_default-expression_field-2 : goal.returns-in_default-expression_field-2
-returns-in_default-expression_field-2 c = 
+returns-in_default-expression_field-2 c =
     let a = c.args in
     let s = a.s.now in
     let g1 = chain.number_got s a.place a.stop c.requires _ _ _ (sym c.in-Read.is ∙ c.number_field.ensures) in
@@ -46,7 +45,7 @@ returns-in_default-expression_field-2 c =
     λ routines. chain.rest_bad routines a.scope _ _ _ (g1.1.on _ ∙ g2.1.on _ ∙ chain.expression_none s _ _ g2.1.within a.scope.names (sym c.in_default-expression_field-2.is ∙ c.expression_field-2.ensures) _)
 
 pub returns-then-b3-eq9 : goal.returns-then-b3-eq9
-returns-then-b3-eq9 c = 
+returns-then-b3-eq9 c =
     let a = c.args in
     let s = a.s.now in
     let g1 = chain.number_got s a.place a.stop c.requires _ _ _ (sym c.in-Read.is ∙ c.number_field.ensures) in
@@ -55,7 +54,7 @@ returns-then-b3-eq9 c =
     λ routines. chain.rest_bad routines a.scope _ _ _ (g1.1.on _ ∙ g2.1.on _ ∙ g3.1.on _ ∙ chain.end_open s c.in-Read-expression_field-2.p3.offset _ (L.Line.instruction (L.Instruction.schedule g1.0 g2.0 g3.0)) c.if-b3-eq9.true)
 
 pub overflow_add-result : goal.overflow_add-result
-overflow_add-result c = 
+overflow_add-result c =
     let a = c.args in
     let s = a.s.now in
     let small : a.scope.names ≤ cap = omega (arith, c.well_formed) in
@@ -65,7 +64,7 @@ overflow_add-result c =
     omega (arith, c.well_formed, chain.expression_length s _ _ _ _ g2.0 g2.1, g2.2, g2.1.moves, g2.1.within.inside)
 
 pub overflow_add-result-2 : goal.overflow_add-result-2
-overflow_add-result-2 c = 
+overflow_add-result-2 c =
     let a = c.args in
     let s = a.s.now in
     let small : a.scope.names ≤ cap = omega (arith, c.well_formed) in
@@ -75,7 +74,7 @@ overflow_add-result-2 c =
     omega (arith, c.well_formed, chain.expression_length s _ _ _ _ g2.0 g2.1, g2.2, g2.1.moves, g2.1.within.inside, chain.expression_length s _ _ _ _ g3.0 g3.1, g3.2, g3.1.moves, g3.1.within.inside, g2.1.moved g3.1.opens, g1.1.after g2.1.opens)
 
 pub returns : goal.returns
-returns c = 
+returns c =
     let a = c.args in
     let s = a.s.now in
     let small : a.scope.names ≤ cap = omega (arith, c.well_formed) in

@@ -8,16 +8,15 @@ use Rattle.text_piece.specs.Pieces.{cap}
 use Rattle.text_jumps.proofs.Chain as chain
 use Rattle.text_records.proofs.Waits as waits
 use Rattle.text_jumps.proofs.Summaries as summaries
-use borrow.Author.Rules.{rules}
 use Rattle.text_records.proofs.record.read_wait.Goals as goal
 
 pub returns-in_default : goal.returns-in_default
-returns-in_default c = 
+returns-in_default c =
     let a = c.args in
     λ routines. chain.rest_bad routines a.scope _ _ _ (waits.names_none a.s.now a.place a.stop a.scope.names (omega (arith, c.well_formed)) (sym c.in_default.is ∙ c.figures_field.ensures) _)
 
 pub returns-then-g-gt4 : goal.returns-then-g-gt4
-returns-then-g-gt4 c = 
+returns-then-g-gt4 c =
     let a = c.args in
     let s = a.s.now in
     let small : a.scope.names ≤ cap = omega (arith, c.well_formed) in
@@ -25,7 +24,7 @@ returns-then-g-gt4 c =
     λ routines. chain.rest_bad routines a.scope _ _ _ (waits.names_many s a.place a.stop _ _ g.0 g.1 g.2 _ (omega (arith, g.4.count, c.if-g-gt4.true)))
 
 pub returns-then-b1-eq9 : goal.returns-then-b1-eq9
-returns-then-b1-eq9 c = 
+returns-then-b1-eq9 c =
     let a = c.args in
     let s = a.s.now in
     let small : a.scope.names ≤ cap = omega (arith, c.well_formed) in
@@ -33,7 +32,7 @@ returns-then-b1-eq9 c =
     λ routines. chain.rest_bad routines a.scope _ _ _ (waits.names_few s a.place a.stop _ _ g.0 g.1 g.2 _ (omega (arith, g.4.count, c.if-g-gt4.false)) ∙ chain.end_open s c.in-Read.p1.offset _ (L.Line.instruction (L.Instruction.wait (g.0 ∷ g.1))) c.if-b1-eq9.true)
 
 pub returns : goal.returns
-returns c = 
+returns c =
     let a = c.args in
     let s = a.s.now in
     let small : a.scope.names ≤ cap = omega (arith, c.well_formed) in

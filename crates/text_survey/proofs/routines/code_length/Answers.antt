@@ -1,8 +1,6 @@
 -- `text_survey::code_length` meets its contract.
 use mathlib.Core.Path.{sym, ap, ◌∙◌}
-use Prim.Native.Nat.{◌-◌}
 use native.Mathlib.Omega.{arith}
-use lib.ListN.{length}
 use Rattle.text_records.proofs.Lines as lines
 use Rattle.text_limits.proofs.Steps as steps
 use Rattle.text_survey.specs.Surveys.{is_instruction}
@@ -21,7 +19,7 @@ pub read_line-requires : goal.read_line-requires
 read_line-requires c = (c.loop-at.invariant.formed.within, omega arith, search rules)
 
 pub returns-in_default : goal.returns-in_default
-returns-in_default c = 
+returns-in_default c =
     let v = c.loop-at in
     let s = c.args.s.now in
     absurd (steps.never_bad s v.at v.line (lines.next_line s v.at v.line v.invariant.formed c.loop-at-test.true) _ nothing (sym c.in_default.is ∙ c.read_line.ensures))
@@ -30,7 +28,7 @@ pub overflow_add-count : goal.overflow_add-count
 overflow_add-count c = omega (arith, c.loop-at.invariant.after, c.loop-at.invariant.formed.within.inside, c.well_formed)
 
 pub loop-at-smaller : goal.loop-at-smaller
-loop-at-smaller c = 
+loop-at-smaller c =
     let v = c.loop-at in
     let s = c.args.s.now in
     let n = lines.next_line s v.at v.line v.invariant.formed c.loop-at-test.true in
@@ -39,7 +37,7 @@ loop-at-smaller c =
     omega (arith, o, c.loop-at-test.true)
 
 pub loop-at-preserved : goal.loop-at-preserved
-loop-at-preserved c = 
+loop-at-preserved c =
     let v = c.loop-at in
     let s = c.args.s.now in
     let n = lines.next_line s v.at v.line v.invariant.formed c.loop-at-test.true in
@@ -50,7 +48,7 @@ loop-at-preserved c =
     rw (o, l) (pass.counting_on s _ _ v.at v.line v.count v.invariant n _ nothing (ap is_instruction (sym r) ∙ sym c.is_instruction.ensures ∙ c.if-is_instruction.true))
 
 pub returns-else-is_instruction : goal.returns-else-is_instruction
-returns-else-is_instruction c = 
+returns-else-is_instruction c =
     let v = c.loop-at in
     let s = c.args.s.now in
     let n = lines.next_line s v.at v.line v.invariant.formed c.loop-at-test.true in
@@ -59,6 +57,6 @@ returns-else-is_instruction c =
     pass.counting_over s _ _ v.at v.line v.count v.invariant n _ nothing (ap is_instruction (sym r) ∙ sym c.is_instruction.ensures ∙ c.if-is_instruction.false)
 
 pub returns : goal.returns
-returns c = 
+returns c =
     let v = c.loop-at in
     pass.counting_done c.args.s.now _ _ v.at v.line v.count v.invariant c.loop-at-test.false

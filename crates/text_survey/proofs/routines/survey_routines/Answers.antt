@@ -1,8 +1,6 @@
 -- `text_survey::survey_routines` meets its contract.
 use mathlib.Core.Path.{sym, ap, ◌∙◌}
-use Prim.Native.Nat.{◌-◌}
 use native.Mathlib.Omega.{arith}
-use lib.ListN.{length}
 use Rattle.text_records.proofs.Lines as lines
 use Rattle.text_limits.proofs.Steps as steps
 use Rattle.text_survey.specs.Surveys.{survey_one}
@@ -21,7 +19,7 @@ pub read_line-requires : goal.read_line-requires
 read_line-requires c = (c.loop-at.invariant.limiting.formed.within, omega arith, search rules)
 
 pub returns-in_default : goal.returns-in_default
-returns-in_default c = 
+returns-in_default c =
     let v = c.loop-at in
     let s = c.args.s.now in
     absurd (steps.never_bad s v.at v.line (lines.next_line s v.at v.line v.invariant.limiting.formed c.loop-at-test.true) _ nothing (sym c.in_default.is ∙ c.read_line.ensures))
@@ -30,7 +28,7 @@ pub with_line-survey-requires : goal.with_line-survey-requires
 with_line-survey-requires c = c.loop-at.invariant.fits
 
 pub loop-at-smaller : goal.loop-at-smaller
-loop-at-smaller c = 
+loop-at-smaller c =
     let v = c.loop-at in
     let s = c.args.s.now in
     let n = lines.next_line s v.at v.line v.invariant.limiting.formed c.loop-at-test.true in
@@ -39,7 +37,7 @@ loop-at-smaller c =
     omega (arith, o, c.loop-at-test.true)
 
 pub loop-at-preserved : goal.loop-at-preserved
-loop-at-preserved c = 
+loop-at-preserved c =
     let v = c.loop-at in
     let s = c.args.s.now in
     let n = lines.next_line s v.at v.line v.invariant.limiting.formed c.loop-at-test.true in
@@ -51,6 +49,6 @@ loop-at-preserved c =
     rw (o, l, w) (pass.surveying_on s v.at v.line v.survey v.invariant c.requires.1 n _ nothing)
 
 pub returns : goal.returns
-returns c = 
+returns c =
     let v = c.loop-at in
     pass.surveyed c.args.s.now v.at v.line v.survey v.invariant c.loop-at-test.false

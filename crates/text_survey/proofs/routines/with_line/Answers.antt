@@ -1,5 +1,4 @@
 -- `text_survey::with_line` meets its contract.
-use borrow.Author.Rules.{rules}
 use Rattle.text_survey.proofs.routines.with_line.Goals as goal
 
 pub with_routine-requires : goal.with_routine-requires

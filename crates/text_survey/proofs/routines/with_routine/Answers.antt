@@ -1,7 +1,5 @@
 -- `text_survey::with_routine` meets its contract.
-use Prim.Native.Nat.{◌-◌}
 use borrow.Author.Tests.{lt-ltb, le-ltb}
-use borrow.Author.Rules.{rules}
 use Rattle.text_survey.proofs.routines.with_routine.Goals as goal
 
 pub returns-then-survey-ge64 : goal.returns-then-survey-ge64

@@ -1,5 +1,4 @@
 -- `text_survey::answers` meets its contract.
-use borrow.Author.Rules.{rules}
 use Rattle.text_survey.proofs.there.answers.Goals as goal
 
 pub returns-in-Ports : goal.returns-in-Ports

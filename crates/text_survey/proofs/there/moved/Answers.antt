@@ -1,7 +1,5 @@
 -- `text_survey::moved` meets its contract.
-use Prim.Native.Nat.{◌-◌}
 use native.Mathlib.Omega.{arith}
-use borrow.Author.Rules.{rules}
 use Rattle.text_survey.proofs.there.moved.Goals as goal
 
 pub code_length-requires : goal.code_length-requires

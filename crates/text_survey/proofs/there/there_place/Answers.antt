@@ -1,6 +1,5 @@
 -- `text_survey::there_place` meets its contract.
 use mathlib.Core.Path.{◌≡◌, refl, sym, ap, ◌∙◌}
-use Prim.Native.Nat.{◌-◌}
 use native.Mathlib.Omega.{arith}
 use lib.ListN.{length}
 use Rattle.listing.specs.Questions.{listing_in}
@@ -21,28 +20,28 @@ pub survey_routines-survey-requires : goal.survey_routines-survey-requires
 survey_routines-survey-requires c = c.requires
 
 pub returns-then-routines-eq0 : goal.returns-then-routines-eq0
-returns-then-routines-eq0 c = 
+returns-then-routines-eq0 c =
     let y = c.survey_routines-survey.ensures in
     pass.main_missing c.args.s.now c.requires.0 c.requires.1 (sym (pass.all_counted (listing_in c.args.s.now) _ y) ∙ c.if-routines-eq0.true)
 
 pub loop-at-init : goal.loop-at-init
-loop-at-init c = 
+loop-at-init c =
     let y = c.survey_routines-survey.ensures in
     pass.there_begun c.args.s.now c.requires.0 c.requires.1 (λ z. c.if-routines-eq0.false (pass.all_counted (listing_in c.args.s.now) _ y ∙ z))
 
 pub read_line-requires : goal.read_line-requires
-read_line-requires c = 
+read_line-requires c =
     let long : length c.survey_routines-survey.result.counts ≡ 64 = search rules in
     (c.loop-at.invariant.limiting.formed.within, pass.few_routines (listing_in c.args.s.now) _ c.survey_routines-survey.ensures long, long)
 
 pub returns-in_default : goal.returns-in_default
-returns-in_default c = 
+returns-in_default c =
     let v = c.loop-at in
     let s = c.args.s.now in
     absurd (steps.never_bad s v.at v.line (lines.next_line s v.at v.line v.invariant.limiting.formed c.loop-at-test.true) _ (scope v.here c.survey_routines-survey.result.routines) (sym c.in_default.is ∙ c.read_line.ensures))
 
 pub moved-here-requires : goal.moved-here-requires
-moved-here-requires c = 
+moved-here-requires c =
     let v = c.loop-at in
     let s = c.args.s.now in
     let n = lines.next_line s v.at v.line v.invariant.limiting.formed c.loop-at-test.true in
@@ -52,7 +51,7 @@ moved-here-requires c =
     rw (o, l) n.formed
 
 pub loop-at-smaller : goal.loop-at-smaller
-loop-at-smaller c = 
+loop-at-smaller c =
     let v = c.loop-at in
     let s = c.args.s.now in
     let n = lines.next_line s v.at v.line v.invariant.limiting.formed c.loop-at-test.true in
@@ -61,7 +60,7 @@ loop-at-smaller c =
     omega (arith, o, c.loop-at-test.true)
 
 pub loop-at-preserved : goal.loop-at-preserved
-loop-at-preserved c = 
+loop-at-preserved c =
     let v = c.loop-at in
     let s = c.args.s.now in
     let n = lines.next_line s v.at v.line v.invariant.limiting.formed c.loop-at-test.true in
@@ -76,7 +75,7 @@ loop-at-preserved c =
     rw (w, o, l) t
 
 pub returns-else-answers : goal.returns-else-answers
-returns-else-answers c = 
+returns-else-answers c =
     let v = c.loop-at in
     let s = c.args.s.now in
     let n = lines.next_line s v.at v.line v.invariant.limiting.formed c.loop-at-test.true in
@@ -86,6 +85,6 @@ returns-else-answers c =
     pass.there_no s c.requires.0 c.requires.1 v.at v.line v.here v.invariant n _ y (scope v.here c.survey_routines-survey.result.routines) refl refl (ap (answers_here v.here) (sym r) ∙ sym c.answers.ensures ∙ c.if-answers.false)
 
 pub returns : goal.returns
-returns c = 
+returns c =
     let v = c.loop-at in
     pass.there_done c.args.s.now c.requires.0 c.requires.1 v.at v.line v.here v.invariant c.loop-at-test.false

@@ -1,0 +1,15 @@
+use Rattle.engine_finish.proofs.Clearing.{one_more_cleared}
+use Rattle.engine_due.proofs.Passing.{none_mapped}
+use Rattle.engine_due.specs.Passes.{Mapped}
+use Rattle.engine_finish.specs.Ended.{idle_block}
+use Prim.Native.Nat.{◌≤◌, ◌-◌}
+use mathlib.Core.Path.{◌≡◌}
+use native.Mathlib.Omega.{arith}
+use borrow.Author.Rules.{rules}
+use Rattle.engine_finish.proofs.working.clear_slots.Given as goal
+
+abbrev pub invariant-loop-s : goal.invariant-loop-s
+invariant-loop-s l = (l.s ≤ 64) × Mapped l.s idle_block l.initial.m l.m
+
+abbrev pub decreases-loop-s : goal.decreases-loop-s
+decreases-loop-s l = 64 - l.s

@@ -1,9 +1,0 @@
--- `text_piece::may_be_negative` meets its contract.
-use borrow.Author.Tests.{le-leb, lt-leb}
-use Rattle.text_piece.proofs.piece.may_be_negative.Goals as goal
-
-pub returns-then-n-lt1 : goal.returns-then-n-lt1
-returns-then-n-lt1 c = rw (lt-leb 1 _ c.if-n-lt1.true)
-
-pub returns : goal.returns
-returns c = rw (le-leb 1 _ c.if-n-lt1.false)

@@ -1,0 +1,6 @@
+-- `fabrwent::fabrwent_start` meets its contract.
+use Rattle.fabrwent.proofs.Told as told
+use Rattle.fabrwent.proofs.calls.fabrwent_start.Goals as goal
+
+pub returns : goal.returns
+returns c = told.call_told _ _ _ _ _ _ _ _ _ c.start.ensures _ c.figures_of.ensures

@@ -1,6 +1,6 @@
 -- Writes put into the three lists, one behind another. Letters: ms moments, os outputs, vs values, ns, ws numbers and words of one moment, t the moment,
 -- k, n, at places.
-use mathlib.Core.Path.{◌≡◌, refl, sym, ap, ap₂, ◌∙◌}
+use mathlib.Core.Path.{◌≡◌, refl, sym, ap, ◌∙◌}
 use mathlib.Core.Bool.{Bool, true, false}
 use mathlib.Core.List.{List, [], ◌∷◌, ◌++◌, map, append-nil, append_assoc}
 use mathlib.Core.Logic.{◌⊎◌, inl, inr}
@@ -13,15 +13,14 @@ use lib.Seq.{take-suc-set, take_all, length-take-le}
 use Rattle.listing.specs.Bytes.{Bytes}
 use Rattle.walk.specs.Instant as Walk
 use Rattle.walk.specs.Calls.{inputs_of}
-use Rattle.walk.specs.Trace.{Script, call_at, last_at, broken, script}
+use Rattle.walk.specs.Trace.{last_at, broken, script}
 use Rattle.openings.specs.Writes.{Write, writes_of}
 use Rattle.openings.proofs.Writes.{writes_length}
 use Rattle.session_trace.specs.Groups.{CallIs, NextIs}
 use Rattle.session_trace.specs.declared.group.Next.{Next}
 use Rattle.session_trace.specs.declared.group.Next.TheVariants as NV
 use Rattle.session_trace.specs.contracts.group.Next.{the_type}
-use Rattle.book_writes.specs.Gathered.{most_kept, writes_of_moment, writes_in, first_writes, Holds, GatheredIs}
-use Rattle.book_writes.specs.declared.Gathered.{Gathered}
+use Rattle.book_writes.specs.Gathered.{writes_of_moment, writes_in, first_writes, Holds, GatheredIs}
 
 -- ── bytes changed one after another ───────────────────────────────────────────────────────────────
 mapped_so_far : (f : ℕ → ℕ) (m : List ℕ) (k : ℕ) → k < length m →

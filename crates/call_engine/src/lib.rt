@@ -1,4 +1,6 @@
 // The calls on the engine: start and instant, of any memories.
+#![tactic(auto)]
+
 pub mod instant_call;
 pub mod start_call;
 

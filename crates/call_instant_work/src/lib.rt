@@ -1,4 +1,6 @@
 // The work of an instant call, its questions answered: the beginning, the run and the end.
+#![tactic(auto)]
+
 ghost use Rattle.std.specs.Prelude.{◌≤◌, length};
 ghost use Rattle.table.specs.Areas.{TableLong};
 ghost use Rattle.walk.specs.Instant as walk;

@@ -1,4 +1,6 @@
 // The work of the start, its questions answered: main newly called, the run and the end.
+#![tactic(auto)]
+
 ghost use Rattle.std.specs.Prelude.{true, ◌≡◌, ◌≤◌, length};
 ghost use Rattle.table.specs.Areas.{TableLong};
 ghost use Rattle.machine.specs.Words.{HasMachine};

@@ -1,5 +1,7 @@
 // The beginning of the start. Document 01: "The start is the instant 0, with main newly called and no inputs."
 // `t` is the table, `m` the machine's memory.
+#![tactic(auto)]
+
 ghost use Rattle.std.specs.Prelude.{◌≡◌, true};
 ghost use Rattle.machine.specs.Words.{HasMachine};
 ghost use Rattle.table.specs.Question6.{is_table};

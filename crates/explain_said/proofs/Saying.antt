@@ -1,14 +1,11 @@
 -- What is said, put piece by piece.
-use mathlib.Core.Path.{◌≡◌, refl, sym, ap, ◌∙◌}
-use mathlib.Core.Bool.{true}
-use mathlib.Core.List.{List, [], ◌∷◌, ◌++◌}
-use Prim.Native.Nat.{ℕ, zero, suc, ◌+◌, ◌-◌, ◌≤◌, ◌<◌}
+use mathlib.Core.Path.{◌≡◌, refl, ap}
+use mathlib.Core.List.{[], ◌++◌}
+use Prim.Native.Nat.{ℕ, zero, suc, ◌-◌, ◌≤◌, ◌<◌}
 use native.Mathlib.Omega.{arith}
-use lib.ListN.{length, get_or}
 use borrow.Author.Tests.{le-leb, lt-leb}
 use Rattle.listing.specs.Bytes.{Bytes, bytes_of, split, extend, join, figure}
 use Rattle.session_print.specs.Puts.{Puts}
-use Rattle.session_print.proofs.LineBytes.{same_bytes, then_bytes}
 use Rattle.explain_parts.specs.Parts.{part_of}
 use Rattle.explain_said.specs.Reasons.{reason_texts, reason_text, joined, allowed_text}
 use Rattle.explain_said.specs.Spots.{piece_text, field_text, spot_text}

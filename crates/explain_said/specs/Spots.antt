@@ -1,5 +1,5 @@
 -- Where in its line a reason applies, in words, and the reason.
-use Rattle.std.specs.Prelude.{List, [], ◌∷◌, ◌++◌, ℕ, zero, suc, ◌-◌}
+use Rattle.std.specs.Prelude.{[], ◌++◌, ℕ, zero, suc, ◌-◌}
 use Rattle.listing.specs.Bytes.{Bytes, bytes_of, tab, space, figure}
 use Rattle.explain_parts.specs.Parts.{part_of}
 use Rattle.explain_parts.specs.Shown.{shown}

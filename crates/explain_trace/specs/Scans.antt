@@ -5,7 +5,6 @@ use Rattle.listing.specs.Bytes.{Bytes}
 use Rattle.listing.specs.Questions.{closed_lines, unclosed}
 use Rattle.walk.specs.Trace.{TraceLine, input_line, last_line_lem, out_of_form, read_trace_line}
 use Rattle.explain_fields.specs.Reasons.{fine}
-use Rattle.explain_lines.specs.declared.line.Fault.{Fault}
 use Rattle.explain_trace.specs.Reasons.{no_form, no_line_feed, no_last, after_last_lem, not_after_lem, no_input, not_rising}
 use Rattle.explain_trace.specs.Forms.{form_fault}
 use Rattle.explain_trace.specs.declared.scan.TraceFault.{TraceFault}

@@ -17,7 +17,7 @@ use Rattle.walk.specs.Trace as W
 use Rattle.walk.specs.Trace.{script, with_input, join_input}
 use Rattle.text_place.specs.declared.place.Place.{Place}
 use Rattle.session_trace_lines.specs.Lines.{line_answer}
-use Rattle.session_trace.specs.Groups.{CallIs, NextIs, NextRead, Behind, kept_of, ended_by, put_at, Put, JoinsOn, Apart}
+use Rattle.session_trace.specs.Groups.{CallIs, NextIs, NextRead, Behind, ended_by, put_at, Put, JoinsOn, Apart}
 use Rattle.session_trace_lines.specs.declared.line.TraceLine.{TraceLine}
 use Rattle.session_trace_lines.specs.declared.line.TraceLine.TheVariants as LV
 use Rattle.session_trace.specs.declared.group.Next.{Next}

@@ -1,5 +1,5 @@
 -- What is put of a stored case: a line, and the rows of the page that are not rows of spaces.
-use Rattle.std.specs.Prelude.{◌≡◌, Bool, true, false, List, [], ◌∷◌, ◌++◌, ℕ, suc, ◌+◌, ◌*◌, ◌≤◌, ◌<◌, length, take, drop, replicate}
+use Rattle.std.specs.Prelude.{◌≡◌, Bool, true, false, List, [], ◌++◌, ℕ, suc, ◌+◌, ◌*◌, ◌≤◌, ◌<◌, length, take, drop, replicate}
 use Rattle.listing.specs.Bytes.{Bytes, bytes_of, figure, space}
 use Rattle.session_print.specs.Puts.{Puts}
 use Rattle.page.specs.Call.{PageFigures}

@@ -1,5 +1,5 @@
 -- The lists that are lent, and what is stored of them.
-use Rattle.std.specs.Prelude.{List, ◌++◌, ℕ, min, length, take, drop, replicate}
+use Rattle.std.specs.Prelude.{List, ◌++◌, ℕ, min, length, drop, replicate}
 use Rattle.test_cases.specs.Frame.{moment_at}
 use Rattle.test_lending.specs.Memories.{pattern}
 use Rattle.test_stored_answers.specs.Pairs.{each_pair, fitting, PairsPut}

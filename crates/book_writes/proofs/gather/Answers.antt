@@ -1,22 +1,19 @@
 -- `book_writes::gather` meets its contract.
 use borrow.Enum.Refused.{opened}
-use mathlib.Core.Path.{◌≡◌, refl, sym, ap, subst, ◌∙◌}
-use Prim.Native.Nat.{◌-◌, ◌≤◌}
+use mathlib.Core.Path.{refl, sym, subst, ◌∙◌}
 use native.Mathlib.Omega.{arith}
-use lib.ListN.{length}
 use Rattle.session_trace.specs.Groups.{NextIs}
 use Rattle.session_trace.specs.declared.group.Next.{Next}
 use Rattle.book_writes.proofs.Gathering as gathering
-use borrow.Author.Rules.{rules}
 use Rattle.book_writes.proofs.gather.Goals as goal
 
 pub loop-moment-init : goal.loop-moment-init
-loop-moment-init c = 
+loop-moment-init c =
     let p = c.requires in
     (gathering.going_begun _ _ _ _ p.0 p.1 p.2, refl, refl)
 
 pub next_call-requires : goal.next_call-requires
-next_call-requires c = 
+next_call-requires c =
     let v = c.loop-moment.invariant in
     (v.0.inside, omega (arith, v.1), omega (arith, v.2))
 
@@ -30,7 +27,7 @@ pub shape_of-values-in_default : goal.shape_of-values-in_default
 shape_of-values-in_default c = c.loop-moment.invariant.0.values_long ∙ sym c.requires.2
 
 pub returns-in_default : goal.returns-in_default
-returns-in_default c = 
+returns-in_default c =
     let v = c.loop-moment in
     let made = c.next_call in
     gathering.gathered_other _ _ _ _ v.count v.at v.invariant.0 made.new.numbers made.new.values made.result made.ensures.is (opened c.in_default.in_default-own.keys2)
@@ -45,7 +42,7 @@ pub shape_of-values-then-more-count : goal.shape_of-values-then-more-count
 shape_of-values-then-more-count c = c.loop-moment.invariant.0.values_long ∙ sym c.requires.2
 
 pub returns-then-more-count : goal.returns-then-more-count
-returns-then-more-count c = 
+returns-then-more-count c =
     let v = c.loop-moment in
     let s = c.args.print.now in
     let made = c.next_call in
@@ -56,7 +53,7 @@ returns-then-more-count c =
     gathering.too_many s _ _ _ v.count v.at v.invariant.0 made.new.numbers made.new.values _ _ _ call (omega (arith, v.invariant.1, a)) (omega (arith, v.invariant.2, b)) c.if-more-count.true
 
 pub put_writes-requires : goal.put_writes-requires
-put_writes-requires c = 
+put_writes-requires c =
     let v = c.loop-moment in
     let s = c.args.print.now in
     let made = c.next_call in
@@ -67,7 +64,7 @@ put_writes-requires c =
     (v.invariant.0.moments_long, v.invariant.0.outputs_long, v.invariant.0.values_long, omega (arith, v.invariant.0.few, c.if-more-count.false), omega (arith, v.invariant.1, a, call.few), omega (arith, v.invariant.2, b, call.few))
 
 pub loop-moment-smaller : goal.loop-moment-smaller
-loop-moment-smaller c = 
+loop-moment-smaller c =
     let v = c.loop-moment in
     let s = c.args.print.now in
     let made = c.next_call in
@@ -78,7 +75,7 @@ loop-moment-smaller c =
     omega (arith, call.forward, call.inside)
 
 pub loop-moment-preserved : goal.loop-moment-preserved
-loop-moment-preserved c = 
+loop-moment-preserved c =
     let v = c.loop-moment in
     let s = c.args.print.now in
     let made = c.next_call in

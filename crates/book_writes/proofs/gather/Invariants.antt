@@ -1,11 +1,7 @@
-use mathlib.Core.Path.{◌≡◌, refl, sym, ap, subst, ◌∙◌}
-use Prim.Native.Nat.{◌-◌, ◌≤◌}
-use native.Mathlib.Omega.{arith}
+use mathlib.Core.Path.{◌≡◌}
+use Prim.Native.Nat.{◌-◌}
 use lib.ListN.{length}
-use Rattle.session_trace.specs.Groups.{NextIs}
-use Rattle.session_trace.specs.declared.group.Next.{Next}
 use Rattle.book_writes.proofs.Gathering as gathering
-use borrow.Author.Rules.{rules}
 use Rattle.book_writes.proofs.gather.Given as goal
 
 abbrev pub invariant-loop-moment : goal.invariant-loop-moment

@@ -1,11 +1,8 @@
-use mathlib.Core.Path.{◌≡◌, refl, sym, ap, ◌∙◌}
-use mathlib.Core.List.{List, ◌++◌, map}
-use Prim.Native.Nat.{ℕ, ◌-◌, ◌≤◌}
-use native.Mathlib.Omega.{arith}
-use lib.ListN.{length, get_or, set, take, drop, length-set}
+use mathlib.Core.Path.{◌≡◌}
+use mathlib.Core.List.{◌++◌, map}
+use Prim.Native.Nat.{◌-◌, ◌≤◌}
+use lib.ListN.{length, take, drop}
 use Rattle.book_writes.specs.Gathered.{as_in_trace}
-use Rattle.book_writes.proofs.Gathering as gathering
-use borrow.Author.Rules.{rules}
 use Rattle.book_writes.proofs.make_trace.Given as goal
 
 abbrev pub invariant-loop-k : goal.invariant-loop-k

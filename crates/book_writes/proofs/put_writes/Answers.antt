@@ -1,10 +1,7 @@
 -- `book_writes::put_writes` meets its contract.
-use mathlib.Core.Path.{◌≡◌, refl, sym, ap, ◌∙◌}
-use Prim.Native.Nat.{◌-◌, ◌≤◌}
+use mathlib.Core.Path.{◌≡◌, sym, ◌∙◌}
 use native.Mathlib.Omega.{arith}
-use lib.ListN.{length}
 use Rattle.book_writes.proofs.Gathering as gathering
-use borrow.Author.Rules.{rules}
 use Rattle.book_writes.proofs.put_writes.Goals as goal
 
 pub loop-k-init : goal.loop-k-init
@@ -26,7 +23,7 @@ pub bounds-values-place : goal.bounds-values-place
 bounds-values-place c = omega (arith, c.loop-k-test.true, c.requires.3, c.loop-k.invariant.1.values_long)
 
 pub loop-k-preserved : goal.loop-k-preserved
-loop-k-preserved c = 
+loop-k-preserved c =
     let p = c.requires in
     let v = c.loop-k in
     (omega (arith, c.loop-k-test.true), gathering.putting_on _ _ _ _ _ _ _ _ _ _ v.k v.invariant.1 (omega (arith, c.loop-k-test.true, p.3)) (omega (arith, c.loop-k-test.true, p.4)) (omega (arith, c.loop-k-test.true, p.5)))
@@ -41,7 +38,7 @@ pub shape_of-values : goal.shape_of-values
 shape_of-values c = c.loop-k.invariant.1.values_long ∙ sym c.requires.2
 
 pub returns : goal.returns
-returns c = 
+returns c =
     let v = c.loop-k in
     let a = c.args in
     let e : v.k ≡ a.count = omega (arith, c.loop-k-test.false, v.invariant.0) in

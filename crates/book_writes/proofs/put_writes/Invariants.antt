@@ -1,9 +1,5 @@
-use mathlib.Core.Path.{◌≡◌, refl, sym, ap, ◌∙◌}
 use Prim.Native.Nat.{◌-◌, ◌≤◌}
-use native.Mathlib.Omega.{arith}
-use lib.ListN.{length}
 use Rattle.book_writes.proofs.Gathering as gathering
-use borrow.Author.Rules.{rules}
 use Rattle.book_writes.proofs.put_writes.Given as goal
 
 abbrev pub invariant-loop-k : goal.invariant-loop-k

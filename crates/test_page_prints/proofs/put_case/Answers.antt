@@ -3,7 +3,6 @@ use native.Mathlib.Omega.{arith}
 use Rattle.session_print.proofs.LineBytes as line
 use Rattle.test_cases.proofs.Telling.{one_from}
 use Rattle.test_page_prints.specs.Prints.{refused, short, page}
-use borrow.Author.Rules.{rules}
 use Rattle.test_page_prints.proofs.put_case.Goals as goal
 
 pub returns-then-r-ne0 : goal.returns-then-r-ne0
@@ -13,7 +12,7 @@ pub returns-then-memory-lt-PAGE_BYTES : goal.returns-then-memory-lt-PAGE_BYTES
 returns-then-memory-lt-PAGE_BYTES c = let p = c.put_line-then-memory-lt-PAGE_BYTES.ensures in (short c.if-r-ne0.false c.if-memory-lt-PAGE_BYTES.true p.0, omega (arith, p.1))
 
 pub returns : goal.returns
-returns c = 
+returns c =
     let a = c.args in
     let first = c.put_line-a.ensures in
     let rows = c.put_rows.ensures in

@@ -2,7 +2,6 @@
 use native.Mathlib.Omega.{arith}
 use Rattle.listing.specs.Bytes.{bytes_of}
 use Rattle.test_page_prints.specs.Prints.{kept_word_lem}
-use borrow.Author.Rules.{rules}
 use Rattle.test_page_prints.proofs.put_kept.Goals as goal
 
 pub returns-then-kept : goal.returns-then-kept

@@ -3,12 +3,11 @@ use native.Mathlib.Omega.{arith}
 use Rattle.listing.specs.Bytes.{bytes_of}
 use Rattle.session_print.proofs.LineBytes as line
 use Rattle.test_page_prints.specs.Prints.{case_line}
-use borrow.Author.Rules.{rules}
 use Rattle.test_page_prints.proofs.put_line.Goals as goal
 
 pub returns : goal.returns
 unfolding case_line bytes_of
-returns c = 
+returns c =
     let first = c.put_text-a.ensures in
     let name = c.put_figure-b.ensures in
     let second = c.put_text-c.ensures in

@@ -3,12 +3,11 @@ use native.Mathlib.Omega.{arith}
 use Rattle.listing.specs.Bytes.{bytes_of}
 use Rattle.session_print.proofs.LineBytes as line
 use Rattle.test_page_prints.specs.Prints.{numbers_of}
-use borrow.Author.Rules.{rules}
 use Rattle.test_page_prints.proofs.put_numbers.Goals as goal
 
 pub returns : goal.returns
 unfolding numbers_of bytes_of
-returns c = 
+returns c =
     let number = c.put_figure-a.ensures in
     let first = c.put_text-b.ensures in
     let place = c.put_figure-c.ensures in

@@ -2,7 +2,6 @@
 use native.Mathlib.Omega.{arith}
 use Rattle.listing.specs.Bytes.{bytes_of}
 use Rattle.test_page_prints.proofs.Printing.{row_blank, row_shown}
-use borrow.Author.Rules.{rules}
 use Rattle.test_page_prints.proofs.put_row.Goals as goal
 
 pub returns-then-all_bytes : goal.returns-then-all_bytes
@@ -10,7 +9,7 @@ returns-then-all_bytes c = row_blank _ _ _ _ c.all_bytes.ensures c.if-all_bytes.
 
 pub returns : goal.returns
 unfolding bytes_of
-returns c = 
+returns c =
     let figure = c.put_figure-a.ensures in
     let gap = c.put_text-b.ensures in
     let row = c.put_text.ensures in

@@ -1,8 +1,6 @@
 -- `test_page_prints::put_rows` meets its contract.
-use Prim.Native.Nat.{◌-◌}
 use Rattle.session_print.proofs.ListedWrites.{still_long}
-use Rattle.test_page_prints.proofs.Printing.{Rowing, rowing_begun, rowing_on, rowing_done}
-use borrow.Author.Rules.{rules}
+use Rattle.test_page_prints.proofs.Printing.{rowing_begun, rowing_on, rowing_done}
 use Rattle.test_page_prints.proofs.put_rows.Goals as goal
 
 pub loop-line-init : goal.loop-line-init

@@ -1,7 +1,5 @@
 use Prim.Native.Nat.{◌-◌}
-use Rattle.session_print.proofs.ListedWrites.{still_long}
-use Rattle.test_page_prints.proofs.Printing.{Rowing, rowing_begun, rowing_on, rowing_done}
-use borrow.Author.Rules.{rules}
+use Rattle.test_page_prints.proofs.Printing.{Rowing}
 use Rattle.test_page_prints.proofs.put_rows.Given as goal
 
 abbrev pub invariant-loop-line : goal.invariant-loop-line

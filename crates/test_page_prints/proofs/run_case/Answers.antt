@@ -1,24 +1,23 @@
 -- `test_page_prints::run_case` meets its contract.
-use mathlib.Core.Path.{◌≡◌, sym, ap, ◌∙◌}
-use native.Mathlib.Omega.{arith}
-use lib.ListN.{length, length-replicate}
+use mathlib.Core.Path.{sym}
+use lib.ListN.{length}
 use lib.Seq.{length-take-le}
 use Rattle.test_page_prints.proofs.Printing.{case_run}
 use borrow.Author.Rules.{rules}
 use Rattle.test_page_prints.proofs.run_case.Goals as goal
 
 pub slice_bounds-print_page-end : goal.slice_bounds-print_page-end
-slice_bounds-print_page-end c = 
+slice_bounds-print_page-end c =
     let a = c.args in
     sym (length-take-le a.case.moments a.moments.now c.requires.0)
 
 pub slice_bounds-print_page-end-2 : goal.slice_bounds-print_page-end-2
-slice_bounds-print_page-end-2 c = 
+slice_bounds-print_page-end-2 c =
     let a = c.args in
     sym (length-take-le a.case.outputs a.outputs.now c.requires.1)
 
 pub slice_bounds-print_page-end-3 : goal.slice_bounds-print_page-end-3
-slice_bounds-print_page-end-3 c = 
+slice_bounds-print_page-end-3 c =
     let a = c.args in
     sym (length-take-le a.case.values a.values.now c.requires.2)
 
@@ -29,7 +28,7 @@ pub slice_bounds-put_case-end-2 : goal.slice_bounds-put_case-end-2
 slice_bounds-put_case-end-2 c = sym (length-take-le _ _ (search rules))
 
 pub returns : goal.returns
-returns c = 
+returns c =
     let a = c.args in
     let called = c.print_page-r in
     let filled = c.fill_bytes.ensures in

@@ -2,7 +2,6 @@
 use native.Mathlib.Omega.{arith}
 use Rattle.session_print.proofs.LineBytes as line
 use Rattle.explain_said.proofs.Saying as saying
-use borrow.Author.Rules.{rules}
 use Rattle.explain_said.proofs.reason.put_allowed.Goals as goal
 
 pub returns-then-why-lt-NO_NAME : goal.returns-then-why-lt-NO_NAME

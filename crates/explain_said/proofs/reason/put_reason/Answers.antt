@@ -4,7 +4,6 @@ use Rattle.session_print.proofs.LineBytes as line
 use Rattle.listing.specs.Bytes.{bytes_of, join}
 use Rattle.explain_said.specs.Reasons.{reason_texts, joined}
 use Rattle.explain_said.proofs.Saying.{by_line}
-use borrow.Author.Rules.{rules}
 use Rattle.explain_said.proofs.reason.put_reason.Goals as goal
 
 pub returns : goal.returns

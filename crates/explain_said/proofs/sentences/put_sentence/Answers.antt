@@ -3,7 +3,6 @@ use mathlib.Core.Path.{refl}
 use Rattle.listing.specs.Bytes.{bytes_of}
 use Rattle.explain_said.specs.Sentences.{sentences}
 use Rattle.explain_said.proofs.Numbered.{said, none_said}
-use borrow.Author.Rules.{rules}
 use Rattle.explain_said.proofs.sentences.put_sentence.Goals as goal
 
 pub returns-in-1 : goal.returns-in-1
@@ -27,6 +26,6 @@ unfolding sentences bytes_of
 returns-in-5 c = said _ 5 c.in-5.is refl refl c.put_text-in-5.ensures.0
 
 pub returns-in_default : goal.returns-in_default
-returns-in_default c = 
+returns-in_default c =
     let rest = c.in_default.in_default-own.rest in
     none_said _ _ _ rest.0.0.0.0.1 rest.0.0.0.1 rest.0.0.1 rest.0.1 rest.1

@@ -8,7 +8,6 @@ use Rattle.session_print.proofs.LineBytes as line
 use Rattle.explain_parts.specs.Parts.{part_of}
 use Rattle.explain_said.specs.Spots.{piece_text}
 use Rattle.explain_said.proofs.Saying as saying
-use borrow.Author.Rules.{rules}
 use Rattle.explain_said.proofs.spot.put_numbered.Goals as goal
 
 pub returns-then-piece-eq0 : goal.returns-then-piece-eq0
@@ -16,7 +15,7 @@ returns-then-piece-eq0 c = (line.same_bytes (saying.no_piece_lem _ _ _ c.if-piec
 
 pub returns : goal.returns
 unfolding bytes_of
-returns c = 
+returns c =
     let a = c.args in
     let first = c.put_text-a.ensures in
     let number = c.put_figure-b.ensures in

@@ -6,12 +6,11 @@ use Rattle.session_print.proofs.LineBytes as line
 use Rattle.explain_parts.specs.Parts.{part_of}
 use Rattle.explain_parts.specs.Shown.{shown}
 use Rattle.explain_said.specs.Spots.{piece_text}
-use borrow.Author.Rules.{rules}
 use Rattle.explain_said.proofs.spot.put_piece.Goals as goal
 
 pub returns : goal.returns
 unfolding piece_text bytes_of
-returns c = 
+returns c =
     let first = c.put_text-a.ensures in
     let part = c.part_after-part.ensures in
     let middle = c.put_shown-b.ensures in

@@ -3,7 +3,6 @@ use native.Mathlib.Omega.{arith}
 use Rattle.listing.specs.Bytes.{bytes_of}
 use Rattle.session_print.proofs.LineBytes as line
 use Rattle.explain_said.proofs.Saying as saying
-use borrow.Author.Rules.{rules}
 use Rattle.explain_said.proofs.spot.put_spot.Goals as goal
 
 pub returns-then-field-eq0 : goal.returns-then-field-eq0
@@ -11,7 +10,7 @@ returns-then-field-eq0 c = (line.same_bytes (saying.no_field _ _ _ c.if-field-eq
 
 pub returns : goal.returns
 unfolding bytes_of
-returns c = 
+returns c =
     let first = c.put_text-a.ensures in
     let number = c.put_figure-b.ensures in
     let piece = c.put_numbered-c.ensures in

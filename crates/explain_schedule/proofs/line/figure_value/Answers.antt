@@ -3,7 +3,6 @@ use mathlib.Core.Path.{sym, ap, ◌∙◌}
 use Rattle.text_piece.specs.Pieces.{figure_answer}
 use Rattle.explain_fields.proofs.Pieces.{whole}
 use Rattle.explain_schedule.specs.Lines.{value_in}
-use borrow.Author.Rules.{rules}
 use Rattle.explain_schedule.proofs.line.figure_value.Goals as goal
 
 pub returns-in-Value : goal.returns-in-Value

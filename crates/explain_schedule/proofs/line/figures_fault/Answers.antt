@@ -1,12 +1,10 @@
 -- `explain_schedule::line::figures_fault` meets its contract.
-use Prim.Native.Nat.{◌-◌}
-use borrow.Author.Rules.{rules}
 use mathlib.Core.Path.{◌∙◌, ap}
 use native.Mathlib.Omega.{arith}
 use Rattle.explain_fields.specs.Fields.{field_fault}
 use Rattle.explain_fields.specs.declared.field.Role.TheVariants as RV
 use Rattle.explain_parts.proofs.Parts.{part_size}
-use Rattle.explain_schedule.proofs.Lines.{Looking, looking_begun, looked_through, wrong_here, looking_on}
+use Rattle.explain_schedule.proofs.Lines.{looking_begun, looked_through, wrong_here, looking_on}
 use Rattle.explain_schedule.proofs.line.figures_fault.Goals as goal
 
 pub loop-before-init : goal.loop-before-init

@@ -3,7 +3,6 @@ use mathlib.Core.Path.{ap, ◌∙◌}
 use Rattle.listing.specs.Bytes.{Bytes}
 use Rattle.text_piece.specs.Pieces.{figure_answer}
 use Rattle.explain_schedule.specs.Lines.{value_in}
-use borrow.Author.Rules.{rules}
 use Rattle.explain_schedule.proofs.line.number_at.Goals as goal
 
 pub slice_bounds-figure_value-count : goal.slice_bounds-figure_value-count

@@ -1,7 +1,6 @@
 -- `explain_schedule::place::line_fault` meets its contract.
 use borrow.Author.Tests.{eq-eqb, ne_eqb}
 use Rattle.explain_schedule.specs.Faults.{line_fault}
-use borrow.Author.Rules.{rules}
 use Rattle.explain_schedule.proofs.place.line_fault.Goals as goal
 
 pub returns-then-place-eq1 : goal.returns-then-place-eq1

@@ -1,7 +1,6 @@
 -- `explain_schedule::place::reason_at` meets its contract.
 use borrow.Author.Tests.{le-leb, lt-leb}
 use Rattle.explain_schedule.specs.Faults.{fault_at}
-use borrow.Author.Rules.{rules}
 use Rattle.explain_schedule.proofs.place.reason_at.Goals as goal
 
 pub returns-then-count_parts-place : goal.returns-then-count_parts-place

@@ -1,7 +1,6 @@
 -- `explain_schedule::ranges::window_range` meets its contract.
 use borrow.Author.Tests.{lt-ltb, le-ltb, le-leb, lt-leb}
 use Rattle.explain_schedule.specs.Ranges.{window_range}
-use borrow.Author.Rules.{rules}
 use Rattle.explain_schedule.proofs.ranges.window_range.Goals as goal
 
 pub returns-then-input-ge-INPUTS : goal.returns-then-input-ge-INPUTS
@@ -22,12 +21,12 @@ returns-then-closing-gt-DAY_MINUTES c = rw (lt-ltb _ 16 c.if-input-ge-INPUTS.fal
 
 pub returns-then-opening-closing : goal.returns-then-opening-closing
 unfolding window_range
-returns-then-opening-closing c = 
+returns-then-opening-closing c =
     rw (lt-ltb _ 16 c.if-input-ge-INPUTS.false, le-leb 1 _ c.if-weekday-lt1.false, le-leb _ 7 c.if-weekday-gt-WEEKDAYS.false, le-leb _ 1440 c.if-closing-gt-DAY_MINUTES.false, le-ltb _ _ c.if-opening-closing.true)
     c.outside-then-opening-closing.ensures
 
 pub returns : goal.returns
 unfolding window_range
-returns c = 
+returns c =
     rw (lt-ltb _ 16 c.if-input-ge-INPUTS.false, le-leb 1 _ c.if-weekday-lt1.false, le-leb _ 7 c.if-weekday-gt-WEEKDAYS.false, le-leb _ 1440 c.if-closing-gt-DAY_MINUTES.false, lt-ltb _ _ c.if-opening-closing.false)
     c.fine.ensures

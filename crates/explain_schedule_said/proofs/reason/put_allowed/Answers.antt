@@ -3,7 +3,6 @@ use native.Mathlib.Omega.{arith}
 use Rattle.session_print.proofs.LineBytes as line
 use Rattle.explain_trace_said.proofs.Saying.{none_put}
 use Rattle.explain_schedule_said.proofs.Saying.{no_figure, some_figure}
-use borrow.Author.Rules.{rules}
 use Rattle.explain_schedule_said.proofs.reason.put_allowed.Goals as goal
 
 pub returns-then-why-lt-NO_DAY : goal.returns-then-why-lt-NO_DAY

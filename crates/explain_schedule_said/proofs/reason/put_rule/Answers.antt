@@ -2,7 +2,6 @@
 use native.Mathlib.Omega.{arith}
 use Rattle.listing.specs.Bytes.{bytes_of}
 use Rattle.explain_schedule_said.specs.Reasons.{rule}
-use borrow.Author.Rules.{rules}
 use Rattle.explain_schedule_said.proofs.reason.put_rule.Goals as goal
 
 pub returns : goal.returns

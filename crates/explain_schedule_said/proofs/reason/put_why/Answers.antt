@@ -2,12 +2,11 @@
 use native.Mathlib.Omega.{arith}
 use Rattle.session_print.proofs.LineBytes as line
 use Rattle.explain_schedule_said.specs.Reasons.{why_text}
-use borrow.Author.Rules.{rules}
 use Rattle.explain_schedule_said.proofs.reason.put_why.Goals as goal
 
 pub returns : goal.returns
 unfolding why_text
-returns c = 
+returns c =
     let a = c.put_reason-a.ensures in
     let b = c.put_allowed.ensures in
     (line.then_bytes a.0 b.0, omega (arith, a.1, b.1))

@@ -1,11 +1,10 @@
 -- `explain_schedule_said::told::put_plain` meets its contract.
 use native.Mathlib.Omega.{arith}
 use Rattle.session_print.proofs.LineBytes as line
-use borrow.Author.Rules.{rules}
 use Rattle.explain_schedule_said.proofs.told.put_plain.Goals as goal
 
 pub returns : goal.returns
-returns c = 
+returns c =
     let a = c.put_shown-a.ensures in
     let b = c.put_text.ensures in
     (line.then_bytes a.0 b.0, omega (arith, a.1, b.1, c.requires))

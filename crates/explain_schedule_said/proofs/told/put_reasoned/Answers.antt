@@ -3,11 +3,10 @@ use mathlib.Core.Path.{ap}
 use Rattle.session_print.proofs.LineBytes as line
 use Rattle.explain_schedule.specs.declared.ranges.LineFault.{LineFault}
 use Rattle.explain_schedule_said.specs.Said.{told_line}
-use borrow.Author.Rules.{rules}
 use Rattle.explain_schedule_said.proofs.told.put_reasoned.Goals as goal
 
 pub returns : goal.returns
-returns c = 
+returns c =
     let p = c.put_told.ensures in
     let l = c.args.line.now in
     (line.same_bytes (ap (λ (f : LineFault). told_line l f) c.reason_at-fault.ensures) p.0, p.1)

@@ -7,17 +7,16 @@ use Rattle.explain_parts.specs.Parts.{part_of}
 use Rattle.explain_parts.proofs.Parts.{part_size}
 use Rattle.explain_schedule.specs.Faults.{fault_at}
 use Rattle.explain_schedule_said.specs.Said.{told_line, refused_text}
-use borrow.Author.Rules.{rules}
 use Rattle.explain_schedule_said.proofs.told.put_refused.Goals as goal
 
 pub put_reasoned-requires : goal.put_reasoned-requires
-put_reasoned-requires c = 
+put_reasoned-requires c =
     let size = part_size _ _ _ _ c.part_after-part.ensures in
     (omega (arith, c.put_place-a.ensures.1), c.requires, omega (arith, size, c.requires))
 
 pub returns : goal.returns
 unfolding refused_text
-returns c = 
+returns c =
     let a = c.args in
     let head = c.put_place-a.ensures in
     let told = c.put_reasoned.ensures in

@@ -2,7 +2,6 @@
 use Rattle.listing.specs.Bytes.{bytes_of}
 use Rattle.session_print.proofs.LineBytes as line
 use Rattle.explain_schedule_said.proofs.Saying.{long_said, fit_said, refused_said}
-use borrow.Author.Rules.{rules}
 use Rattle.explain_schedule_said.proofs.told.put_schedule.Goals as goal
 
 pub returns-then-text-gt-LONGEST : goal.returns-then-text-gt-LONGEST

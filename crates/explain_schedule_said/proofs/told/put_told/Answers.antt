@@ -3,12 +3,11 @@ use native.Mathlib.Omega.{arith}
 use Rattle.listing.specs.Bytes.{bytes_of}
 use Rattle.session_print.proofs.LineBytes as line
 use Rattle.explain_schedule_said.specs.Said.{told_line}
-use borrow.Author.Rules.{rules}
 use Rattle.explain_schedule_said.proofs.told.put_told.Goals as goal
 
 pub returns : goal.returns
 unfolding told_line bytes_of
-returns c = 
+returns c =
     let a = c.put_spot-a.ensures in
     let b = c.put_why-b.ensures in
     let d = c.put_text-c.ensures in

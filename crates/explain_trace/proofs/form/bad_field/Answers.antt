@@ -13,6 +13,6 @@ returns-in-2 c = rw c.in-2.is
 
 pub returns-in_default : goal.returns-in_default
 unfolding bad_field
-returns-in_default c = 
+returns-in_default c =
     let r = c.in_default.in_default-own.rest in
     rw (ne_eqb _ 1 r.0.1, ne_eqb _ 2 r.1)

@@ -13,6 +13,6 @@ returns-in-81 c = rw c.in-81.is
 
 pub returns-in_default : goal.returns-in_default
 unfolding fields_after
-returns-in_default c = 
+returns-in_default c =
     let r = c.in_default.in_default-own.rest in
     rw (ne_eqb _ 73 r.0.1, ne_eqb _ 81 r.1)

@@ -1,8 +1,6 @@
 -- `explain_trace::form::fields_fault` meets its contract.
-use Prim.Native.Nat.{◌+◌, ◌-◌}
 use mathlib.Core.Path.{◌∙◌}
-use Rattle.explain_trace.proofs.Fields.{Looking, looking_begun, looked_through, wrong_here, looking_on}
-use borrow.Author.Rules.{rules}
+use Rattle.explain_trace.proofs.Fields.{looking_begun, looked_through, wrong_here, looking_on}
 use Rattle.explain_trace.proofs.form.fields_fault.Goals as goal
 
 pub loop-number-init : goal.loop-number-init

@@ -1,7 +1,5 @@
 use Prim.Native.Nat.{◌+◌, ◌-◌}
-use mathlib.Core.Path.{◌∙◌}
-use Rattle.explain_trace.proofs.Fields.{Looking, looking_begun, looked_through, wrong_here, looking_on}
-use borrow.Author.Rules.{rules}
+use Rattle.explain_trace.proofs.Fields.{Looking}
 use Rattle.explain_trace.proofs.form.fields_fault.Given as goal
 
 abbrev pub invariant-loop-number : goal.invariant-loop-number

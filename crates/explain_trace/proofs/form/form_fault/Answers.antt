@@ -8,7 +8,6 @@ use Rattle.explain_parts.specs.Parts.{part_of}
 use Rattle.explain_lines.proofs.Lines.{some_field, few_fields}
 use Rattle.explain_trace.specs.Forms.{letter_why, fields_after}
 use Rattle.explain_trace.proofs.Fields.{letter_wrong, count_wrong, by_fields}
-use borrow.Author.Rules.{rules}
 use Rattle.explain_trace.proofs.form.form_fault.Goals as goal
 
 pub slice_bounds-letter_why-count : goal.slice_bounds-letter_why-count
@@ -24,7 +23,7 @@ pub fields_fault-requires : goal.fields_fault-requires
 fields_fault-requires c = omega (arith, c.count_parts-count.ensures, few_fields 9 c.args.line.now, c.requires)
 
 pub returns-then-count-fields_after : goal.returns-then-count-fields_after
-returns-then-count-fields_after c = 
+returns-then-count-fields_after c =
     let s = c.args.line.now in
     let fine : letter_why (part_of 9 s 0) ≡ 0 = sym (c.letter_why-letter_reason.ensures ∙ ap letter_why c.part_after-first.ensures.is) ∙ c.if-letter_reason-ne-FINE.false in
     let count = c.count_parts-count.ensures in
@@ -32,7 +31,7 @@ returns-then-count-fields_after c =
     c.fields_fault.ensures ∙ rw count (by_fields s fine fits)
 
 pub returns : goal.returns
-returns c = 
+returns c =
     let s = c.args.line.now in
     let fine : letter_why (part_of 9 s 0) ≡ 0 = sym (c.letter_why-letter_reason.ensures ∙ ap letter_why c.part_after-first.ensures.is) ∙ c.if-letter_reason-ne-FINE.false in
     let count = c.count_parts-count.ensures in

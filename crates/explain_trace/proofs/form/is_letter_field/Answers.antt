@@ -2,7 +2,6 @@
 use mathlib.Core.Path.{ap, ◌∙◌}
 use borrow.Author.Tests.{eq-eqb, ne_eqb}
 use Rattle.explain_trace.specs.Forms.{is_letter_field, fields_after}
-use borrow.Author.Rules.{rules}
 use Rattle.explain_trace.proofs.form.is_letter_field.Goals as goal
 
 pub returns-then-field-eq1 : goal.returns-then-field-eq1

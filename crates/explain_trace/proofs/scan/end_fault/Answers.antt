@@ -1,7 +1,6 @@
 -- `explain_trace::scan::end_fault` meets its contract.
 use mathlib.Core.Path.{◌∙◌}
 use Rattle.explain_trace.proofs.Lines.{nothing_there, something_there}
-use borrow.Author.Rules.{rules}
 use Rattle.explain_trace.proofs.scan.end_fault.Goals as goal
 
 pub returns-then-bytes-eq0 : goal.returns-then-bytes-eq0

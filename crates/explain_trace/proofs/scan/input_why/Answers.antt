@@ -1,7 +1,6 @@
 -- `explain_trace::scan::input_why` meets its contract.
 use borrow.Author.Tests.{lt-ltb, le-ltb, eq-eqb, ne_eqb}
 use Rattle.explain_trace.specs.Scans.{input_why}
-use borrow.Author.Rules.{rules}
 use Rattle.explain_trace.proofs.scan.input_why.Goals as goal
 
 pub returns-then-t-time : goal.returns-then-t-time

@@ -1,7 +1,6 @@
 -- `explain_trace::scan::judge_input` meets its contract.
 use borrow.Author.Tests.{eq-eqb, ne_eqb}
 use Rattle.explain_trace.specs.Scans.{judge_input}
-use borrow.Author.Rules.{rules}
 use Rattle.explain_trace.proofs.scan.judge_input.Goals as goal
 
 pub returns-then-why-eq-FINE : goal.returns-then-why-eq-FINE

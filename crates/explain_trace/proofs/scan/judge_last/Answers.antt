@@ -1,6 +1,5 @@
 -- `explain_trace::scan::judge_last` meets its contract.
 use Rattle.explain_trace.specs.Scans.{judge_last}
-use borrow.Author.Rules.{rules}
 use Rattle.explain_trace.proofs.scan.judge_last.Goals as goal
 
 pub returns-then-nothing_after : goal.returns-then-nothing_after

@@ -13,14 +13,13 @@ use Rattle.explain_parts.proofs.Parts.{part_taken}
 use Rattle.explain_trace.specs.Scans.{unformed}
 use Rattle.explain_trace.specs.declared.scan.Judged.TheVariants as JV
 use Rattle.explain_trace.proofs.Lines.{judge_as, judged_as, part_long}
-use borrow.Author.Rules.{rules}
 use Rattle.explain_trace.proofs.scan.judge_line.Goals as goal
 
 pub unformed-requires : goal.unformed-requires
 unformed-requires c = let p = c.requires in part_long _ _ _ p.0 p.1 p.3
 
 pub returns-in-Input : goal.returns-in-Input
-returns-in-Input c = 
+returns-in-Input c =
     let a = c.args in
     let s = a.trace.now in
     let b = first_part_lem 10 (drop a.at s) in
@@ -29,7 +28,7 @@ returns-in-Input c =
     ∙ judged_as a.inputs a.line b (eqb (a.end + 1) (length s)) a.time a.least (read_trace_line b) (get_or s (line_end s a.at) 0) (passed s 0 (line_end s a.at))
 
 pub returns-in-Last : goal.returns-in-Last
-returns-in-Last c = 
+returns-in-Last c =
     let a = c.args in
     let s = a.trace.now in
     let b = first_part_lem 10 (drop a.at s) in
@@ -38,7 +37,7 @@ returns-in-Last c =
     ∙ judged_as a.inputs a.line b (eqb (a.end + 1) (length s)) a.time a.least (read_trace_line b) (get_or s (line_end s a.at) 0) (passed s 0 (line_end s a.at))
 
 pub returns-in-Bad : goal.returns-in-Bad
-returns-in-Bad c = 
+returns-in-Bad c =
     let a = c.args in
     let s = a.trace.now in
     let b = first_part_lem 10 (drop a.at s) in

@@ -1,7 +1,6 @@
 -- `explain_trace::scan::unformed` meets its contract.
 use borrow.Author.Tests.{eq-eqb, ne_eqb}
 use Rattle.explain_trace.specs.Scans.{unformed}
-use borrow.Author.Rules.{rules}
 use Rattle.explain_trace.proofs.scan.unformed.Goals as goal
 
 pub returns-then-fault-eq-FINE : goal.returns-then-fault-eq-FINE

@@ -1,9 +1,6 @@
 -- `explain_trace_said::asked::count_asked` meets its contract.
-use Prim.Native.Nat.{◌+◌, ◌-◌}
 use native.Mathlib.Omega.{arith}
-use lib.ListN.{length}
-use Rattle.explain_trace_said.proofs.Asking.{Counting, counting_begun, counted, counting_on}
-use borrow.Author.Rules.{rules}
+use Rattle.explain_trace_said.proofs.Asking.{counting_begun, counted, counting_on}
 use Rattle.explain_trace_said.proofs.asked.count_asked.Goals as goal
 
 pub loop-code-init : goal.loop-code-init

@@ -1,8 +1,6 @@
 use Prim.Native.Nat.{◌+◌, ◌-◌}
-use native.Mathlib.Omega.{arith}
 use lib.ListN.{length}
-use Rattle.explain_trace_said.proofs.Asking.{Counting, counting_begun, counted, counting_on}
-use borrow.Author.Rules.{rules}
+use Rattle.explain_trace_said.proofs.Asking.{Counting}
 use Rattle.explain_trace_said.proofs.asked.count_asked.Given as goal
 
 abbrev pub invariant-loop-code : goal.invariant-loop-code

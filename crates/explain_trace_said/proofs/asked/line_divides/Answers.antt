@@ -1,7 +1,6 @@
 -- `explain_trace_said::asked::line_divides` meets its contract.
 use mathlib.Core.Path.{sym, ◌∙◌}
 use Rattle.explain_trace_said.specs.Asked.{divides}
-use borrow.Author.Rules.{rules}
 use Rattle.explain_trace_said.proofs.asked.line_divides.Goals as goal
 
 pub returns-then-stands_in : goal.returns-then-stands_in

@@ -1,9 +1,6 @@
 use Prim.Native.Nat.{◌+◌, ◌-◌}
-use native.Mathlib.Omega.{arith}
 use lib.ListN.{length}
-use Rattle.session_print.proofs.ListedWrites.{still_long}
-use Rattle.explain_trace_said.proofs.Asking.{Asking, asking_begun, still_short, all_asked, asking_on}
-use borrow.Author.Rules.{rules}
+use Rattle.explain_trace_said.proofs.Asking.{Asking}
 use Rattle.explain_trace_said.proofs.asked.put_all_asked.Given as goal
 
 abbrev pub invariant-loop-out : goal.invariant-loop-out

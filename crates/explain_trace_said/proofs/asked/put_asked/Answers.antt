@@ -1,7 +1,6 @@
 -- `explain_trace_said::asked::put_asked` meets its contract.
 use Rattle.session_print.proofs.LineBytes as line
 use Rattle.explain_trace_said.proofs.Saying.{all_lines}
-use borrow.Author.Rules.{rules}
 use Rattle.explain_trace_said.proofs.asked.put_asked.Goals as goal
 
 pub returns : goal.returns

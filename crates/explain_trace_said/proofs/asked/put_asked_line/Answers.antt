@@ -3,12 +3,11 @@ use native.Mathlib.Omega.{arith}
 use Rattle.listing.specs.Bytes.{bytes_of}
 use Rattle.session_print.proofs.LineBytes as line
 use Rattle.explain_trace_said.specs.Asked.{asked_line}
-use borrow.Author.Rules.{rules}
 use Rattle.explain_trace_said.proofs.asked.put_asked_line.Goals as goal
 
 pub returns : goal.returns
 unfolding asked_line bytes_of
-returns c = 
+returns c =
     let a = c.put_place-a.ensures in
     let b = c.put_word-b.ensures in
     let d = c.put_shown-c.ensures in

@@ -3,7 +3,6 @@ use native.Mathlib.Omega.{arith}
 use Rattle.listing.specs.Bytes.{bytes_of}
 use Rattle.session_print.proofs.LineBytes as line
 use Rattle.explain_trace_said.proofs.Saying.{none_put, none_more, some_more}
-use borrow.Author.Rules.{rules}
 use Rattle.explain_trace_said.proofs.asked.put_more.Goals as goal
 
 pub returns-then-seen-le-LINES_SHOWN : goal.returns-then-seen-le-LINES_SHOWN
@@ -11,7 +10,7 @@ returns-then-seen-le-LINES_SHOWN c = (line.same_bytes (none_more _ c.if-seen-le-
 
 pub returns : goal.returns
 unfolding bytes_of
-returns c = 
+returns c =
     let a = c.put_text-a.ensures in
     let b = c.put_figure-b.ensures in
     let d = c.put_text.ensures in

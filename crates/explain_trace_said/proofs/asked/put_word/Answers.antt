@@ -3,7 +3,6 @@ use native.Mathlib.Omega.{arith}
 use Rattle.listing.specs.Bytes.{bytes_of}
 use Rattle.session_print.proofs.LineBytes as line
 use Rattle.explain_trace_said.specs.Asked.{word_text}
-use borrow.Author.Rules.{rules}
 use Rattle.explain_trace_said.proofs.asked.put_word.Goals as goal
 
 pub returns-then-alone : goal.returns-then-alone

@@ -2,7 +2,6 @@
 use native.Mathlib.Omega.{arith}
 use mathlib.Core.Path.{sym, ◌∙◌}
 use Rattle.explain_trace_said.specs.Asked.{seen_after}
-use borrow.Author.Rules.{rules}
 use Rattle.explain_trace_said.proofs.asked.seen_after.Goals as goal
 
 pub returns-then-is_asked : goal.returns-then-is_asked

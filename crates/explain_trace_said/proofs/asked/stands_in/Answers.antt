@@ -1,6 +1,5 @@
 -- `explain_trace_said::asked::stands_in` meets its contract.
 use Rattle.explain_trace_said.proofs.Saying.{stands_in_lem}
-use borrow.Author.Rules.{rules}
 use Rattle.explain_trace_said.proofs.asked.stands_in.Goals as goal
 
 pub returns : goal.returns

@@ -17,6 +17,6 @@ returns-in-65 c = rw c.in-65.is
 
 pub returns-in_default : goal.returns-in_default
 unfolding with_expression
-returns-in_default c = 
+returns-in_default c =
     let r = c.in_default.in_default-own.rest in
     rw (ne_eqb _ 83 r.0.0.1, ne_eqb _ 85 r.0.1, ne_eqb _ 65 r.1)

@@ -3,12 +3,11 @@ use native.Mathlib.Omega.{arith}
 use Rattle.listing.specs.Bytes.{bytes_of}
 use Rattle.session_print.proofs.LineBytes as line
 use Rattle.explain_trace_said.specs.Places.{place_text}
-use borrow.Author.Rules.{rules}
 use Rattle.explain_trace_said.proofs.place.put_place.Goals as goal
 
 pub returns : goal.returns
 unfolding place_text bytes_of
-returns c = 
+returns c =
     let a = c.put_shown-a.ensures in
     let b = c.put_text-b.ensures in
     let d = c.put_figure-c.ensures in

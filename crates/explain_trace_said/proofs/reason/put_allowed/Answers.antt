@@ -2,7 +2,6 @@
 use native.Mathlib.Omega.{arith}
 use Rattle.session_print.proofs.LineBytes as line
 use Rattle.explain_trace_said.proofs.Saying.{none_put, no_figure, some_figure}
-use borrow.Author.Rules.{rules}
 use Rattle.explain_trace_said.proofs.reason.put_allowed.Goals as goal
 
 pub returns-then-why-lt-NOT_AFTER : goal.returns-then-why-lt-NOT_AFTER

@@ -3,12 +3,11 @@ use native.Mathlib.Omega.{arith}
 use Rattle.listing.specs.Bytes.{bytes_of}
 use Rattle.session_print.proofs.LineBytes as line
 use Rattle.explain_trace_said.specs.Reasons.{code_text}
-use borrow.Author.Rules.{rules}
 use Rattle.explain_trace_said.proofs.reason.put_code.Goals as goal
 
 pub returns : goal.returns
 unfolding code_text bytes_of
-returns c = 
+returns c =
     let a = c.put_text-a.ensures in
     let b = c.put_figure-b.ensures in
     let d = c.put_text-c.ensures in

@@ -4,7 +4,6 @@ use Rattle.session_print.proofs.LineBytes as line
 use Rattle.listing.specs.Bytes.{bytes_of, join}
 use Rattle.explain_trace_said.specs.Reasons.{reason_texts, joined_reasons}
 use Rattle.explain_trace_said.proofs.Saying.{reason_by_line}
-use borrow.Author.Rules.{rules}
 use Rattle.explain_trace_said.proofs.reason.put_reason.Goals as goal
 
 pub returns : goal.returns

@@ -4,7 +4,6 @@ use Rattle.session_print.proofs.LineBytes as line
 use Rattle.listing.specs.Bytes.{bytes_of, join}
 use Rattle.explain_trace_said.specs.Reasons.{rule_texts, joined_rules}
 use Rattle.explain_trace_said.proofs.Saying.{rule_by_line}
-use borrow.Author.Rules.{rules}
 use Rattle.explain_trace_said.proofs.reason.put_rule.Goals as goal
 
 pub returns : goal.returns

@@ -1,7 +1,6 @@
 -- `session_trace::ended` meets its contract.
 use borrow.Enum.Refused.{opened}
 use mathlib.Core.Path.{sym, ap, ◌∙◌}
-use borrow.Author.Rules.{rules}
 use borrow.Author.Tests.{eq-eqb, ne_eqb}
 use Rattle.session_trace.specs.Groups.{ended_by}
 use Rattle.session_trace.proofs.Groups as groups

@@ -1,10 +1,7 @@
 -- `session_trace::next_call` meets its contract.
 use borrow.Enum.Refused.{opened}
-use mathlib.Core.Path.{refl, sym, subst, ◌∙◌}
-use Prim.Native.Nat.{◌-◌}
+use mathlib.Core.Path.{sym, subst, ◌∙◌}
 use native.Mathlib.Omega.{arith}
-use lib.ListN.{length}
-use borrow.Author.Rules.{rules}
 use Rattle.session_trace.specs.Groups.{NextIs, JoinsIs}
 use Rattle.session_trace.specs.declared.group.Next.{Next}
 use Rattle.session_trace.specs.declared.group.Next.TheVariants.{Broken}
@@ -14,20 +11,20 @@ use Rattle.session_trace.proofs.Scripts as scripts
 use Rattle.session_trace.proofs.group.next_call.Goals as goal
 
 pub returns-in_default : goal.returns-in_default
-returns-in_default c = 
+returns-in_default c =
     let a = c.args in
     let s = a.trace.now in
     groups.nothing_read s a.at a.numbers.now a.values.now c.ended.result
     (subst (λ (r : Next). NextIs s a.at a.numbers.now a.values.now r) (sym c.ended.ensures) (groups.no_input_next s a.at _ _ _ c.read_trace_line-line.ensures (opened c.in_default.in_default-own.keys2)))
 
 pub returns-then-stop-ne10 : goal.returns-then-stop-ne10
-returns-then-stop-ne10 c = 
+returns-then-stop-ne10 c =
     let a = c.args in
     let s = a.trace.now in
     groups.nothing_read s a.at a.numbers.now a.values.now Broken (scripts.input_open s a.at _ _ _ _ _ (sym c.in-Input.is ∙ c.read_trace_line-line.ensures) c.if-stop-ne10.true)
 
 pub loop-n-init : goal.loop-n-init
-loop-n-init c = 
+loop-n-init c =
     let a = c.args in
     let s = a.trace.now in
     let j = scripts.from_input s a.at _ _ _ _ _ (sym c.in-Input.is ∙ c.read_trace_line-line.ensures) c.if-stop-ne10.false in
@@ -43,7 +40,7 @@ pub shape_of-values-in_default-joining : goal.shape_of-values-in_default-joining
 shape_of-values-in_default-joining c = c.loop-n.invariant.same_values_lem.size ∙ groups.put_values c.put_input-count.ensures
 
 pub returns-in_default-joining : goal.returns-in_default-joining
-returns-in_default-joining c = 
+returns-in_default-joining c =
     let a = c.args in
     let s = a.trace.now in
     let v = c.loop-n in
@@ -53,12 +50,12 @@ returns-in_default-joining c =
     groups.group_read v.invariant put apart
 
 pub put_input-count-requires-in-loop-n : goal.put_input-count-requires-in-loop-n
-put_input-count-requires-in-loop-n c = 
+put_input-count-requires-in-loop-n c =
     let v = c.loop-n.invariant in
     (groups.group_few v, v.kept.long_numbers, v.kept.long_values)
 
 pub loop-n-smaller : goal.loop-n-smaller
-loop-n-smaller c = 
+loop-n-smaller c =
     let a = c.args in
     let s = a.trace.now in
     let v = c.loop-n in
@@ -67,7 +64,7 @@ loop-n-smaller c =
     omega (arith, j.forward, j.inside)
 
 pub loop-n-preserved : goal.loop-n-preserved
-loop-n-preserved c = 
+loop-n-preserved c =
     let a = c.args in
     let s = a.trace.now in
     let v = c.loop-n in

@@ -1,14 +1,6 @@
-use mathlib.Core.Path.{refl, sym, subst, ◌∙◌}
 use Prim.Native.Nat.{◌-◌}
-use native.Mathlib.Omega.{arith}
 use lib.ListN.{length}
-use borrow.Author.Rules.{rules}
-use Rattle.session_trace.specs.Groups.{NextIs, JoinsIs}
-use Rattle.session_trace.specs.declared.group.Next.{Next}
-use Rattle.session_trace.specs.declared.group.Next.TheVariants.{Broken}
-use Rattle.session_trace.specs.declared.group.Joins.{Joins}
 use Rattle.session_trace.proofs.Groups as groups
-use Rattle.session_trace.proofs.Scripts as scripts
 use Rattle.session_trace.proofs.group.next_call.Given as goal
 
 abbrev pub invariant-loop-n : goal.invariant-loop-n

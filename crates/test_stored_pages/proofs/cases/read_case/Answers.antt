@@ -1,10 +1,9 @@
 -- `test_stored_pages::read_case` meets its contract.
-use mathlib.Core.Path.{◌≡◌, sym, ap, ◌∙◌}
-use borrow.Author.Rules.{rules}
+use mathlib.Core.Path.{◌∙◌}
 use Rattle.test_stored_pages.proofs.cases.read_case.Goals as goal
 
 pub returns : goal.returns
-returns c = 
+returns c =
     let p = c.requires in
     record {
       moments_long = c.read_moments-second.ensures.0 ∙ p.0;

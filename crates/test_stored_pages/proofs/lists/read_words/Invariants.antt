@@ -1,11 +1,6 @@
-use mathlib.Core.Path.{◌≡◌, refl, sym, ap, ◌∙◌}
 use Prim.Native.Nat.{◌-◌, ◌≤◌}
-use native.Mathlib.Omega.{arith}
-use lib.ListN.{length, take}
 use Rattle.test_cases.specs.Frame.{word_at, onward}
-use Rattle.test_stored_pages.specs.Lists.{entries_from, place_after_lem}
 use Rattle.test_stored_pages.proofs.Reading as reading
-use borrow.Author.Rules.{rules}
 use Rattle.test_stored_pages.proofs.lists.read_words.Given as goal
 
 abbrev pub invariant-loop-k : goal.invariant-loop-k

@@ -1,7 +1,4 @@
 -- `test_stored_pages::all_bytes` meets its contract.
-use mathlib.Core.Path.{◌≡◌}
-use Prim.Native.Nat.{ℕ, ◌-◌, ◌≤◌, ◌<◌}
-use lib.ListN.{length, get_or}
 use borrow.Author.Count.{below_more}
 use Rattle.test_cases.proofs.Telling.{one_other, all_one}
 use borrow.Author.Rules.{rules}

@@ -1,9 +1,6 @@
 use mathlib.Core.Path.{◌≡◌}
 use Prim.Native.Nat.{ℕ, ◌-◌, ◌≤◌, ◌<◌}
 use lib.ListN.{length, get_or}
-use borrow.Author.Count.{below_more}
-use Rattle.test_cases.proofs.Telling.{one_other, all_one}
-use borrow.Author.Rules.{rules}
 use Rattle.test_stored_pages.proofs.memory.all_bytes.Given as goal
 
 abbrev pub invariant-loop-k : goal.invariant-loop-k

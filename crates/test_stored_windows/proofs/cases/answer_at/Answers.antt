@@ -1,11 +1,10 @@
 -- `test_stored_windows::answer_at` meets its contract.
 use mathlib.Core.Path.{ap, ◌∙◌}
 use Rattle.test_cases.specs.Frame.{word_at}
-use borrow.Author.Rules.{rules}
 use Rattle.test_stored_windows.proofs.cases.answer_at.Goals as goal
 
 pub returns : goal.returns
-returns c = 
+returns c =
     let s = c.args.s.now in
     record {
       number_is_lem = c.word_at-number.ensures;

@@ -2,11 +2,10 @@
 use mathlib.Core.Path.{ap, ◌∙◌}
 use Rattle.test_cases.specs.Frame.{moment_at}
 use Rattle.test_stored_windows.specs.Cases.{room_at}
-use borrow.Author.Rules.{rules}
 use Rattle.test_stored_windows.proofs.cases.asked_at.Goals as goal
 
 pub returns : goal.returns
-returns c = 
+returns c =
     let s = c.args.s.now in
     record {
       first_is = c.moment_at-first.ensures;

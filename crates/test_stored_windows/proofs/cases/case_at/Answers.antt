@@ -1,11 +1,10 @@
 -- `test_stored_windows::case_at` meets its contract.
 use mathlib.Core.Path.{ap, ◌∙◌}
 use Rattle.test_cases.specs.Frame.{word_at, onward}
-use borrow.Author.Rules.{rules}
 use Rattle.test_stored_windows.proofs.cases.case_at.Goals as goal
 
 pub returns : goal.returns
-returns c = 
+returns c =
     let part = c.part_at-part.ensures in
     let s = c.args.s.now in
     let middle = c.past-middle.ensures in

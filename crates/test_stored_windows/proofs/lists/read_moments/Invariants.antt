@@ -1,8 +1,6 @@
 use Prim.Native.Nat.{◌-◌, ◌≤◌}
-use native.Mathlib.Omega.{arith}
 use lib.ListN.{length}
-use Rattle.test_stored_windows.proofs.Moments.{Reading, begun, turn, ended}
-use borrow.Author.Rules.{rules}
+use Rattle.test_stored_windows.proofs.Moments.{Reading}
 use Rattle.test_stored_windows.proofs.lists.read_moments.Given as goal
 
 abbrev pub invariant-loop-k : goal.invariant-loop-k

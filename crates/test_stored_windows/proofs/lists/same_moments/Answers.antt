@@ -1,7 +1,4 @@
 -- `test_stored_windows::same_moments` meets its contract.
-use mathlib.Core.Path.{◌≡◌}
-use Prim.Native.Nat.{ℕ, ◌-◌, ◌≤◌, ◌<◌}
-use lib.ListN.{length, get_or}
 use borrow.Author.Count.{below_more}
 use Rattle.test_cases.proofs.Telling.{other_length, other_word, same_words_lem}
 use borrow.Author.Rules.{rules}

@@ -1,9 +1,6 @@
 use mathlib.Core.Path.{◌≡◌}
 use Prim.Native.Nat.{ℕ, ◌-◌, ◌≤◌, ◌<◌}
 use lib.ListN.{length, get_or}
-use borrow.Author.Count.{below_more}
-use Rattle.test_cases.proofs.Telling.{other_length, other_word, same_words_lem}
-use borrow.Author.Rules.{rules}
 use Rattle.test_stored_windows.proofs.lists.same_moments.Given as goal
 
 abbrev pub invariant-loop-k : goal.invariant-loop-k

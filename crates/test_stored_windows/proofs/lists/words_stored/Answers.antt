@@ -1,7 +1,5 @@
 -- `test_stored_windows::words_stored` meets its contract.
-use borrow.Author.Tests.{not-true, not-false}
 use Rattle.test_stored_answers.proofs.Answering.{other_numbers_lem, by_values}
-use borrow.Author.Rules.{rules}
 use Rattle.test_stored_windows.proofs.lists.words_stored.Goals as goal
 
 pub returns-then-not-same : goal.returns-then-not-same

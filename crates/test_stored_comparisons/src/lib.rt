@@ -1,5 +1,7 @@
 // One comparison as the file has it: a word, its kind, then the number and the word (1 alike, else 0) that it must answer. The kind says what is
 // spoilt: 4 the length of the copy, 6 the table's first word, 7 the machine's first word, any other nothing.
+#![tactic(auto)]
+
 ghost use Rattle.std.specs.Prelude.{◌≡◌};
 ghost use Rattle.walk.specs.Comparison.{alike_call};
 ghost use Rattle.layout.specs.Layout.{layout};

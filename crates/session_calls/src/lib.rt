@@ -1,4 +1,6 @@
 // The calls that a session makes on the engine, the start and the instant, without a print; the clock between them, and what is due.
+#![tactic(auto)]
+
 pub mod calls;
 pub mod clock;
 

@@ -6,6 +6,6 @@ use borrow.Author.Rules.{rules}
 use Rattle.engine_begin_start.proofs.begin_start.Goals as goal
 
 pub returns : goal.returns
-returns c = 
+returns c =
     let a = c.args in
     begun_start a.t.now c.requires.0 a.m.now _ _ _ c.requires.1 c.blank.ensures (omega arith) c.main_row.ensures c.empty-ready.ensures.1 refl refl

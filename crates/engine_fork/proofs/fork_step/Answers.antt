@@ -17,13 +17,13 @@ pub overflow_add-live : goal.overflow_add-live
 overflow_add-live c = let few = c.requires.most in let room = c.requires.room in record { fits = omega arith }
 
 pub returns-then-live-gt64 : goal.returns-then-live-gt64
-returns-then-live-gt64 c = 
+returns-then-live-gt64 c =
     λ moment.
     let a = c.args in
     too_many a.t.now a.m.now a.running a.cells a.n moment (omega (arith, c.if-live-gt64.true))
 
 pub returns-then-level-gt9 : goal.returns-then-level-gt9
-returns-then-level-gt9 c = 
+returns-then-level-gt9 c =
     λ moment.
     let a = c.args in
     let over = c.if-live-gt64.false in
@@ -33,7 +33,7 @@ returns-then-level-gt9 c =
     too_deep a.t.now a.m.now a.running a.cells a.n moment room deep
 
 pub fork_children-new-requires : goal.fork_children-new-requires
-fork_children-new-requires c = 
+fork_children-new-requires c =
     let a = c.args in
     let over = c.if-live-gt64.false in
     let room : a.running.live + a.n ≤ 64 = omega (arith, over) in
@@ -44,14 +44,14 @@ fork_children-new-requires c =
     may_fork a.n q a.running refl may level room (counted_clean a.running.me a.n q may.slot may.live may.clean)
 
 pub put_before-ready-requires : goal.put_before-ready-requires
-put_before-ready-requires c = 
+put_before-ready-requires c =
     let a = c.args in
     let over = c.if-live-gt64.false in
     let room : a.running.live + a.n ≤ 64 = omega (arith, over) in
     may_put c.set_children.ensures c.fork_children-new.ensures c.requires room
 
 pub next_ready-requires : goal.next_ready-requires
-next_ready-requires c = 
+next_ready-requires c =
     let a = c.args in
     let u = a.running in
     let over = c.if-live-gt64.false in
@@ -60,7 +60,7 @@ next_ready-requires c =
     (record { ready = c.put_before-ready.result; live = u.live + a.n; woken = u.woken; me = u.me }) c.put_before-ready.ensures.1 refl c.put_before-ready.ensures.0 room
 
 pub returns : goal.returns
-returns c = 
+returns c =
     λ moment.
     let a = c.args in
     let u = a.running in

@@ -10,7 +10,7 @@ use Rattle.engine_make_due.proofs.make_due.Goals as goal
 
 pub returns-then-due-present : goal.returns-then-due-present
 unfolding variable_in
-returns-then-due-present c = 
+returns-then-due-present c =
     let a = c.args in
     let i = a.index in
     let b = block a.m.now a.s in
@@ -20,7 +20,7 @@ returns-then-due-present c =
 
 pub returns : goal.returns
 unfolding variable_in unmarked_block
-returns c = 
+returns c =
     let a = c.args in
     let i = a.index in
     let b = block a.m.now a.s in

@@ -8,7 +8,7 @@ use Rattle.engine_make_due.proofs.overwrite.Goals as goal
 
 pub returns : goal.returns
 unfolding overwritten_block
-returns c = 
+returns c =
     let a = c.args in
     let i = a.index in
     λ moment. overwrite_changes a.s i moment a.v (search rules) (search rules)

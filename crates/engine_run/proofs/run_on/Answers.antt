@@ -17,7 +17,7 @@ pub shape_of-m-in-StopsWith : goal.shape_of-m-in-StopsWith
 shape_of-m-in-StopsWith c = c.run_straight.ensures.long ∙ c.loop-left.invariant.stays.outside.size
 
 pub returns-in-StopsWith : goal.returns-in-StopsWith
-returns-in-StopsWith c = 
+returns-in-StopsWith c =
     let g = c.loop-left.invariant in
     let pre = c.requires in
     stops_then _ _ g _ (went_to_stop _ _ _ _ _ _ _ _ c.in-StopsWith.is (c.run_straight.ensures.went _ refl (may_run_on_now _ _ pre g)))
@@ -26,7 +26,7 @@ pub shape_of-m-then-left-eq0 : goal.shape_of-m-then-left-eq0
 shape_of-m-then-left-eq0 c = c.run_straight.ensures.long ∙ c.loop-left.invariant.stays.outside.size
 
 pub returns-then-left-eq0 : goal.returns-then-left-eq0
-returns-then-left-eq0 c = 
+returns-then-left-eq0 c =
     let g = c.loop-left.invariant in
     let pre = c.requires in
     let w = went_to _ _ _ _ _ _ _ _ c.in-At.is (c.run_straight.ensures.went _ refl (may_run_on_now _ _ pre g)) in
@@ -34,7 +34,7 @@ returns-then-left-eq0 c =
     going_used_up _ _ h c.if-left-eq0.true
 
 pub step-stepped-requires : goal.step-stepped-requires
-step-stepped-requires c = 
+step-stepped-requires c =
     let g = c.loop-left.invariant in
     let pre = c.requires in
     let w = went_to _ _ _ _ _ _ _ _ c.in-At.is (c.run_straight.ensures.went _ refl (may_run_on_now _ _ pre g)) in
@@ -42,7 +42,7 @@ step-stepped-requires c =
     (may_step_now _ _ pre h, w.2 (omega (arith, c.if-left-eq0.false)))
 
 pub loop-left-smaller : goal.loop-left-smaller
-loop-left-smaller c = 
+loop-left-smaller c =
     let g = c.loop-left.invariant in
     let pre = c.requires in
     let w = went_to _ _ _ _ _ _ _ _ c.in-At.is (c.run_straight.ensures.went _ refl (may_run_on_now _ _ pre g)) in
@@ -50,7 +50,7 @@ loop-left-smaller c =
     omega (arith, w.1, c.if-left-eq0.false)
 
 pub loop-left-preserved : goal.loop-left-preserved
-loop-left-preserved c = 
+loop-left-preserved c =
     let g = c.loop-left.invariant in
     let pre = c.requires in
     let w = went_to _ _ _ _ _ _ _ _ c.in-At.is (c.run_straight.ensures.went _ refl (may_run_on_now _ _ pre g)) in
@@ -61,7 +61,7 @@ pub shape_of-m-in-Ends : goal.shape_of-m-in-Ends
 shape_of-m-in-Ends c = (c.step-stepped.ensures 0).stays.outside.size ∙ c.run_straight.ensures.long ∙ c.loop-left.invariant.stays.outside.size
 
 pub returns-in-Ends : goal.returns-in-Ends
-returns-in-Ends c = 
+returns-in-Ends c =
     let g = c.loop-left.invariant in
     let pre = c.requires in
     let w = went_to _ _ _ _ _ _ _ _ c.in-At.is (c.run_straight.ensures.went _ refl (may_run_on_now _ _ pre g)) in
@@ -72,7 +72,7 @@ pub shape_of-m-in-Stops : goal.shape_of-m-in-Stops
 shape_of-m-in-Stops c = (c.step-stepped.ensures 0).stays.outside.size ∙ c.run_straight.ensures.long ∙ c.loop-left.invariant.stays.outside.size
 
 pub returns-in-Stops : goal.returns-in-Stops
-returns-in-Stops c = 
+returns-in-Stops c =
     let g = c.loop-left.invariant in
     let pre = c.requires in
     let w = went_to _ _ _ _ _ _ _ _ c.in-At.is (c.run_straight.ensures.went _ refl (may_run_on_now _ _ pre g)) in

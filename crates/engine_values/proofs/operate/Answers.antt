@@ -20,7 +20,7 @@ left-of values count top f two gives joins =
 
 pub returns-then-joined-ge-NO_VALUE : goal.returns-then-joined-ge-NO_VALUE
 unfolding left_by_lem
-returns-then-joined-ge-NO_VALUE c = 
+returns-then-joined-ge-NO_VALUE c =
     let a = c.args in
     let values = a.values.now in
     let count = a.held.count in
@@ -35,7 +35,7 @@ returns-then-joined-ge-NO_VALUE c =
 
 pub returns : goal.returns
 unfolding left_by_lem
-returns c = 
+returns c =
     let a = c.args in
     let values = a.values.now in
     let count = a.held.count in

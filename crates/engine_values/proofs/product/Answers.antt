@@ -12,6 +12,6 @@ returns-in-5 c = rw c.in-5.is (gives_value c.wrapping_multiply.result _ (omega a
 
 pub returns-in_default : goal.returns-in_default
 unfolding sign_of
-returns-in_default c = 
+returns-in_default c =
     let other : c.args.kind ≡ 6 = omega (arith, c.in_default.in_default-own.rest, c.requires) in
     rw other (gives_value c.signed_less.result _ (omega arith) c.signed_less.ensures)

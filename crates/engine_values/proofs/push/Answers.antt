@@ -8,7 +8,7 @@ use Rattle.engine_values.proofs.Values.{one_more}
 use Rattle.engine_values.proofs.push.Goals as goal
 
 pub returns : goal.returns
-returns c = 
+returns c =
     let a = c.args in
     let count = a.held.count in
     let room : count < length a.values.now = omega (arith, c.requires.0) in

@@ -8,7 +8,7 @@ use Rattle.engine_values.proofs.Values.{gives_value, gives_none, by_zero}
 use Rattle.engine_values.proofs.quotient.Goals as goal
 
 pub returns-then-right-eq0 : goal.returns-then-right-eq0
-returns-then-right-eq0 c = 
+returns-then-right-eq0 c =
     let a = c.args in
     let zero : a.right ≡ 0 = omega arith in
     rw (zero, by_zero a.kind a.left c.requires.0 c.requires.1) gives_none
@@ -25,6 +25,6 @@ returns-in-7 c = rw (c.in-7.is, ne_eqb _ 0 c.if-right-eq0.false) (gives_value c.
 
 pub returns-in_default : goal.returns-in_default
 unfolding sign_of divided
-returns-in_default c = 
+returns-in_default c =
     let other : c.args.kind ≡ 8 = omega (arith, c.in_default.in_default-own.rest, c.requires) in
     rw (other, ne_eqb _ 0 c.if-right-eq0.false) (gives_value c.signed_remainder.result _ (omega arith) c.signed_remainder.ensures)

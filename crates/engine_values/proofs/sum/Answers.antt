@@ -12,6 +12,6 @@ returns-in-3 c = rw c.in-3.is (gives_value c.wrapping_add.result _ (omega arith)
 
 pub returns-in_default : goal.returns-in_default
 unfolding sign_of
-returns-in_default c = 
+returns-in_default c =
     let other : c.args.kind ≡ 4 = omega (arith, c.in_default.in_default-own.rest, c.requires) in
     rw other (gives_value c.wrapping_subtract.result _ (omega arith) c.wrapping_subtract.ensures)

@@ -6,6 +6,6 @@ use Rattle.engine_variable_changes.proofs.unmark.Goals as goal
 
 pub returns : goal.returns
 unfolding unmarked_block
-returns c = 
+returns c =
     let a = c.args in
     unmark_changes a.s a.index (search rules) (search rules) c.put_word.ensures

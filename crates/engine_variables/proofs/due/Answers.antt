@@ -10,7 +10,7 @@ use Rattle.engine_variables.proofs.due.Goals as goal
 
 pub returns : goal.returns
 unfolding variable_in
-returns c = 
+returns c =
     let a = c.args in
     let b = block a.m.now a.s in
     read_of (λ (x : Variable). waiting_moment x.waiting) a.m.now a.s a.index (c.word_at-first.result + c.word_at-second.result * 4294967296) (search rules)

@@ -8,7 +8,7 @@ use Rattle.engine_blocks.specs.Blocks.{owner_at}
 use Rattle.engine_variables.proofs.owner.Goals as goal
 
 pub returns-then-block-lt-SLOTS : goal.returns-then-block-lt-SLOTS
-returns-then-block-lt-SLOTS c = 
+returns-then-block-lt-SLOTS c =
     let a = c.args in
     let w = c.word_at-word.result in
     let few : w % 16 < 16 = omega arith in
@@ -20,7 +20,7 @@ returns-then-block-lt-SLOTS c =
     }
 
 pub returns : goal.returns
-returns c = 
+returns c =
     let a = c.args in
     let w = c.word_at-word.result in
     let few : w % 16 < 16 = omega arith in

@@ -7,6 +7,6 @@ use Rattle.engine_variables.proofs.value.Goals as goal
 
 pub returns : goal.returns
 unfolding variable_in
-returns c = 
+returns c =
     let a = c.args in
     read_of (λ (x : Variable). x.value) a.m.now a.s a.index c.word_at.result (search rules) c.word_at.ensures

@@ -12,7 +12,7 @@ use Rattle.engine_variables.proofs.written.Goals as goal
 
 pub returns : goal.returns
 unfolding variable_in
-returns c = 
+returns c =
     let a = c.args in
     read_of (λ (x : Variable). x.written) a.m.now a.s a.index (not (eqb c.word_at.result 0)) (search rules)
     (ap (λ (k : ℕ). not (eqb k 0)) c.word_at.ensures ∙ nonzero_test (block a.m.now a.s (128 + a.index)))

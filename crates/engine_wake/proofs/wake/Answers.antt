@@ -13,7 +13,7 @@ use Rattle.engine_wake.specs.Wakes.{triggered_from}
 use Rattle.engine_wake.proofs.wake.Goals as goal
 
 pub returns : goal.returns
-returns c = 
+returns c =
     let a = c.args in
     let m = a.m.now in
     let ss = triggers_at m a.s a.index in

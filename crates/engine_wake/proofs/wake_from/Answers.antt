@@ -13,14 +13,14 @@ use Rattle.engine_wake.specs.Wakes.{wakes, triggered_from}
 use Rattle.engine_wake.proofs.wake_from.Goals as goal
 
 pub returns-then-next-gt256 : goal.returns-then-next-gt256
-returns-then-next-gt256 c = 
+returns-then-next-gt256 c =
     let a = c.args in
     let e : c.number-next.result ≡ first_trigger a.m.now a.s a.index = c.number-next.ensures.0 ∙ c.word_at.ensures in
     let far : 256 < first_trigger a.m.now a.s a.index = omega arith in
     (rest_past a.m.now a.from a.s a.index (slots_of a.q) far, search rules)
 
 pub loop-next-init : goal.loop-next-init
-loop-next-init c = 
+loop-next-init c =
     let a = c.args in
     let m = a.m.now in
     let e : c.number-next.result ≡ first_trigger m a.s a.index = c.number-next.ensures.0 ∙ c.word_at.ensures in
@@ -28,7 +28,7 @@ loop-next-init c =
     (search rules, search rules, rw e (rest_start m a.from a.s a.index (slots_of a.q) near))
 
 pub returns-then-next-n : goal.returns-then-next-n
-returns-then-next-n c = 
+returns-then-next-n c =
     let a = c.args in
     let v = c.loop-next in
     let m = a.m.now in
@@ -44,7 +44,7 @@ returns-then-next-n c =
     )
 
 pub loop-next-preserved : goal.loop-next-preserved
-loop-next-preserved c = 
+loop-next-preserved c =
     let a = c.args in
     let v = c.loop-next in
     let m = a.m.now in
@@ -61,7 +61,7 @@ loop-next-preserved c =
     )
 
 pub returns : goal.returns
-returns c = 
+returns c =
     let a = c.args in
     let v = c.loop-next in
     let m = a.m.now in

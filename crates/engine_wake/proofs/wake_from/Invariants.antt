@@ -13,7 +13,7 @@ use Rattle.engine_wake.proofs.wake_from.Given as goal
 
 -- `engine_wake::wake_from` meets its contract.
 abbrev pub invariant-loop-next : goal.invariant-loop-next
-invariant-loop-next l = 
+invariant-loop-next l =
     (l.next ≤ 256) × (Ordered (rows_of l.m) (slots_of l.woken))
     × (insert_all_lem (rows_of l.m) (triggered_from (rows_of l.m) l.from (chained l.m l.next l.next)) (slots_of l.woken)
     ≡ insert_all_lem (rows_of l.m) (triggered_from (rows_of l.m) l.from (triggers_at l.m l.s l.index)) (slots_of l.initial.woken))

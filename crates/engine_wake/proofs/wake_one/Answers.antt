@@ -14,13 +14,13 @@ use Rattle.engine_wake.proofs.Waking.{stays_awake, comes_earlier, is_woken, not_
 use Rattle.engine_wake.proofs.wake_one.Goals as goal
 
 pub returns-then-not-asleep : goal.returns-then-not-asleep
-returns-then-not-asleep c = 
+returns-then-not-asleep c =
     let a = c.args in
     let r = rows_of a.m.now in
     not_inserted r _ a.s (slots_of a.q) (stays_awake r a.from a.s (sym c.asleep.ensures ∙ c.if-not-asleep.true))
 
 pub returns-then-low-from : goal.returns-then-low-from
-returns-then-low-from c = 
+returns-then-low-from c =
     let a = c.args in
     let r = rows_of a.m.now in
     let e = c.low-low.ensures in
@@ -28,7 +28,7 @@ returns-then-low-from c =
     not_inserted r _ a.s (slots_of a.q) (comes_earlier r a.from a.s early)
 
 pub push-requires : goal.push-requires
-push-requires c = 
+push-requires c =
     let a = c.args in
     let r = rows_of a.m.now in
     let o : Ordered r (slots_of a.q) = search rules in
@@ -38,7 +38,7 @@ push-requires c =
     (search rules, h, omega arith, insert_room r a.s (slots_of a.q) h o)
 
 pub returns : goal.returns
-returns c = 
+returns c =
     let a = c.args in
     let r = rows_of a.m.now in
     let e = c.low-low.ensures in

@@ -15,6 +15,6 @@ pub returns-then-not-asleep : goal.returns-then-not-asleep
 returns-then-not-asleep c = not_asleep _ _ _ _ c.if-next-eq0.false c.if-next-most.false (sym c.asleep.ensures ∙ c.if-not-asleep.true)
 
 pub returns : goal.returns
-returns c = 
+returns c =
     by_priority _ _ _ _ c.if-next-eq0.false c.if-next-most.false _
     (sym c.asleep.ensures ∙ c.if-not-asleep.false) c.low-own.ensures

@@ -17,7 +17,7 @@ use Rattle.engine_wake.specs.Wakes.{triggered_from}
 use Rattle.engine_wake_all.proofs.wake_all.Goals as goal
 
 pub first_low-low-requires : goal.first_low-low-requires
-first_low-low-requires c = 
+first_low-low-requires c =
     let a = c.args in
     let o : Ordered (rows_of a.m.now) (slots_of a.q) = search rules in
     let few = ordered_few (rows_of a.m.now) (slots_of a.q) o in
@@ -26,55 +26,55 @@ first_low-low-requires c =
 
 pub loop-most-init : goal.loop-most-init
 unfolding falling triggers_at
-loop-most-init c = 
+loop-most-init c =
     let a = c.args in
     let m = a.m.now in
     let e : c.number-next.result ≡ first_trigger m a.s a.index = c.number-next.ensures.0 ∙ c.word_at.ensures in
     (omega arith, refl, record { size = refl; bound = omega arith; order = search rules; first = c.first_low-low.ensures; left = rw e })
 
 pub overflow_sub-most : goal.overflow_sub-most
-overflow_sub-most c = 
+overflow_sub-most c =
     let g = first_goes _ _ _ _ (sym c.goes_first.ensures ∙ c.loop-most-test.true) in
     let some = g.some in
     omega arith
 
 pub low-low-requires : goal.low-low-requires
-low-low-requires c = 
+low-low-requires c =
     let g = first_goes _ _ _ _ (sym c.goes_first.ensures ∙ c.loop-most-test.true) in
     let near = g.near in
     (search rules, omega arith)
 
 pub overflow_cast-new : goal.overflow_cast-new
-overflow_cast-new c = 
+overflow_cast-new c =
     let near = (first_goes _ _ _ _ (sym c.goes_first.ensures ∙ c.loop-most-test.true)).near in
     omega arith
 
 pub bounds-new-count : goal.bounds-new-count
-bounds-new-count c = 
+bounds-new-count c =
     let v = c.loop-most in
     let room = putting_room _ _ _ _ _ _ _ _ v.invariant.2 (first_goes _ _ _ _ (sym c.goes_first.ensures ∙ c.loop-most-test.true)) in
     omega arith
 
 pub overflow_add-count : goal.overflow_add-count
-overflow_add-count c = 
+overflow_add-count c =
     let v = c.loop-most in
     let room = putting_room _ _ _ _ _ _ _ _ v.invariant.2 (first_goes _ _ _ _ (sym c.goes_first.ensures ∙ c.loop-most-test.true)) in
     omega arith
 
 pub word_at-requires-in-loop-most : goal.word_at-requires-in-loop-most
-word_at-requires-in-loop-most c = 
+word_at-requires-in-loop-most c =
     let near = (first_goes _ _ _ _ (sym c.goes_first.ensures ∙ c.loop-most-test.true)).near in
     (search rules, omega arith, omega arith)
 
 pub loop-most-smaller : goal.loop-most-smaller
-loop-most-smaller c = 
+loop-most-smaller c =
     let g = first_goes _ _ _ _ (sym c.goes_first.ensures ∙ c.loop-most-test.true) in
     let some = g.some in
     let near = g.near in
     omega arith
 
 pub loop-most-preserved : goal.loop-most-preserved
-loop-most-preserved c = 
+loop-most-preserved c =
     let v = c.loop-most in
     let g = first_goes _ _ _ _ (sym c.goes_first.ensures ∙ c.loop-most-test.true) in
     let next = c.number-next-in-loop-most.ensures.0 ∙ c.word_at-in-loop-most.ensures in
@@ -85,14 +85,14 @@ pub returns-then-next-gt0 : goal.returns-then-next-gt0
 returns-then-next-gt0 c = c.wake_from.ensures
 
 pub put_first-requires : goal.put_first-requires
-put_first-requires c = 
+put_first-requires c =
     let v = c.loop-most in
     let few = putting_few _ _ _ _ _ _ _ _ v.invariant.2 in
     let n = length_slots c.args.q in
     omega arith
 
 pub returns : goal.returns
-returns c = 
+returns c =
     let v = c.loop-most in
     let none : v.next ≡ 0 = omega arith in
     let e = c.put_first.ensures.1 in

@@ -16,7 +16,7 @@ use Rattle.engine_wake.specs.Wakes.{triggered_from}
 use Rattle.engine_wake_all.proofs.wake_all.Given as goal
 
 abbrev pub invariant-loop-most : goal.invariant-loop-most
-invariant-loop-most l = 
+invariant-loop-most l =
     (l.most ≤ 256) × (length l.new ≡ 64)
     × (Putting l.m (insert_all_lem (rows_of l.m) (triggered_from (rows_of l.m) 0 (triggers_at l.m l.s l.index)) (slots_of l.q)) (slots_of l.q) l.next l.most l.low l.new l.count)
 

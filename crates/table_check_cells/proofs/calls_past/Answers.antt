@@ -11,19 +11,19 @@ use borrow.Author.Rules.{rules}
 use Rattle.table_check_cells.proofs.calls_past.Goals as goal
 
 pub loop-left-init : goal.loop-left-init
-loop-left-init c = 
+loop-left-init c =
     let a = c.args in
     (omega arith, omega arith, refl)
 
 pub returns-then-not-head_passes : goal.returns-then-not-head_passes
-returns-then-not-head_passes c = 
+returns-then-not-head_passes c =
     let v = c.loop-left in
     let a = c.args in
     let head : head_test a.t.now v.a ≡ false = sym c.head_passes.ensures ∙ c.if-not-head_passes.true in
     sym (cells.calls_head a.t.now a.names v.a v.left (omega arith) head) ∙ v.invariant.2
 
 pub returns-then-stop-gt-CELL_END : goal.returns-then-stop-gt-CELL_END
-returns-then-stop-gt-CELL_END c = 
+returns-then-stop-gt-CELL_END c =
     let v = c.loop-left in
     let a = c.args in
     sym (cells.calls_long a.t.now a.names v.a v.left (omega arith) (omega (arith, c.next_head-stop.ensures, c.if-stop-gt-CELL_END.true))) ∙ v.invariant.2
@@ -33,7 +33,7 @@ unfolding after_call
 names_pass-requires c = omega (arith, c.if-stop-gt-CELL_END.false, c.next_head-stop.ensures, c.head_at-count.ensures.0, c.requires.0)
 
 pub returns-then-not-names_pass : goal.returns-then-not-names_pass
-returns-then-not-names_pass c = 
+returns-then-not-names_pass c =
     let v = c.loop-left in
     let a = c.args in
     let w = a.t.now in
@@ -42,7 +42,7 @@ returns-then-not-names_pass c =
     sym (cells.calls_names w a.names v.a v.left (omega arith) names) ∙ v.invariant.2
 
 pub loop-left-preserved : goal.loop-left-preserved
-loop-left-preserved c = 
+loop-left-preserved c =
     let v = c.loop-left in
     let a = c.args in
     let w = a.t.now in
@@ -54,7 +54,7 @@ loop-left-preserved c =
     (omega (arith, next, c.if-stop-gt-CELL_END.false), omega arith, rw next (turn ∙ v.invariant.2))
 
 pub returns : goal.returns
-returns c = 
+returns c =
     let v = c.loop-left in
     let a = c.args in
     sym (cells.calls_end a.t.now a.names v.a v.left (omega arith) v.invariant.0) ∙ v.invariant.2

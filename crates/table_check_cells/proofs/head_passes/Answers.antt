@@ -9,14 +9,14 @@ use Rattle.table_check_cells.proofs.head_passes.Goals as goal
 
 pub returns-then-head-number : goal.returns-then-head-number
 unfolding head_test
-returns-then-head-number c = 
+returns-then-head-number c =
     let a = c.args in
     let w = a.t.now in
     rw (le-ltb (word w (a.a + 1)) (word w 2) (omega (arith, c.if-head-number.true, c.number.ensures.0, c.head_at-head.ensures.1)))
 
 pub returns : goal.returns
 unfolding head_test
-returns c = 
+returns c =
     let head = c.head_at-head.ensures in
     let a = c.args in
     let w = a.t.now in

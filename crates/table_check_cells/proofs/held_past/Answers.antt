@@ -10,14 +10,14 @@ use Rattle.table_check_cells.proofs.Expressions as expressions
 use Rattle.table_check_cells.proofs.held_past.Goals as goal
 
 pub returns-then-piece_passes : goal.returns-then-piece_passes
-returns-then-piece_passes c = 
+returns-then-piece_passes c =
     let a = c.args in
     let w = a.t.now in
     let passes : piece_test a.names (word w (a.a + 0)) (word w (a.a + 1)) ≡ true = sym c.piece_passes.ensures ∙ c.if-piece_passes.true in
     (c.held_after.ensures ∙ ap (held_after a.held) c.effect_of.ensures) ∙ sym (expressions.held_by_words w a.names a.held a.a ∙ rw passes)
 
 pub returns : goal.returns
-returns c = 
+returns c =
     let a = c.args in
     let w = a.t.now in
     let fails : piece_test a.names (word w (a.a + 0)) (word w (a.a + 1)) ≡ false = sym c.piece_passes.ensures ∙ c.if-piece_passes.false in

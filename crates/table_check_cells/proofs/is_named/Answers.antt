@@ -13,7 +13,7 @@ returns-in-2 c = rw c.in-2.is
 
 pub returns-in_default : goal.returns-in_default
 unfolding is_named
-returns-in_default c = 
+returns-in_default c =
     let r = c.in_default.in_default-own.rest in
     let k = c.args.kind in
     rw (ne_eqb k 1 r.0.1, ne_eqb k 2 r.1)

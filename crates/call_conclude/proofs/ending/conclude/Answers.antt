@@ -4,7 +4,7 @@ use borrow.Author.Rules.{rules}
 use Rattle.call_conclude.proofs.ending.conclude.Goals as goal
 
 pub returns-in-Stopped : goal.returns-in-Stopped
-returns-in-Stopped c = 
+returns-in-Stopped c =
     let a = c.args in
     λ may. concluded_stop _ _ _ _ _ may _ c.in-Stopped.is _ _ _ c.halt.ensures
 
@@ -12,7 +12,7 @@ pub overflow_sub-allowance : goal.overflow_sub-allowance
 overflow_sub-allowance c = left_within _ _ _ _ _ c.requires.1 _ c.in-Ended.is
 
 pub finished-requires : goal.finished-requires
-finished-requires c = 
+finished-requires c =
     let p = c.requires in
     (p.0, may_finish _ _ _ _ _ p.1 _ c.in-Ended.is, p.2, p.3)
 

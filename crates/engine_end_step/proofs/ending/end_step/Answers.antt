@@ -10,14 +10,14 @@ use Rattle.engine_end_step.proofs.Joining.{may_still_pop, free_awake, freed_plac
 use Rattle.engine_end_step.proofs.ending.end_step.Goals as goal
 
 pub returns-then-level-eq0 : goal.returns-then-level-eq0
-returns-then-level-eq0 c = 
+returns-then-level-eq0 c =
     λ listing moment.
     let u = c.args.running in
     ends_main u (record { ready = u.ready; live = c.one_less-live.result; woken = u.woken; me = u.me }) c.free.ensures c.requires.slot
     refl c.one_less-live.ensures refl listing moment (sym c.level-level.ensures ∙ c.if-level-eq0.true)
 
 pub join_step-requires : goal.join_step-requires
-join_step-requires c = 
+join_step-requires c =
     let a = c.args in
     let u = a.running in
     let row = rows_of a.m.now u.me in
@@ -33,7 +33,7 @@ join_step-requires c =
     )
 
 pub returns : goal.returns
-returns c = 
+returns c =
     λ listing moment.
     let u = c.args.running in
     ends_child u (record { ready = u.ready; live = c.one_less-live.result; woken = u.woken; me = u.me }) c.free.ensures c.requires.slot

@@ -14,7 +14,7 @@ pub overflow_add-next : goal.overflow_add-next
 overflow_add-next c = let e = c.place-next.ensures in let n = c.requires.2 in record { fits = omega arith }
 
 pub returns-then-children-eq1 : goal.returns-then-children-eq1
-returns-then-children-eq1 c = 
+returns-then-children-eq1 c =
     let a = c.args in
     let u = a.running in
     let row = rows_of a.m.now a.parent in
@@ -24,13 +24,13 @@ returns-then-children-eq1 c =
     (record { ready = u.ready; live = u.live; woken = u.woken; me = a.parent }) refl next one refl refl refl refl
 
 pub next_ready-requires : goal.next_ready-requires
-next_ready-requires c = 
+next_ready-requires c =
     let u = c.args.running in
     let k = c.one_less.result in
     may_still_pop (λ (r : Row). with_children r k) c.set_children-2.ensures (children_asleep k) u u refl refl c.requires.0
 
 pub returns : goal.returns
-returns c = 
+returns c =
     let row = rows_of c.args.m.now c.args.parent in
     let count : c.children-children.result ≡ row.children = c.children-children.ensures in
     let less : c.one_less.result ≡ row.children - 1 = c.one_less.ensures ∙ ap (λ (x : ℕ). x - 1) count in

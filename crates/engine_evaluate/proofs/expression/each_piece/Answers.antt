@@ -19,12 +19,12 @@ pub overflow_add-at : goal.overflow_add-at
 overflow_add-at c = omega (arith, c.loop-left.invariant.place, c.requires.inside)
 
 pub loop-left-preserved : goal.loop-left-preserved
-loop-left-preserved c = 
+loop-left-preserved c =
     let more : 1 ≤ c.piece-held.result.count = omega (arith, c.if-held-eq0.false) in
     next_turn c.loop-left.invariant c.loop-left-test.true c.piece-held.ensures more
 
 pub returns : goal.returns
-returns c = 
+returns c =
     let loop = c.loop-left in
     let small : loop.held.top < 4294967296 = omega arith in
     (rw (value_given loop.held.top small) (last_turn loop.invariant (omega arith)), omega arith)

@@ -8,23 +8,23 @@ use Rattle.engine_evaluate.proofs.Short.{one_piece, one_value}
 use Rattle.engine_evaluate.proofs.expression.evaluate.Goals as goal
 
 pub operand-requires : goal.operand-requires
-operand-requires c = 
+operand-requires c =
     let one : c.args.pieces ≡ 1 = omega arith in
     let piece = one_piece (rw one at c.requires) in
     (piece.piece, piece.no_sign)
 
 pub returns-then-pieces-eq1 : goal.returns-then-pieces-eq1
-returns-then-pieces-eq1 c = 
+returns-then-pieces-eq1 c =
     let one : c.args.pieces ≡ 1 = omega arith in
     let small : c.operand.result < 4294967296 = omega arith in
     (rw (one, value_given c.operand.result small) (one_value c.operand.ensures), omega arith)
 
 pub joined-requires : goal.joined-requires
-joined-requires c = 
+joined-requires c =
     let three : c.args.pieces ≡ 3 = omega arith in
     rw three at c.requires
 
 pub returns-then-pieces-eq3 : goal.returns-then-pieces-eq3
-returns-then-pieces-eq3 c = 
+returns-then-pieces-eq3 c =
     let three : c.args.pieces ≡ 3 = omega arith in
     rw three c.joined.ensures

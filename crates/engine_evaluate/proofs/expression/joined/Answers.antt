@@ -5,7 +5,7 @@ use Rattle.engine_evaluate.proofs.Short.{three_pieces, three_value}
 use Rattle.engine_evaluate.proofs.expression.joined.Goals as goal
 
 pub operand-left-requires : goal.operand-left-requires
-operand-left-requires c = 
+operand-left-requires c =
     let first = (three_pieces c.requires).first in
     (first.piece, first.no_sign)
 
@@ -13,7 +13,7 @@ pub overflow_add-cells : goal.overflow_add-cells
 overflow_add-cells c = omega (arith, c.requires.inside)
 
 pub operand-right-requires : goal.operand-right-requires
-operand-right-requires c = 
+operand-right-requires c =
     let second = (three_pieces c.requires).second in
     (second.piece, second.no_sign)
 
@@ -27,6 +27,6 @@ pub sign-requires : goal.sign-requires
 sign-requires c = (three_pieces c.requires).third
 
 pub returns : goal.returns
-returns c = 
+returns c =
     let asked = c.requires in
     (rw c.sign.ensures.value (three_value c.operand-left.ensures c.operand-right.ensures (three_pieces asked).third), c.sign.ensures.most)

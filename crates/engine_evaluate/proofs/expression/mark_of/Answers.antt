@@ -10,13 +10,13 @@ pub owner-binding-requires : goal.owner-binding-requires
 owner-binding-requires c = let few = names_few c.args.m.now c.args.me (search rules) in search rules
 
 pub returns-then-written : goal.returns-then-written
-returns-then-written c = 
+returns-then-written c =
     let a = c.args in
     let read = read_by_name a.m.now a.me a.name c.owner-binding.result (λ (x : Variable). x.written) c.written.result c.owner-binding.ensures c.written.ensures (search rules) in
     record { equal = λ n bound. ap bit (sym c.if-written.true ∙ read.equal n bound) }
 
 pub returns-else-written : goal.returns-else-written
-returns-else-written c = 
+returns-else-written c =
     let a = c.args in
     let read = read_by_name a.m.now a.me a.name c.owner-binding.result (λ (x : Variable). x.written) c.written.result c.owner-binding.ensures c.written.ensures (search rules) in
     record { equal = λ n bound. ap bit (sym c.if-written.false ∙ read.equal n bound) }

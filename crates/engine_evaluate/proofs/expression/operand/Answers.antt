@@ -14,12 +14,12 @@ pub bounds-t-at-2 : goal.bounds-t-at-2
 bounds-t-at-2 c = omega (arith, c.requires.0.inside)
 
 pub value_of-requires : goal.value_of-requires
-value_of-requires c = 
+value_of-requires c =
     let stands = c.requires.0 in
     (stands.size, stands.slot, pieces.value_is_there stands c.in-1.is)
 
 pub mark_of-requires : goal.mark_of-requires
-mark_of-requires c = 
+mark_of-requires c =
     let stands = c.requires.0 in
     (stands.size, stands.slot, pieces.mark_is_there stands c.in-2.is)
 
@@ -33,6 +33,6 @@ pub returns-in-2 : goal.returns-in-2
 returns-in-2 c = pieces.adds_mark c.in-2.is c.mark_of.ensures
 
 pub returns-in_default : goal.returns-in_default
-returns-in_default c = 
+returns-in_default c =
     let r = c.in_default.in_default-own.rest in
     pieces.adds_none (record { not0 = r.0.0.1; not1 = r.0.1; not2 = r.1; no_sign = c.requires.1 })

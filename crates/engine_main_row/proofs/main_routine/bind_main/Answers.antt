@@ -15,7 +15,7 @@ pub bind_environment-requires : goal.bind_environment-requires
 bind_environment-requires c = (c.requires.1, c.requires.2, omega (arith, c.opening_of-opening.ensures.1.names))
 
 pub bind_own-requires : goal.bind_own-requires
-bind_own-requires c = 
+bind_own-requires c =
     let O = c.opening_of-opening.ensures.1 in
     (omega (arith, c.requires.1, c.bind_environment.ensures.in_block.size), c.requires.2, O.names, omega (arith, O.names))
 
@@ -32,7 +32,7 @@ pub shape_of-m : goal.shape_of-m
 shape_of-m c = omega (arith, c.bind_environment.ensures.in_block.size, c.bind_own.ensures.in_block.size, c.put_word.ensures.size)
 
 pub returns : goal.returns
-returns c = 
+returns c =
     let a = c.args in
     let E = c.bind_environment.ensures in
     let O = c.opening_of-opening.ensures.1 in

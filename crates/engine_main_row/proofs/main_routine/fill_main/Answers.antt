@@ -14,7 +14,7 @@ pub place-place-requires : goal.place-place-requires
 place-place-requires c = (c.requires.1, c.requires.2.slot)
 
 pub wait_mark-asleep-requires : goal.wait_mark-asleep-requires
-wait_mark-asleep-requires c = 
+wait_mark-asleep-requires c =
     let a = c.args in
     (c.requires.0, main_there a.t.now c.requires.0, subst (λ (x : ℕ). x < size_of a.t.now 0) (sym c.place-place.ensures) c.requires.2.place)
 
@@ -31,7 +31,7 @@ pub shape_of-m : goal.shape_of-m
 shape_of-m c = omega (arith, c.put_working.ensures.size, c.bind_main.ensures.in_block.size)
 
 pub returns : goal.returns
-returns c = 
+returns c =
     let a = c.args in
     main_filled c.wait_mark-asleep.result c.requires.2 c.main_parent-parent.ensures
     (c.wait_mark-asleep.ensures ∙ ap (λ (x : ℕ). is_wait (instruction_at (table_listing a.t.now) 0 x)) c.place-place.ensures) c.put_working.ensures c.bind_main.ensures

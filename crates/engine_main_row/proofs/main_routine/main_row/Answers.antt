@@ -20,7 +20,7 @@ pub put_kept-requires : goal.put_kept-requires
 put_kept-requires c = (omega (arith, c.requires.1, c.clear_words.ensures.size), c.requires.2)
 
 pub put_working-requires : goal.put_working-requires
-put_working-requires c = 
+put_working-requires c =
     let P = c.main_parent-parent.ensures in
     (omega (arith, c.requires.1, c.clear_words.ensures.size, c.put_kept.ensures.size), c.requires.2, omega (arith, P.slot), main_reaches P)
 

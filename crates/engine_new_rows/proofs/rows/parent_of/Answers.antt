@@ -15,12 +15,12 @@ pub overflow_cast-base : goal.overflow_cast-base
 overflow_cast-base c = omega (arith, c.own_count.ensures)
 
 pub overflow_add-base : goal.overflow_add-base
-overflow_add-base c = 
+overflow_add-base c =
     let a = c.args in
     let n = own_length a.m.now a.me c.requires.1 in omega (arith, c.own_count.ensures, c.base.ensures, c.requires.2.base, n)
 
 pub returns : goal.returns
-returns c = 
+returns c =
     let a = c.args in
     let n = own_length a.m.now a.me c.requires.1 in
     record {

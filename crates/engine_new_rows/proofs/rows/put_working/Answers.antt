@@ -10,25 +10,24 @@ pub overflow_cast-p : goal.overflow_cast-p
 overflow_cast-p c = omega (arith, c.requires.2)
 
 pub put_word-requires-7 : goal.put_word-requires-7
-put_word-requires-7 c = 
-    (
-      omega (
-        arith,
-        c.requires.0,
-        c.put_word.ensures.size,
-        c.put_word-2.ensures.size,
-        c.put_word-3.ensures.size,
-        c.put_word-4.ensures.size,
-        c.put_word-5.ensures.size,
-        c.put_word-6.ensures.size,
-      ),
-      omega (arith, c.requires.1),
-      omega arith,
-    )
+put_word-requires-7 c = (
+  omega (
+    arith,
+    c.requires.0,
+    c.put_word.ensures.size,
+    c.put_word-2.ensures.size,
+    c.put_word-3.ensures.size,
+    c.put_word-4.ensures.size,
+    c.put_word-5.ensures.size,
+    c.put_word-6.ensures.size,
+  ),
+  omega (arith, c.requires.1),
+  omega arith,
+)
 
 pub returns : goal.returns
 unfolding working_block
-returns c = 
+returns c =
     let a = c.args in
     let p = a.p in
     in_block_put_then 111 p.base (in_block_put_then 109 a.routine (in_block_put_then 108 p.bits (in_block_put_then 107 (p.low + a.i * 2 ^ p.bits)

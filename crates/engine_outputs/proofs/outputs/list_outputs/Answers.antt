@@ -9,7 +9,7 @@ use borrow.Author.Rules.{rules}
 use Rattle.engine_outputs.proofs.outputs.list_outputs.Goals as goal
 
 pub loop-i-init : goal.loop-i-init
-loop-i-init c = 
+loop-i-init c =
     let a = c.args in (
       search rules,
       search rules,
@@ -18,7 +18,7 @@ loop-i-init c =
     )
 
 pub loop-i-preserved : goal.loop-i-preserved
-loop-i-preserved c = 
+loop-i-preserved c =
     let a = c.args in
     let v = c.loop-i in (
       search rules,
@@ -28,7 +28,7 @@ loop-i-preserved c =
     )
 
 pub returns : goal.returns
-returns c = 
+returns c =
     let a = c.args in
     let v = c.loop-i in
     let z : v.i ≡ a.inputs + a.outputs = omega arith in

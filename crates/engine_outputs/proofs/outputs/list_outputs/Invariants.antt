@@ -9,7 +9,7 @@ use borrow.Author.Rules.{rules}
 use Rattle.engine_outputs.proofs.outputs.list_outputs.Given as goal
 
 abbrev pub invariant-loop-i : goal.invariant-loop-i
-invariant-loop-i l = 
+invariant-loop-i l =
     (l.i ≤ l.inputs + l.outputs) × (length l.numbers ≡ length l.initial.numbers) × (length l.values ≡ length l.initial.values) ×
     ListedSoFar (written_from l.inputs (drop l.inputs (environment_of (l.inputs + l.outputs) l.m))) (environment_of (l.inputs + l.outputs) l.m) l.i l.initial.numbers l.initial.values l.numbers l.values l.count
 

@@ -11,6 +11,6 @@ use Rattle.engine_row.proofs.row.asleep.Goals as goal
 
 pub returns : goal.returns
 unfolding row_at
-returns c = 
+returns c =
     let a = c.args in
     ap (λ (k : ℕ). not (eqb k 0)) c.word_at.ensures ∙ nonzero_test (block a.m.now a.s 104) ∙ field_read (λ (r : Row). r.asleep) a.m.now a.s (search rules)

@@ -8,6 +8,6 @@ use Rattle.engine_row.proofs.row.level.Goals as goal
 
 pub returns : goal.returns
 unfolding row_at
-returns c = 
+returns c =
     let a = c.args in
     c.word_at.ensures ∙ field_read (λ (r : Row). r.level) a.m.now a.s (search rules)

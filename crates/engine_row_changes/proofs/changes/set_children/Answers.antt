@@ -4,6 +4,6 @@ use Rattle.engine_blocks.proofs.RowChanges.{children_changes}
 use Rattle.engine_row_changes.proofs.changes.set_children.Goals as goal
 
 pub returns : goal.returns
-returns c = 
+returns c =
     let a = c.args in
     children_changes a.s a.count (search rules) c.put_word.ensures

@@ -7,6 +7,6 @@ use Rattle.engine_row_changes.proofs.changes.set_place.Goals as goal
 
 pub returns : goal.returns
 unfolding placed_block
-returns c = 
+returns c =
     let a = c.args in
     place_changes a.s a.place (search rules) (in_block_put_then 3 a.place c.put_word.ensures c.put_word-2.ensures)

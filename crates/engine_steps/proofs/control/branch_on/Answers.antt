@@ -17,7 +17,7 @@ use Rattle.engine_steps.proofs.control.branch_on.Goals as goal
 
 pub returns-then-condition-ge-NO_VALUE : goal.returns-then-condition-ge-NO_VALUE
 unfolding Onwards
-returns-then-condition-ge-NO_VALUE c = 
+returns-then-condition-ge-NO_VALUE c =
     λ listing moment.
     let a = c.args in
     let v = c.evaluate-condition.result in
@@ -25,7 +25,7 @@ returns-then-condition-ge-NO_VALUE c =
 
 pub returns-then-condition-eq0 : goal.returns-then-condition-eq0
 unfolding branch_place
-returns-then-condition-eq0 c = 
+returns-then-condition-eq0 c =
     λ listing moment.
     let a = c.args in
     let v = c.evaluate-condition.result in
@@ -36,7 +36,7 @@ returns-then-condition-eq0 c =
 
 pub returns : goal.returns
 unfolding branch_place
-returns c = 
+returns c =
     λ listing moment.
     let a = c.args in
     let pre = c.requires in

@@ -6,7 +6,7 @@ use Rattle.engine_steps.proofs.control.jump_on.Goals as goal
 
 pub returns : goal.returns
 unfolding Onwards
-returns c = 
+returns c =
     λ listing moment.
     let p = c.set_place.ensures in
     (now_at c.args.k p c.requires.1, still_in c.args.k p c.requires.1, jumps c.args.k p c.requires.1 listing moment)

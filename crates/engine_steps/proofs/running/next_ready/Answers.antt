@@ -14,12 +14,12 @@ use Rattle.engine_steps.proofs.Going.{first_small, pops_none, pops_first}
 use Rattle.engine_steps.proofs.running.next_ready.Goals as goal
 
 pub returns-then-is_empty : goal.returns-then-is_empty
-returns-then-is_empty c = 
+returns-then-is_empty c =
     let a = c.args in
     pops_none a.m.now a.running (eqb-true _ _ (sym c.is_empty.ensures ∙ c.if-is_empty.true))
 
 pub pop-popped-requires : goal.pop-popped-requires
-pop-popped-requires c = 
+pop-popped-requires c =
     let some : c.args.running.ready.count ≡ 0 → ⊥ = eqb-false _ _ (sym c.is_empty.ensures ∙ c.if-is_empty.false) in
     search rules
 
@@ -30,7 +30,7 @@ pub asleep-requires : goal.asleep-requires
 asleep-requires c = let small : c.pop-popped.result.slot < 64 = first_small c.requires.slots c.pop-popped.ensures.1 in search rules
 
 pub overflow_add-place : goal.overflow_add-place
-overflow_add-place c = 
+overflow_add-place c =
     let e = c.place-place.ensures in
     let bound = c.requires.sleepers c.pop-popped.result.slot (sym c.asleep.ensures ∙ c.if-asleep.true) in
     record { fits = omega arith }
@@ -40,7 +40,7 @@ set_place-requires c = let small : c.pop-popped.result.slot < 64 = first_small c
 
 pub returns-then-asleep : goal.returns-then-asleep
 unfolding first_place count_if
-returns-then-asleep c = 
+returns-then-asleep c =
     let u = c.args.running in
     let s = c.pop-popped.result.slot in
     let row = rows_of c.args.m.now s in
@@ -56,7 +56,7 @@ set_place-requires-2 c = let small : c.pop-popped.result.slot < 64 = first_small
 
 pub returns : goal.returns
 unfolding first_place count_if
-returns c = 
+returns c =
     let u = c.args.running in
     let s = c.pop-popped.result.slot in
     let row = rows_of c.args.m.now s in

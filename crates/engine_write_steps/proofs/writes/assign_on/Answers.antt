@@ -17,7 +17,7 @@ use Rattle.engine_write_steps.proofs.Changing.{assigns_alone, assign_fails_alone
 use Rattle.engine_write_steps.proofs.writes.assign_on.Goals as goal
 
 pub owner-binding-requires : goal.owner-binding-requires
-owner-binding-requires c = 
+owner-binding-requires c =
     let few = names_few c.args.m.now c.args.me c.requires.0.runs.slot in
     let there = c.requires.0.there in
     (c.requires.0.runs.size, c.requires.0.runs.slot, omega arith)
@@ -28,7 +28,7 @@ returns-then-word_at-ne0 c = λ listing moment. (refl, omega arith)
 
 pub returns-then-value-ge-NO_VALUE : goal.returns-then-value-ge-NO_VALUE
 unfolding Onwards
-returns-then-value-ge-NO_VALUE c = 
+returns-then-value-ge-NO_VALUE c =
     λ listing moment.
     let a = c.args in
     let v = c.evaluate-value.result in
@@ -36,7 +36,7 @@ returns-then-value-ge-NO_VALUE c =
 
 pub returns : goal.returns
 unfolding Onwards GoesOn
-returns c = 
+returns c =
     λ listing moment.
     let a = c.args in
     let value = c.evaluate-value.result in

@@ -21,26 +21,26 @@ use Rattle.engine_write_steps.proofs.Changing.{assigns, assign_fails}
 use Rattle.engine_write_steps.proofs.writes.assign_step.Goals as goal
 
 pub returns-then-value-ge-NO_VALUE : goal.returns-then-value-ge-NO_VALUE
-returns-then-value-ge-NO_VALUE c = 
+returns-then-value-ge-NO_VALUE c =
     λ listing moment.
     let a = c.args in
     let v = c.evaluate-value.result in
     assign_fails listing moment _ a.running _ a.name (pieces_at a.t.now a.cells a.pieces) (rw (none_given v c.if-value-ge-NO_VALUE.true) at c.evaluate-value.ensures.0)
 
 pub owner-binding-requires : goal.owner-binding-requires
-owner-binding-requires c = 
+owner-binding-requires c =
     let few = names_few c.args.m.now c.args.running.me c.requires.0.changes.runs.slot in
     let there = c.requires.0.changes.there in
     (c.requires.0.changes.runs.size, c.requires.0.changes.runs.slot, omega arith)
 
 pub overflow_add-next : goal.overflow_add-next
-overflow_add-next c = 
+overflow_add-next c =
     let e = c.place-next.ensures in
     let n = c.requires.0.changes.runs.next in
     record { fits = omega arith }
 
 pub returns : goal.returns
-returns c = 
+returns c =
     λ listing moment.
     let a = c.args in
     let u = a.running in

@@ -13,13 +13,13 @@ use borrow.Author.Rules.{rules}
 use Rattle.engine_write_steps.proofs.writes.schedule_at.Goals as goal
 
 pub owner-binding-requires : goal.owner-binding-requires
-owner-binding-requires c = 
+owner-binding-requires c =
     let few = names_few c.args.m.now c.args.me c.requires.0.runs.slot in
     let there = c.requires.0.there in
     (c.requires.0.runs.size, c.requires.0.runs.slot, omega arith)
 
 pub returns : goal.returns
-returns c = 
+returns c =
     let a = c.args in
     let binding = c.owner-binding.result in
     let bound = c.owner-binding.ensures in

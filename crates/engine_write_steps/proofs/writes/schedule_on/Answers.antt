@@ -19,7 +19,7 @@ use Rattle.engine_write_steps.proofs.writes.schedule_on.Goals as goal
 
 pub returns-then-delay-ge-NO_VALUE : goal.returns-then-delay-ge-NO_VALUE
 unfolding Onwards
-returns-then-delay-ge-NO_VALUE c = 
+returns-then-delay-ge-NO_VALUE c =
     λ listing.
     let a = c.args in
     let v = c.evaluate-delay.result in
@@ -28,7 +28,7 @@ returns-then-delay-ge-NO_VALUE c =
 
 pub returns-then-value-ge-NO_VALUE : goal.returns-then-value-ge-NO_VALUE
 unfolding Onwards
-returns-then-value-ge-NO_VALUE c = 
+returns-then-value-ge-NO_VALUE c =
     λ listing.
     let a = c.args in
     let delay = c.evaluate-delay.result in
@@ -39,7 +39,7 @@ returns-then-value-ge-NO_VALUE c =
 
 pub returns-then-not-is_positive : goal.returns-then-not-is_positive
 unfolding Onwards GoesOn
-returns-then-not-is_positive c = 
+returns-then-not-is_positive c =
     λ listing.
     let a = c.args in
     let delay = c.evaluate-delay.result in
@@ -52,7 +52,7 @@ returns-then-not-is_positive c =
     (rw (value_given value little) at c.evaluate-value.ensures.0) short
 
 pub schedule_at-requires : goal.schedule_at-requires
-schedule_at-requires c = 
+schedule_at-requires c =
     let a = c.args in
     let delay = c.evaluate-delay.result in
     let due = c.in-At.moment.0 in
@@ -65,7 +65,7 @@ schedule_at-requires c =
 
 pub returns-in-At : goal.returns-in-At
 unfolding Onwards GoesOn
-returns-in-At c = 
+returns-in-At c =
     λ listing.
     let a = c.args in
     let delay = c.evaluate-delay.result in
@@ -88,7 +88,7 @@ returns-in-At c =
 
 pub returns-in-TooLate : goal.returns-in-TooLate
 unfolding Onwards GoesOn
-returns-in-TooLate c = 
+returns-in-TooLate c =
     λ listing.
     let a = c.args in
     let delay = c.evaluate-delay.result in

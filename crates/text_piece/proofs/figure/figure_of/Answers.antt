@@ -20,7 +20,7 @@ pub returns-then-from-to : goal.returns-then-from-to
 returns-then-from-to c = sym (figures.figure_none c.args.s.now c.args.from c.args.to c.if-from-to.true)
 
 pub returns-then-from-to-2 : goal.returns-then-from-to-2
-returns-then-from-to-2 c = 
+returns-then-from-to-2 c =
     let a = c.args in
     let s = a.s.now in
     let lt : a.from < a.to = omega (arith, c.if-from-to-2.true) in
@@ -29,7 +29,7 @@ returns-then-from-to-2 c =
     rw (slice-cons a.from a.to s 0 lt k, c.if-s-from-eq48.true, single, slice_empty) (sym figures.zero_alone)
 
 pub returns-then-s-from-eq48 : goal.returns-then-s-from-eq48
-returns-then-s-from-eq48 c = 
+returns-then-s-from-eq48 c =
     let a = c.args in
     let s = a.s.now in
     let k : a.to ≤ length s = c.requires.1 in
@@ -41,13 +41,13 @@ returns-then-s-from-eq48 c =
     rw (slice-cons a.from a.to s 0 lt k, c.if-s-from-eq48.true, slice-cons (suc a.from) a.to s 0 l2 k) (sym (figures.zero_first _ _))
 
 pub overflow_sub-b : goal.overflow_sub-b
-overflow_sub-b c = 
+overflow_sub-b c =
     let d : is_digit (get_or c.args.s.now c.loop-i.i 0) ≡ true = sym c.is_digit.ensures ∙ c.if-is_digit.true in
     let lo : 48 ≤ get_or c.args.s.now c.loop-i.i 0 = leb-true 48 _ (and_left _ (leb (get_or c.args.s.now c.loop-i.i 0) 57) d) in
     omega arith
 
 pub append_digit-n-requires : goal.append_digit-n-requires
-append_digit-n-requires c = 
+append_digit-n-requires c =
     let b = get_or c.args.s.now c.loop-i.i 0 in
     let d : is_digit b ≡ true = sym c.is_digit.ensures ∙ c.if-is_digit.true in
     let hi : b ≤ 57 = leb-true b 57 (and_right (leb 48 b) (leb b 57) d) in
@@ -55,7 +55,7 @@ append_digit-n-requires c =
     (c.loop-i.invariant.2, omega arith)
 
 pub loop-i-preserved : goal.loop-i-preserved
-loop-i-preserved c = 
+loop-i-preserved c =
     let v = c.loop-i in
     let a = c.args in
     let s = a.s.now in
@@ -73,7 +73,7 @@ loop-i-preserved c =
     )
 
 pub returns-else-is_digit : goal.returns-else-is_digit
-returns-else-is_digit c = 
+returns-else-is_digit c =
     let v = c.loop-i in
     let a = c.args in
     let s = a.s.now in
@@ -83,7 +83,7 @@ returns-else-is_digit c =
     sym (figures.no_digits (slice a.from a.to s) (sym v.invariant.3 ∙ figures.digits_out s v.i a.to lt k d))
 
 pub returns : goal.returns
-returns c = 
+returns c =
     let v = c.loop-i in
     let a = c.args in
     let s = a.s.now in

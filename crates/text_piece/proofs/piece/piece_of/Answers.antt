@@ -14,7 +14,7 @@ pub returns-in_default-figure_of : goal.returns-in_default-figure_of
 returns-in_default-figure_of c = sym (pieces.piece_mark _ _ _ c.requires c.if-from-to.false c.in-64.is ∙ rw (← c.figure_of.ensures, c.in_default-figure_of.is))
 
 pub returns-in_default-figure_of-2 : goal.returns-in_default-figure_of-2
-returns-in_default-figure_of-2 c = 
+returns-in_default-figure_of-2 c =
     let r = c.in_default.in_default-own.rest in
     sym (pieces.piece_value _ _ _ c.requires c.if-from-to.false r.0.0.0.0.0.0.0.1 r.0.0.0.0.0.0.1 r.0.0.0.0.0.1 r.0.0.0.0.1 r.0.0.0.1 r.0.0.1 r.0.1 r.1 ∙ rw (← c.figure_of-in_default.ensures, c.in_default-figure_of-2.is))
 
@@ -43,6 +43,6 @@ pub returns-in-37 : goal.returns-in-37
 returns-in-37 c = c.if_alone-in-37.ensures ∙ sym (pieces.piece_remainder _ _ _ c.requires c.if-from-to.false c.in-37.is)
 
 pub returns-in-Value-figure_of : goal.returns-in-Value-figure_of
-returns-in-Value-figure_of c = 
+returns-in-Value-figure_of c =
     let r = c.in_default.in_default-own.rest in
     sym (pieces.piece_value _ _ _ c.requires c.if-from-to.false r.0.0.0.0.0.0.0.1 r.0.0.0.0.0.0.1 r.0.0.0.0.0.1 r.0.0.0.0.1 r.0.0.0.1 r.0.0.1 r.0.1 r.1 ∙ rw (← c.figure_of-in_default.ensures, c.in-Value-figure_of.is))

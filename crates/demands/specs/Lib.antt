@@ -1,2 +1,0 @@
-pub mod Exists
-pub mod Pairs

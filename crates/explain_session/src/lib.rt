@@ -1,5 +1,0 @@
-// What is said of a trace on a listing that loads: that it plays to its end, or the line and the reason at which the session is refused or stops.
-pub mod session;
-pub mod told;
-
-pub use session::put_session;

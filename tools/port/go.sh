@@ -1,6 +1,8 @@
 #!/bin/bash
 # go.sh REPO CRATE.. : tactic line, convert (if Proof.antt), check, print errors
-R=$1; shift
+T=$(cd "$(dirname "$0")" && pwd)
+LOG=${LOG:-/tmp/port-log}; mkdir -p "$LOG"
+R=$(cd "$1" && pwd); shift
 for c in "$@"; do
   cd $R/crates/$c || exit 1
   root=src/lib.rt; [ -f src/main.rt ] && root=src/main.rt
@@ -16,14 +18,14 @@ P
   fi
   rt fmt > /dev/null 2>&1
   if grep -rqs 'tie\.' proofs --include=Proof.antt; then
-    rt check --only "" > /tmp/w/log/$c.first 2>&1
-    rm -rf /tmp/names-$c; rt check --generated /tmp/names-$c --old-names > /tmp/w/log/$c.gen 2>&1
-    if [ ! -f /tmp/names-$c/names.json ]; then echo "$c: no names"; grep -E "error" /tmp/w/log/$c.first /tmp/w/log/$c.gen | head -8 | cut -c1-300; continue; fi
-    python3 /tmp/w/tools/turn_proofs.py $R/crates/$c /tmp/names-$c/names.json > /tmp/w/log/$c.conv 2>&1
-    python3 /tmp/w/tools/idents.py $R/crates/$c; cat /tmp/w/log/$c.conv | grep -v "left Proof.antt: \[\]"
+    rt check --only "" > $LOG/$c.first 2>&1
+    rm -rf /tmp/names-$c; rt check --generated /tmp/names-$c --old-names > $LOG/$c.gen 2>&1
+    if [ ! -f /tmp/names-$c/names.json ]; then echo "$c: no names"; grep -E "error" $LOG/$c.first $LOG/$c.gen | head -8 | cut -c1-300; continue; fi
+    python3 $T/turn_proofs.py $R/crates/$c /tmp/names-$c/names.json > $LOG/$c.conv 2>&1
+    python3 $T/idents.py $R/crates/$c; cat $LOG/$c.conv | grep -v "left Proof.antt: \[\]"
   fi
   s=$(date +%s)
-  rt check > /tmp/w/log/$c.check 2>&1
+  rt check > $LOG/$c.check 2>&1
   e=$(date +%s)
-  if grep '^logic=' /tmp/w/log/$c.check | tail -1 | grep -q '^logic=proved'; then echo "$c PROVED $((e-s))s"; else echo "$c NOT $((e-s))s"; grep -E "error|no proof" /tmp/w/log/$c.check | grep -v "was not checked\|were not checked" | head -${ERR:-12} | cut -c1-${WIDE:-260}; fi
+  if grep '^logic=' $LOG/$c.check | tail -1 | grep -q '^logic=proved'; then echo "$c PROVED $((e-s))s"; else echo "$c NOT $((e-s))s"; grep -E "error|no proof" $LOG/$c.check | grep -v "was not checked\|were not checked" | head -${ERR:-12} | cut -c1-${WIDE:-260}; fi
 done

@@ -1,7 +1,7 @@
 #!/usr/bin/env python3
 """Turns Proof.antt files in the older form (tie.Need-..) of a crate into Invariants.antt and Answers.antt.
 usage: turn_proofs.py CRATE_FOLDER NAMES_JSON [--keep]   (--keep: keep `search rules` answers)
-Old text stays at /tmp/w/old/CRATE/PATH/Proof.antt"""
+Old text stays at /tmp/port-old/CRATE/PATH/Proof.antt"""
 import json,os,re,sys,shutil
 sys.path.insert(0,os.path.dirname(os.path.abspath(__file__)))
 from parse_proof import blocks, W
@@ -147,7 +147,7 @@ def convert(crate,folder,fn,keep,outroot):
             nb=re.sub(r'\((?:\w+\.)?was_(?:true|false) _ (c\.if-not-[^\s(),]*)\)',r'\1',nb)
             nb=nb.strip() if nb.strip().count('\n')==0 else '\n    '+nb.strip()
             block='\n'.join(g['comments']+['pub %s : goal.%s'%(new,new)]+g['unf']+['%s %s = %s'%(new,' '.join(pre[:-1]+['c']) if pre else 'c',nb)])
-            if not keep and re.fullmatch(r'search rules|omega arith',nb.strip()) :
+            if not keep and not g['unf'] and re.fullmatch(r'search rules|omega arith',nb.strip()):
                 dropped.append((new,block)); continue
             ans.append(block); continue
         # a helper
@@ -160,7 +160,7 @@ def convert(crate,folder,fn,keep,outroot):
     for l in text.split('\n'):
         if l.startswith('--'): first.append(l)
         else: break
-    old=os.path.join('/tmp/w/old',crate,path); os.makedirs(old,exist_ok=True); shutil.copy(src,os.path.join(old,'Proof.antt'))
+    old=os.path.join('/tmp/port-old',crate,path); os.makedirs(old,exist_ok=True); shutil.copy(src,os.path.join(old,'Proof.antt'))
     json.dump(dropped,open(os.path.join(old,'dropped.json'),'w'))
     os.remove(src)
     if inv:

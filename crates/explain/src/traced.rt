@@ -1,0 +1,62 @@
+// What the program says of a trace, put into lent bytes.
+ghost use Rattle.std.specs.Prelude.{◌≤◌, length};
+ghost use Rattle.explain.specs.Traced.{PlayedSaid, TraceSaid};
+
+use explain_listing::said::{put_named, text};
+use explain_listing::verdict::{Verdict, judge, read_listing};
+use explain_session::put_session;
+use std::fs::Files;
+use std::io::Stderr;
+
+// Of a trace on a listing; how many bytes.
+fn put_played(
+    out: &mut [u8],
+    path: &[u8],
+    trace: &[u8],
+    listing_path: &[u8],
+    listing: &[u8],
+) -> usize
+    requires { (length listing.now ≤ 49153) × (length trace.now ≤ 49153) }
+    ensures { PlayedSaid path.now trace.now listing_path.now listing.now out.old out.new result
+        × (result ≤ 50000) }
+{
+    let answer = judge(listing);
+    match answer {
+        Verdict::TooLong => put_named(
+            out,
+            path,
+            b": It is not played: the listing does not load.\n",
+        ),
+        Verdict::Loads => put_session(out, path, trace, listing_path, listing),
+        Verdict::Fails(_, _) => put_named(
+            out,
+            path,
+            b": It is not played: the listing does not load.\n",
+        ),
+    }
+}
+
+// Of two files, if both can be read; how many bytes.
+pub fn put_traced<R: Files>(
+    files: &R,
+    errors: Stderr,
+    out: &mut [u8],
+    path: &[u8],
+    listing_path: &[u8],
+) -> usize
+    ensures { TraceSaid path.now listing_path.now out.old out.new result × (result ≤ 50000) }
+{
+    let mut listing = text();
+    let one = read_listing(files, errors, listing_path, &mut listing);
+    let m = one.count;
+    if !one.readable {
+        return 0;
+    }
+    let mut trace = text();
+    let other = read_listing(files, errors, path, &mut trace);
+    let n = other.count;
+    if !other.readable {
+        return 0;
+    }
+    put_played(out, path, &trace[..n], listing_path, &listing[..m])
+}

@@ -1,0 +1,16 @@
+-- `explain_session::told::put_told` meets its contract.
+use native.Mathlib.Omega.{arith}
+use Rattle.listing.specs.Bytes.{bytes_of}
+use Rattle.session_print.proofs.LineBytes as line
+use Rattle.explain_session.specs.Told.{told_line}
+use Rattle.explain_session.proofs.told.put_told.Goals as goal
+
+pub returns : goal.returns
+unfolding told_line bytes_of
+returns c =
+    let a = c.put_spot-a.ensures in
+    let b = c.put_why-b.ensures in
+    let d = c.put_text-c.ensures in
+    let e = c.put_shown-d.ensures in
+    let f = c.put_code.ensures in
+    (line.then_bytes a.0 (line.then_bytes b.0 (line.then_bytes d.0 (line.then_bytes e.0 f.0))), omega (arith, a.1, b.1, d.1, e.1, f.1))

@@ -1,0 +1,39 @@
+-- What is said of the end of a session.
+use Rattle.std.specs.Prelude.{cond, ◌++◌, ℕ, ◌-◌, eqb, leb}
+use Rattle.listing.specs.Bytes.{Bytes, bytes_of, figure, line_feed}
+use Rattle.explain_parts.specs.Parts.{part_of}
+use Rattle.explain_parts.specs.Shown.{shown}
+use Rattle.explain_said.specs.Spots.{spot_text}
+use Rattle.explain_trace.specs.Scans.{fault_of}
+use Rattle.explain_trace.specs.declared.scan.TraceFault.{TraceFault}
+use Rattle.explain_trace_said.specs.Places.{place_text}
+use Rattle.explain_trace_said.specs.Reasons.{why_text, code_text}
+use Rattle.explain_trace_said.specs.Asked.{asked_text}
+use Rattle.explain_played.specs.Endings.{leading_figure}
+use Rattle.explain_played.specs.declared.ending.Ended.{Ended}
+
+-- the reason at a line, the line as it is shown, and the rule
+unfoldable pub told_line : Bytes → TraceFault → ℕ → Bytes
+told_line line fault code =
+    spot_text line fault.field 0 ++ (why_text fault.why fault.allowed ++ (bytes_of "\n    " ++ (shown 120 line ++ code_text code)))
+
+-- a refusal: where (the first line has no lines before it), why, and its rule
+unfoldable pub refused_text : Bytes → Bytes → TraceFault → ℕ → Bytes
+refused_text path trace fault code = place_text 4096 path fault.line ++ told_line (part_of line_feed trace (fault.line - 1)) fault code
+
+-- a stop: the line of the trace that was played, the moment, the rule, and the lines of the listing at which it is asked
+unfoldable pub stopped_text : Bytes → Bytes → Bytes → Ended → Bytes
+stopped_text path listingPath listing ended =
+    place_text 4096 path ended.line
+    ++ (bytes_of "the instant at " ++ (figure ended.moment ++ (bytes_of " stops the machine" ++ (code_text ended.code ++ asked_text listingPath listing ended.code))))
+
+-- a file's name and what is said of it
+abbrev pub plain_text : Bytes → Bytes → Bytes
+plain_text path text = shown 4096 path ++ text
+
+-- by the code: 0, "13 .." to "18 ..", or a refusal
+unfoldable pub ended_text : Bytes → Bytes → Bytes → Bytes → Ended → Bytes
+ended_text path trace listingPath listing ended =
+    cond (eqb ended.code 0) (plain_text path (bytes_of ": It plays to its end.\n"))
+    (cond (leb 13 ended.code) (stopped_text path listingPath listing ended)
+    (refused_text path trace (fault_of (leading_figure listing) trace) ended.code))

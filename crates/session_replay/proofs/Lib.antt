@@ -1,0 +1,11 @@
+pub mod Printed
+pub mod FewInputs
+pub mod EndPrinted
+pub mod CallPrinted
+pub mod Promised
+pub mod Playing
+pub mod Stepping
+pub mod FirstSteps
+pub mod Calling
+pub mod Moving
+pub mod Ending

@@ -1,0 +1,17 @@
+-- `test_sessions::playing::take_step` meets its contract.
+use Rattle.test_sessions.specs.Playing.{on, failed}
+use Rattle.test_sessions.proofs.Steps.{call_of_lem, not_short, followed, not_followed}
+use Rattle.test_sessions.proofs.playing.take_step.Goals as goal
+
+pub returns-in-TooShort : goal.returns-in-TooShort
+returns-in-TooShort c = not_short (rw c.in-TooShort.is at c.advance.ensures) c.requires
+
+pub returns-in-Differs : goal.returns-in-Differs
+returns-in-Differs c =
+    failed (call_of_lem c.advance.ensures c.in-Went.is (record { table_is = c.advance.auto.table; machine_is_lem = c.advance.auto.machine; out_is = c.advance.auto.out }))
+    (not_followed c.follows.ensures c.in-Differs.is)
+
+pub returns-in-To : goal.returns-in-To
+returns-in-To c =
+    let f = followed c.follows.ensures c.in-To.is in
+    on (call_of_lem c.advance.ensures c.in-Went.is (record { table_is = c.advance.auto.table; machine_is_lem = c.advance.auto.machine; out_is = c.advance.auto.out })) f.0 f.1

@@ -24,15 +24,14 @@ pub fn large_buffer() -> [u8; 65536]
     [0; 65536]
 }
 
-// The word of an argument, put at the start of the lent bytes: how many bytes. None if there is no such argument; of a word that does not
-// fit, what fits.
+// The word of an argument, put at the start of the lent bytes: how many bytes. None if there is no such argument, or if it does not fit.
 pub fn argument(env: &impl Env, i: usize, word: &mut [u8]) -> usize
     ensures { IsPrefixLen result word.new }
 {
     match env.arg(i, word) {
         Ok(count) => count,
         Err(FillError::NotPresent) => 0,
-        Err(FillError::TooLong) => word.len(),
+        Err(FillError::TooLong) => 0,
     }
 }
 

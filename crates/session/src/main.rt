@@ -7,7 +7,7 @@ use streams::say;
 // It has no result and is lent nothing, so there is nothing that it could promise: what it does, the stored output shows.
 fn main(rt: HostRuntime) {
     let errors = rt.stderr();
-    let ending = play_files(&rt, errors, 1, 2, &rt.stdout());
+    let ending = play_files(&rt, errors, 1, 2, &mut rt.stdout());
     if let Ending::NotRead = ending {
         say(
             &errors,

@@ -7,7 +7,7 @@ use lib.ListN.{length}
 use Rattle.session_replay.specs.Advancing.{Advances, too_short, went}
 use Rattle.session_replay.specs.declared.phase.Phase.{Phase}
 use Rattle.session_replay.specs.declared.phase.Advanced.{Advanced}
-use Rattle.session_replay.specs.declared.phase.Advanced.TheVariants.{Went, TooShort}
+use Rattle.session_replay.specs.declared.phase.Advanced.TheVariants.{Went}
 
 pub went_room : {listing trace table machine out table' machine' out' : List ℕ} {phase next : Phase} {n : ℕ} {r : Advanced} →
     Advances listing trace table machine out phase table' machine' out' r → r ≡ Went next n → n ≤ length out'

@@ -3,17 +3,18 @@
 #![tactic(auto)]
 
 ghost use Rattle.std.specs.Prelude.{◌≡◌, length, true};
+ghost use Rattle.std.specs.Io.KnownBytes.{Appends};
 ghost use Rattle.streams.specs.Counts.{IsPrefixLen};
 ghost use Rattle.walk.specs.Calls.{memory_words};
 ghost use Rattle.session_replay.specs.Advancing.{long_enough};
 ghost use Rattle.session_replay.specs.Ending.{is_over};
 ghost use Rattle.session_replay.specs.Phases.{memories};
-ghost use Rattle.session_files.specs.Turning.{Turned, Ran, Played, FilesPlayed};
+ghost use Rattle.session_files.specs.Turning.{Turned, PieceWritten, Ran, SessionWritten, Played, FilesPlayed, FilesWritten};
 
 use session_replay::{Advanced, Phase};
 use std::env::Env;
 use std::fs::Files;
-use std::io::Stderr;
+use std::io::{Stderr, Write};
 use streams::{buffer, read_file, say, say_failed};
 use table::TABLE_WORDS;
 
@@ -94,8 +95,10 @@ struct Stepped {
     is_written: bool,
 }
 
-// What a step printed is written out; having said why, if it cannot be.
-fn write_out<W: Print>(writer: &W, errors: Stderr, printed: &[u8]) -> bool {
+// What a step printed is written out; having said why, if it cannot be. A writer whose bytes are known has got it then: a standard stream's are not.
+fn write_out<W: Write>(writer: &mut W, errors: Stderr, printed: &[u8]) -> bool
+    ensures { result ≡ true → Appends (W.contents writer.old) (W.contents writer.new) printed.now }
+{
     match writer.write_all(printed) {
         Ok(()) => true,
         Err(why) => {
@@ -106,8 +109,8 @@ fn write_out<W: Print>(writer: &W, errors: Stderr, printed: &[u8]) -> bool {
 }
 
 // One step, and what it prints is written out to a writer.
-fn turn<W: Print>(
-    writer: &W,
+fn turn<W: Write>(
+    writer: &mut W,
     errors: Stderr,
     listing: &[u8],
     trace: &[u8],
@@ -117,9 +120,13 @@ fn turn<W: Print>(
     phase: Phase,
 ) -> Stepped
     requires { long_enough table.old machine.old out.old ≡ true }
-    ensures { Turned listing.now trace.now
+    ensures step { Turned listing.now trace.now
         (memories table.old machine.old out.old) phase
         (memories table.new machine.new out.new) result }
+    ensures bytes { PieceWritten listing.now trace.now
+        (memories table.old machine.old out.old) phase
+        (memories table.new machine.new out.new) result
+        (W.contents writer.old) (W.contents writer.new) }
 {
     let answer = session_replay::advance(listing, trace, table, machine, out, phase);
     match answer {
@@ -147,8 +154,8 @@ pub enum Ending {
 }
 
 // The steps to the end: each leaves fewer to be made, so that no turns are counted.
-fn run<W: Print>(
-    writer: &W,
+fn run<W: Write>(
+    writer: &mut W,
     errors: Stderr,
     listing: &[u8],
     trace: &[u8],
@@ -157,9 +164,11 @@ fn run<W: Print>(
     out: &mut [u8],
 ) -> Ending
     requires { long_enough table.old machine.old out.old ≡ true }
-    ensures { Ran listing.now trace.now
+    ensures steps { Ran listing.now trace.now
         (memories table.old machine.old out.old)
         (memories table.new machine.new out.new) result }
+    ensures bytes { SessionWritten listing.now trace.now result
+        (W.contents writer.old) (W.contents writer.new) }
 {
     let mut phase = Phase::Opening;
     while !is_over(phase) {
@@ -174,8 +183,10 @@ fn run<W: Print>(
 }
 
 // The session on memories of its own.
-fn play<W: Print>(writer: &W, errors: Stderr, listing: &[u8], trace: &[u8]) -> Ending
-    ensures { Played listing.now trace.now result }
+fn play<W: Write>(writer: &mut W, errors: Stderr, listing: &[u8], trace: &[u8]) -> Ending
+    ensures played { Played listing.now trace.now result }
+    ensures bytes { SessionWritten listing.now trace.now result
+        (W.contents writer.old) (W.contents writer.new) }
 {
     let mut table = memory();
     let mut machine = memory();
@@ -192,14 +203,15 @@ fn play<W: Print>(writer: &W, errors: Stderr, listing: &[u8], trace: &[u8]) -> E
 }
 
 // The session of the files that two arguments name, printed to a writer; having said why, if it is not.
-pub fn play_files<R: Env + Files, W: Print>(
+pub fn play_files<R: Env + Files, W: Write>(
     rt: &R,
     errors: Stderr,
     first: usize,
     second: usize,
-    writer: &W,
+    writer: &mut W,
 ) -> Ending
-    ensures { FilesPlayed result }
+    ensures played { FilesPlayed result }
+    ensures bytes { FilesWritten result (W.contents writer.old) (W.contents writer.new) }
 {
     let mut listing = text();
     let one = read_argument(rt, errors, first, &mut listing);

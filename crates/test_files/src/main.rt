@@ -2,33 +2,31 @@
 // session after all of these. What a run prints stands before the line that says how it ended.
 #![tactic(auto)]
 
-ghost use Rattle.std.specs.Prelude.{◌≤◌};
+ghost use Rattle.std.specs.Prelude.{◌≤◌, [], Some};
 ghost use Rattle.session_print.specs.Puts.{Puts};
 ghost use Rattle.test_files.specs.Endings.{ending_line, EndingSaid};
 
 use session_files::{Ending, play_files};
 use std::env::Env;
-use std::fmt::Display;
 use std::fs::Files;
 use std::io;
-use std::io::{ErrorKind, Stderr};
+use std::io::{ErrorKind, Stderr, Write};
 use streams::buffer;
 use test_cases::report::put_text;
 
-// A writer that is closed: every write fails.
+// A writer that is closed: every write fails, and it never holds a byte.
+#[derive(Drop)]
 struct Closed;
 
-impl Print for Closed {
-    fn print<D: Display + Drop>(&self, _value: D) -> io::Result<()> {
+impl Write for Closed {
+    ghost contents = { λ _. Some [] };
+
+    fn write(&mut self, _bytes: &[u8]) -> io::Result<usize> {
         Err(io::Error::from(ErrorKind::BrokenPipe))
     }
 
-    fn println<D: Display + Drop>(&self, _value: D) -> io::Result<()> {
-        Err(io::Error::from(ErrorKind::BrokenPipe))
-    }
-
-    fn write_all(&self, _bytes: &[u8]) -> io::Result<()> {
-        Err(io::Error::from(ErrorKind::BrokenPipe))
+    fn flush(&mut self) -> io::Result<()> {
+        Ok(())
     }
 }
 
@@ -44,13 +42,13 @@ fn put_ending(out: &mut [u8], ending: Ending) -> usize
 }
 
 // Plays the files that two arguments name, and puts how it ended; how many bytes.
-fn play<R: Env + Files, W: Print>(
+fn play<R: Env + Files, W: Write>(
     rt: &R,
     errors: Stderr,
     out: &mut [u8],
     first: usize,
     second: usize,
-    writer: &W,
+    writer: &mut W,
 ) -> usize
     ensures { EndingSaid out.old out.new result × (result ≤ 12) }
 {
@@ -60,21 +58,22 @@ fn play<R: Env + Files, W: Print>(
 // Arguments 1 and 2 are a listing and a trace, 3 names no file, 4 is a directory, and there is no fifth.
 fn main(rt: HostRuntime) -> io::Result<()> {
     let errors = rt.stderr();
+    let mut output = rt.stdout();
     let mut out = buffer();
-    let a = play(&rt, errors, &mut out, 1, 5, &rt);
+    let a = play(&rt, errors, &mut out, 1, 5, &mut output);
     rt.write_all(&out[..a])?;
-    let b = play(&rt, errors, &mut out, 5, 2, &rt);
+    let b = play(&rt, errors, &mut out, 5, 2, &mut output);
     rt.write_all(&out[..b])?;
-    let c = play(&rt, errors, &mut out, 1, 3, &rt);
+    let c = play(&rt, errors, &mut out, 1, 3, &mut output);
     rt.write_all(&out[..c])?;
-    let d = play(&rt, errors, &mut out, 3, 2, &rt);
+    let d = play(&rt, errors, &mut out, 3, 2, &mut output);
     rt.write_all(&out[..d])?;
-    let e = play(&rt, errors, &mut out, 1, 4, &rt);
+    let e = play(&rt, errors, &mut out, 1, 4, &mut output);
     rt.write_all(&out[..e])?;
-    let f = play(&rt, errors, &mut out, 4, 2, &rt);
+    let f = play(&rt, errors, &mut out, 4, 2, &mut output);
     rt.write_all(&out[..f])?;
-    let g = play(&rt, errors, &mut out, 1, 2, &Closed);
+    let g = play(&rt, errors, &mut out, 1, 2, &mut Closed);
     rt.write_all(&out[..g])?;
-    let h = play(&rt, errors, &mut out, 1, 2, &rt);
+    let h = play(&rt, errors, &mut out, 1, 2, &mut output);
     rt.write_all(&out[..h])
 }

@@ -1,12 +1,13 @@
 -- `session_files::play_files` meets its contract.
-use Rattle.session_files.specs.Turning.{not_read, played}
+use Rattle.std.proofs.KnownBytes.{Keeps-refl}
+use Rattle.session_files.specs.Turning.{not_read, played, nothing, written}
 use Rattle.session_files.proofs.play_files.Goals as goal
 
 pub returns-then-not-one : goal.returns-then-not-one
-returns-then-not-one g c = not_read
+returns-then-not-one g c = record { played = not_read; bytes = nothing (Keeps-refl _) }
 
 pub returns-then-not-other : goal.returns-then-not-other
-returns-then-not-other g c = not_read
+returns-then-not-other g c = record { played = not_read; bytes = nothing (Keeps-refl _) }
 
 pub returns : goal.returns
-returns g c = played c.play.ensures
+returns g c = record { played = played c.play.ensures.played; bytes = written c.play.ensures.played c.play.ensures.bytes }

@@ -1,7 +1,8 @@
 -- `session_files::run` meets its contract: from turn to turn the lent memories keep their lengths.
 use Rattle.std.proofs.Common.{sym, ◌∙◌}
+use Rattle.std.proofs.lemmas.Bool.{not-false}
 use Rattle.session_replay.proofs.Ending.{made_as_long, still_long}
-use Rattle.session_files.proofs.Turning.{begun, run_ended, goes_on, run_stops, fewer}
+use Rattle.session_files.proofs.Turning.{begun, run_ended, session_written, goes_on, run_stops, fewer, unwritten}
 use Rattle.session_files.proofs.run.Goals as goal
 
 pub loop-errors-init : goal.loop-errors-init
@@ -21,15 +22,15 @@ shape_of-out-then-not-made g c = c.turn-made.auto.out ∙ (made_as_long c.loop-e
 
 pub returns-then-not-made : goal.returns-then-not-made
 returns-then-not-made g c =
-    run_stops c.loop-errors.invariant (sym c.is_over.ensures ∙ c.loop-errors-test.true) c.turn-made.ensures
+    record { steps = run_stops c.loop-errors.invariant (sym c.is_over.ensures ∙ c.loop-errors-test.true) c.turn-made.ensures.step; bytes = unwritten _ _ _ _ }
 
 pub loop-errors-smaller : goal.loop-errors-smaller
 loop-errors-smaller g c =
-    fewer c.loop-errors.invariant (sym c.is_over.ensures ∙ c.loop-errors-test.true) c.turn-made.ensures
+    fewer c.loop-errors.invariant (sym c.is_over.ensures ∙ c.loop-errors-test.true) c.turn-made.ensures.step
 
 pub loop-errors-preserved : goal.loop-errors-preserved
 loop-errors-preserved g c =
-    goes_on c.loop-errors.invariant (sym c.is_over.ensures ∙ c.loop-errors-test.true) c.turn-made.ensures
+    goes_on c.loop-errors.invariant (sym c.is_over.ensures ∙ c.loop-errors-test.true) c.turn-made.ensures.bytes (not-false _ c.if-not-made.false)
 
 pub shape_of-table : goal.shape_of-table
 shape_of-table g c = (made_as_long c.loop-errors.invariant.made).table_is
@@ -41,4 +42,6 @@ pub shape_of-out : goal.shape_of-out
 shape_of-out g c = (made_as_long c.loop-errors.invariant.made).out_is
 
 pub returns : goal.returns
-returns g c = run_ended c.loop-errors.invariant (sym c.is_over.ensures ∙ c.loop-errors-test.false)
+returns g c =
+    let over = sym c.is_over.ensures ∙ c.loop-errors-test.false in
+    record { steps = run_ended c.loop-errors.invariant over; bytes = session_written c.loop-errors.invariant over }

@@ -6,7 +6,7 @@ use Rattle.session_files.proofs.run.Given as goal
 
 abbrev pub invariant-loop-errors : goal.invariant-loop-errors
 invariant-loop-errors g l =
-    Going l.listing l.trace (memories l.initial.table l.initial.machine l.initial.out) (memories l.table l.machine l.out) l.phase
+    Going l.listing l.trace (memories l.initial.table l.initial.machine l.initial.out) (memories l.table l.machine l.out) l.phase (g.W.Write.contents l.initial.writer) (g.W.Write.contents l.writer)
 
 abbrev pub decreases-loop-errors : goal.decreases-loop-errors
 decreases-loop-errors g l = steps_left l.phase

@@ -1,7 +1,6 @@
 -- `test_sessions::run_file` meets its contract.
 use mathlib.Core.Path.{◌≡◌, refl, sym, ◌∙◌}
 use native.Mathlib.Omega.{arith}
-use Prim.Native.Nat.{◌-◌}
 use Rattle.session_replay.proofs.Ending.{still_long}
 use Rattle.test_cases.proofs.Telling.{never}
 use Rattle.test_sessions.proofs.Turning.{begun, one_agrees, one_fails, ended}

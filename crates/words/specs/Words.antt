@@ -1,6 +1,6 @@
 -- Words of 32 bits, the signed numbers that they stand for, and their arithmetic. A word is a natural number below 2 to the 32.
 -- Document 01: "Values are signed 32-bit." "Sums, differences and products wrap at 32 bits, two's complement; `<` gives 1 or 0."
-use Rattle.std.specs.Prelude.{◌≡◌, ℕ, ◌+◌, ◌-◌, ◌*◌, ◌%◌, Bool, true, false, cond, ◌&&◌, ℤ, pos, ◌+ℤ◌, ◌-ℤ◌, ◌*ℤ◌, nat_le, nat_lt}
+use Rattle.std.specs.Prelude.{◌≡◌, ℕ, ◌+◌, ◌-◌, ◌*◌, ◌%◌, Bool, true, false, cond, ◌&&◌, List, [], ◌∷◌, ℤ, pos, ◌+ℤ◌, ◌-ℤ◌, ◌*ℤ◌, nat_eq, nat_le, nat_lt}
 
 -- "wrap at 32 bits": the remainder by 2 to the 32
 abbrev pub word : ℕ → ℕ
@@ -43,3 +43,8 @@ signed a = cond (nat_lt a 2147483648) (pos a) (pos a -ℤ pos 4294967296)
 pub record Congruent (x y : ℤ) : Type 0 where
   pub times : ℤ
   pub differ : x ≡ y +ℤ times *ℤ pos 4294967296
+
+-- these words are all 0
+abbrev pub all_zero : List ℕ → Bool
+all_zero [] = true
+all_zero (x ∷ xs) = nat_eq x 0 && all_zero xs

@@ -1,5 +1,5 @@
 // The numbers of a board: words of 32 bits and their arithmetic, moments and delays.
-// It may use the wrapping sums and differences that std supplies, and no other crate.
+// It uses no other crate.
 #![tactic(auto)]
 
 pub mod moment;
@@ -7,6 +7,6 @@ pub mod word;
 
 pub use moment::{Delay, Later, Moment, later_moment};
 pub use word::{
-    byte_number, is_positive, number, signed_less, wrapping_add, wrapping_multiply,
+    all_zero, byte_number, is_positive, number, signed_less, wrapping_add, wrapping_multiply,
     wrapping_subtract,
 };

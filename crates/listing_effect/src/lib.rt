@@ -7,7 +7,7 @@ ghost use Rattle.listing.specs.Expressions.{adds, joins};
 ghost use Rattle.listing_effect.specs.Held.{held_by, held_after};
 
 // It adds a value, takes two and leaves one, or is no piece.
-#[derive(Clone, Copy)]
+#[derive(Clone, Copy, Debug, PartialEq, Eq)]
 pub enum Effect {
     Adds,
     Joins,

@@ -23,7 +23,7 @@ pub fn environment_size(t: &[u32]) -> usize
 }
 
 // An instruction's entry: its kind (1 `S`, 2 `A`, 3 `U`, 4 `G`, 5 `W`, 6 `F`, 7 `E`), the name or the jump, the word address of its cells, two counts.
-#[derive(Clone, Copy)]
+#[derive(Clone, Copy, Debug, PartialEq, Eq)]
 pub struct Entry {
     pub kind: u32,
     pub operand: usize,
@@ -69,7 +69,7 @@ pub fn entry_at(t: &[u32], e: usize) -> Entry
 }
 
 // A routine's entry: its arguments, their kinds as bits (argument k is bit k, 1 by reference), its locals, its instructions.
-#[derive(Clone, Copy)]
+#[derive(Clone, Copy, Debug, PartialEq, Eq)]
 pub struct Opening {
     pub arguments: usize,
     pub bits: u32,
@@ -77,6 +77,7 @@ pub struct Opening {
     pub size: usize,
 }
 
+#[tactic(auto, using(table::proofs::Bounds::bounds))]
 pub fn opening_of(t: &[u32], r: usize) -> Opening
     requires { (is_table t.now ≡ true) × (r < word t.now 2) }
     ensures { (result ≡ opening_at t.now r) × Opened t.now r result.arguments result.bits result.locals result.size }
@@ -95,7 +96,7 @@ pub fn opening_of(t: &[u32], r: usize) -> Opening
 }
 
 // The head of a child field: its number of arguments, its routine.
-#[derive(Clone, Copy)]
+#[derive(Clone, Copy, Debug, PartialEq, Eq)]
 pub struct Head {
     pub arguments: usize,
     pub callee: usize,
@@ -111,6 +112,7 @@ pub fn head_at(t: &[u32], a: usize) -> Head
 }
 
 // The head behind the child field whose head stands at `a`.
+#[tactic(auto, unfolding(table::specs::Decode::after_call))]
 pub fn next_head(t: &[u32], a: usize) -> usize
     requires { TableLong t.now × (a + 2 ≤ 12288) }
     ensures { result ≡ after_call t.now a }
@@ -125,15 +127,14 @@ pub fn head_after(t: &[u32], first: usize, k: usize) -> usize
     ensures { result ≡ head_after t.now first k }
 {
     let mut head = first;
-    let mut i: usize = 0;
-    while i < k {
+    for _ in 0..k {
         head = next_head(t, head);
-        i += 1;
     }
     head
 }
 
 // The name in the cell at `a`.
+#[tactic(auto, unfolding(table::specs::Decode::name_at))]
 pub fn name_at(t: &[u32], a: usize) -> usize
     requires { TableLong t.now × (a + 2 ≤ 12288) }
     ensures { result ≡ name_at t.now a }

@@ -1,5 +1,4 @@
 -- `listing_effect::held_after` meets its contract.
-use borrow.Author.Rules.{rules}
 use Rattle.listing_effect.proofs.held_after.Goals as goal
 
 pub returns-in-Adds : goal.returns-in-Adds

@@ -1,5 +1,4 @@
 -- `listing_effect::one_fewer` meets its contract.
-use borrow.Author.Rules.{rules}
 use borrow.Author.Tests.{le-leb, lt-leb}
 use Rattle.listing.specs.Expressions.{may_come, held_with}
 use Rattle.listing_effect.proofs.one_fewer.Goals as goal

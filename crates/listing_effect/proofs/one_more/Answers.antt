@@ -1,6 +1,5 @@
 -- `listing_effect::one_more` meets its contract.
 use native.Mathlib.Omega.{arith}
-use borrow.Author.Rules.{rules}
 use borrow.Author.Tests.{lt-ltb, le-ltb, le-leb}
 use Rattle.listing.specs.Expressions.{may_come, held_with}
 use Rattle.listing_effect.proofs.one_more.Goals as goal

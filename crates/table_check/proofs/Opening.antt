@@ -2,7 +2,7 @@
 use mathlib.Core.Path.{◌≡◌, refl, sym, ◌∙◌}
 use mathlib.Core.Bool.{Bool, true, false, cond, ◌&&◌, not}
 use mathlib.Core.List.{List, [], ◌∷◌}
-use Prim.Native.Nat.{ℕ, zero, suc, ◌+◌, ◌*◌, ◌≤◌, ◌<◌, ◌/◌, ◌%◌, ◌-◌}
+use Prim.Native.Nat.{ℕ, zero, suc, ◌+◌, ◌*◌, ◌≤◌, ◌<◌, ◌/◌, ◌%◌}
 use native.Mathlib.Omega.{arith}
 use lib.Dec.{eqb, leb}
 use lib.ListN.{length}
@@ -57,10 +57,9 @@ references_more n bits = go (eqb (bits % 2) 1)
     go false = refl
 
 -- the turns of both checks, with so many kinds left
-pub kinds_fit_turn : (left bits : ℕ) → 0 < left
-    → eqb (bits / 2) (kind_bits (kinds_of_bits (left - 1) (bits / 2))) ≡ eqb bits (kind_bits (kinds_of_bits left bits))
-kinds_fit_turn zero bits l = absurd (omega arith)
-kinds_fit_turn (suc n) bits l = let z : suc n - 1 ≡ n = omega arith in rw z (sym (kinds_fit_more n bits))
+pub kinds_fit_turn : (left n bits : ℕ) → left ≡ suc n
+    → eqb (bits / 2) (kind_bits (kinds_of_bits n (bits / 2))) ≡ eqb bits (kind_bits (kinds_of_bits left bits))
+kinds_fit_turn left n bits z = rw z (sym (kinds_fit_more n bits))
 
 pub kinds_fit_end : (left bits : ℕ) → left ≡ 0 → eqb bits (kind_bits (kinds_of_bits left bits)) ≡ eqb bits 0
 kinds_fit_end left bits z = rw z (kinds_fit_none bits)
@@ -69,11 +68,9 @@ pub references_stop : (left bits : ℕ) → 0 < left → (bits % 2 ≡ 1 → ⊥
 references_stop zero bits l h = absurd (omega arith)
 references_stop (suc n) bits l h = references_more n bits ∙ rw (ne_eqb (bits % 2) 1 h)
 
-pub references_turn : (left bits : ℕ) → 0 < left → bits % 2 ≡ 1
-    → all is_by_reference (kinds_of_bits (left - 1) (bits / 2)) ≡ all is_by_reference (kinds_of_bits left bits)
-references_turn zero bits l h = absurd (omega arith)
-references_turn (suc n) bits l h =
-    let z : suc n - 1 ≡ n = omega arith in sym (references_more n bits ∙ rw (eq-eqb (bits % 2) 1 h, z))
+pub references_turn : (left n bits : ℕ) → left ≡ suc n → bits % 2 ≡ 1
+    → all is_by_reference (kinds_of_bits n (bits / 2)) ≡ all is_by_reference (kinds_of_bits left bits)
+references_turn left n bits z h = rw z (sym (references_more n bits ∙ rw (eq-eqb (bits % 2) 1 h)))
 
 pub references_end : (left bits : ℕ) → left ≡ 0 → all is_by_reference (kinds_of_bits left bits) ≡ true
 references_end left bits z = rw z (references_none bits)

@@ -4,9 +4,12 @@ use mathlib.Core.Bool.{Bool, true, false, cond, ◌&&◌, not}
 use mathlib.Core.List.{List, [], ◌∷◌, ◌++◌}
 use Prim.Native.Nat.{ℕ, zero, suc, ◌+◌, ◌*◌, ◌-◌, ◌≤◌, ◌<◌}
 use native.Mathlib.Omega.{arith}
-use lib.Dec.{eqb, leb}
+use lib.Dec.{leb}
 use lib.ListN.{length, length-append}
-use borrow.Author.Tests.{ne_eqb, le-leb, leb-true}
+use Rattle.std.proofs.Common.{Option, Some, None}
+use Rattle.std.specs.Prelude.{option_and_then}
+use Rattle.std.specs.Option.{option_map_or}
+use borrow.Author.Tests.{le-leb, leb-true}
 use Rattle.listing.specs.Lists.{all, is_empty, all_yes}
 use Rattle.listing.specs.Listing.{Routine, name_count}
 use Rattle.listing.specs.Questions.{opens_as_stated, may_be_last, last_answers}
@@ -15,11 +18,11 @@ use Rattle.table.specs.Decode.{word, instruction_at_entry, code_at_entry, routin
 use Rattle.table.proofs.Lengths.{routine_five, entries_append, cells_append, entries_length}
 use Rattle.table.proofs.Reach.{code_count, kinds_count_lem}
 use Rattle.table.proofs.Tests.{and_left, and_right, and_no}
-use Rattle.table_check_cells.specs.Pass.{same_at, instruction_passes, onward, code_past, code_test}
+use Rattle.table_check_cells.specs.Pass.{same_at, instruction_passes, code_past, code_test}
 use Rattle.table_check_cells.proofs.Words.{same_split, leb_before}
 use Rattle.table_check_code.proofs.Instructions.{code_past_lem}
 use Rattle.table_check_ends.specs.Ends.{tail_test}
-use Rattle.table_check.specs.Check.{routine_passes, routine_test, opening_test, routine_past, goes_on_lem, pass_from, routines_pass, routines_test}
+use Rattle.table_check.specs.Check.{routine_passes, routine_test, opening_test, routine_past, pass_from, routines_pass, routines_test}
 use Rattle.table_check.proofs.Opening.{opened, last_answers_lem}
 
 -- ── one routine ──────────────────────────────────────────────────────────────────
@@ -71,35 +74,34 @@ module _ (w : List ℕ) (number first cells : ℕ) where
   code_is h = rw h
 
   -- what the routine's check gives, from the checks of its parts
-  abbrev from_parts : Bool → ℕ → Bool → ℕ
-  from_parts opening m last = cond opening (onward m (λ k. cond last k 0)) 0
+  abbrev from_parts : Bool → Option ℕ → Bool → Option ℕ
+  from_parts opening m last = cond opening (option_and_then (λ k. cond last (Some k) None) m) None
 
-  parts : (o c l : Bool) (v : ℕ) → 1 ≤ v → cond (o && (c && l)) v 0 ≡ from_parts o (cond c v 0) l
-  unfolding onward
-  parts false c l v h = refl
-  parts true false l v h = refl
-  parts true true l v h = rw (ne_eqb v 0 (λ (z : v ≡ 0). omega arith))
+  parts : (o c l : Bool) (v : ℕ) → cond (o && (c && l)) (Some v) None ≡ from_parts o (cond c (Some v) None) l
+  parts false c l v = refl
+  parts true false l v = refl
+  parts true true l v = refl
 
-  pub routine_past_lem : 1 ≤ cells → cells ≤ 11080 → routine_past w number first cells
+  pub routine_past_lem : cells ≤ 11080 → routine_past w number first cells
       ≡ from_parts (opening_test w number first) (code_past w names size (328 + 5 * first) cells size) (all_yes (last_answers (code_at_entry w (328 + 5 * first) size)))
   unfolding routine_past
-  routine_past_lem l u = rw test_split (go (opening_test w number first) refl)
+  routine_past_lem u = rw test_split (go (opening_test w number first) refl)
     where
       go : (o : Bool) → opening_test w number first ≡ o
-          → cond (o && (code_test w (name_count routine) (length routine.code) (328 + 5 * first) cells routine.code && all_yes (last_answers routine.code))) (cells + length (all_cells routine.code)) 0
+          → cond (o && (code_test w (name_count routine) (length routine.code) (328 + 5 * first) cells routine.code && all_yes (last_answers routine.code))) (Some (cells + length (all_cells routine.code))) None
           ≡ from_parts o (code_past w names size (328 + 5 * first) cells size) (all_yes (last_answers (code_at_entry w (328 + 5 * first) size)))
       go false h = refl
       go true h =
           let e = 328 + 5 * first in
           let code = code_at_entry w e size in
-          rw (names_are, size_is, code_is (opened w number first h).start, code_past_lem w names size size e cells l u)
-          (parts true (code_test w names size e cells code) (all_yes (last_answers code)) (cells + length (all_cells code)) (omega arith))
+          rw (names_are, size_is, code_is (opened w number first h).start, code_past_lem w names size size e cells u)
+          (parts true (code_test w names size e cells code) (all_yes (last_answers code)) (cells + length (all_cells code)))
 
   -- the four ways in which the check of a routine ends
-  pub closed : 1 ≤ cells → cells ≤ 11080 → opening_test w number first ≡ false → routine_past w number first cells ≡ 0
-  closed l u h = routine_past_lem l u ∙ rw h
+  pub closed : cells ≤ 11080 → opening_test w number first ≡ false → routine_past w number first cells ≡ None
+  closed u h = routine_past_lem u ∙ rw h
 
-  module _ (l : 1 ≤ cells) (u : cells ≤ 11080) (h : opening_test w number first ≡ true) where
+  module _ (u : cells ≤ 11080) (h : opening_test w number first ≡ true) where
     -- the address of the last instruction's entry
     abbrev last : ℕ
     last = 328 + 5 * first + 5 * (size - 1)
@@ -110,21 +112,18 @@ module _ (w : List ℕ) (number first cells : ℕ) where
         let s : size ≡ suc (size - 1) = omega arith in
         ap (λ (k : ℕ). all_yes (last_answers (code_at_entry w (328 + 5 * first) k))) s ∙ last_answers_lem w (size - 1) (328 + 5 * first)
 
-    pub stopped : code_past w names size (328 + 5 * first) cells size ≡ 0 → routine_past w number first cells ≡ 0
-    unfolding onward
-    stopped c = routine_past_lem l u ∙ rw (h, c)
+    pub stopped : code_past w names size (328 + 5 * first) cells size ≡ None → routine_past w number first cells ≡ None
+    stopped c = routine_past_lem u ∙ rw (h, c)
 
-    pub unended : may_be_last (instruction_at_entry w last) ≡ false → routine_past w number first cells ≡ 0
-    unfolding onward
-    unended e = routine_past_lem l u ∙ rw (h, last_is, e) (go (eqb (code_past w names size (328 + 5 * first) cells size) 0))
+    pub unended : may_be_last (instruction_at_entry w last) ≡ false → routine_past w number first cells ≡ None
+    unended e = routine_past_lem u ∙ rw (h, last_is, e) (go (code_past w names size (328 + 5 * first) cells size))
       where
-        go : (b : Bool) → ◌≡◌ {A = ℕ} (cond b 0 0) 0
-        go true = refl
-        go false = refl
+        go : (m : Option ℕ) → option_and_then (λ k. cond false (Some k) None) m ≡ None
+        go None = refl
+        go (Some k) = refl
 
-    pub through : (m : ℕ) → code_past w names size (328 + 5 * first) cells size ≡ m → (m ≡ 0 → ⊥) → may_be_last (instruction_at_entry w last) ≡ true → routine_past w number first cells ≡ m
-    unfolding onward
-    through m c ne e = routine_past_lem l u ∙ rw (h, c, last_is, e, ne_eqb m 0 ne)
+    pub through : (m : ℕ) → code_past w names size (328 + 5 * first) cells size ≡ Some m → may_be_last (instruction_at_entry w last) ≡ true → routine_past w number first cells ≡ Some m
+    through m c e = routine_past_lem u ∙ rw (h, c, last_is, e)
 
   routine_room : routine_test w number first cells routine ≡ true → (first + size ≤ 512) × (cells + length (all_cells routine.code) ≤ 11080)
   unfolding routine_test
@@ -135,13 +134,16 @@ module _ (w : List ℕ) (number first cells : ℕ) where
       let c = leb-true (cells + length (all_cells r.code)) 11080 (and_left (leb (cells + length (all_cells r.code)) 11080) _ (and_right (leb (first + length r.code) 512) _ more)) in
       (rw size_is at i, c)
 
-  pub routine_past_room : (routine_past w number first cells ≡ 0 → ⊥) → (first + size ≤ 512) × (routine_past w number first cells ≤ 11080)
+  pub routine_past_room : (m : ℕ) → routine_past w number first cells ≡ Some m → (first + size ≤ 512) × (m ≤ 11080)
   unfolding routine_past
-  routine_past_room ne = go (routine_test w number first cells routine) refl
+  routine_past_room m = go (routine_test w number first cells routine) refl
     where
-      go : (b : Bool) → routine_test w number first cells routine ≡ b → (first + size ≤ 512) × (cond b (cells + length (all_cells routine.code)) 0 ≤ 11080)
-      go true h = routine_room h
-      go false h = absurd (ne (rw h))
+      go : (b : Bool) → routine_test w number first cells routine ≡ b → cond b (Some (cells + length (all_cells routine.code))) None ≡ Some m → (first + size ≤ 512) × (m ≤ 11080)
+      go true h q =
+          let room = routine_room h in
+          let z : cells + length (all_cells routine.code) ≡ m = cc in
+          (room.0, omega arith)
+      go false h q = absurd (let z : ⊥ = cc in z)
 
 -- ── routines in a row ────────────────────────────────────────────────────────────
 regroup_row : (pass passes room rooms stop stops entry entries code codes cell cells : Bool) → (rooms ≡ true → room ≡ true) → (stops ≡ true → stop ≡ true)
@@ -193,19 +195,15 @@ module _ (w : List ℕ) where
   unfolding pass_from
   pass_end number first cells left z = rw z
 
-  pub pass_stop : (number first cells left : ℕ) → 0 < left → routine_past w number first cells ≡ 0 → pass_from w number first cells left ≡ false
-  unfolding pass_from goes_on_lem
+  pub pass_stop : (number first cells left : ℕ) → 0 < left → routine_past w number first cells ≡ None → pass_from w number first cells left ≡ false
+  unfolding pass_from
   pass_stop number first cells zero l h = absurd (omega arith)
   pass_stop number first cells (suc n) l h = rw h
 
-  pub pass_turn : (number first cells left next : ℕ) → 0 < left → next ≡ routine_past w number first cells → (next ≡ 0 → ⊥)
-      → pass_from w (number + 1) (first + word w (routine_entry number + 4)) next (left - 1) ≡ pass_from w number first cells left
-  unfolding pass_from goes_on_lem
-  pass_turn number first cells zero next l q h = absurd (omega arith)
-  pass_turn number first cells (suc n) next l q h =
-      let z : suc n - 1 ≡ n = omega arith in
-      let one : number + 1 ≡ suc number = omega arith in
-      rw (← q, ne_eqb next 0 h, z, one)
+  pub pass_turn : (number first cells left n next : ℕ) → left ≡ suc n → routine_past w number first cells ≡ Some next
+      → pass_from w (number + 1) (first + word w (routine_entry number + 4)) next n ≡ pass_from w number first cells left
+  unfolding pass_from
+  pass_turn number first cells left n next z q = let one : number + 1 ≡ suc number = omega arith in rw (z, one, q)
 
   -- ── all together ───────────────────────────────────────────────────────────────
   no_routines : (number first cells : ℕ) → first ≤ 512 → cells ≤ 11080
@@ -221,17 +219,16 @@ module _ (w : List ℕ) where
   unfolding all_code
   all_code_more r rs = refl
 
-  passes_on : (b b' : Bool) (m : ℕ) (tail : Bool) (f : ℕ → Bool) → 1 ≤ m → (b ≡ true → f m ≡ (b' && tail)) → goes_on_lem (cond b m 0) f ≡ ((b && b') && tail)
-  unfolding goes_on_lem
-  passes_on true b' m tail f l h = rw (ne_eqb m 0 (λ (z : m ≡ 0). omega arith), h refl)
-  passes_on false b' m tail f l h = refl
+  passes_on : (b b' : Bool) (m : ℕ) (tail : Bool) (f : ℕ → Bool) → (b ≡ true → f m ≡ (b' && tail)) → option_map_or f (cond b (Some m) None) false ≡ ((b && b') && tail)
+  passes_on true b' m tail f h = h refl
+  passes_on false b' m tail f h = refl
 
-  pub pass_from_lem : (n number first cells : ℕ) → first ≤ 512 → 1 ≤ cells → cells ≤ 11080 → pass_from w number first cells n
+  pub pass_from_lem : (n number first cells : ℕ) → first ≤ 512 → cells ≤ 11080 → pass_from w number first cells n
       ≡ (routines_test w number first cells (routines_at_entry w (routine_entry number) n)
       && tail_test w (number + n) (first + length (all_code (routines_at_entry w (routine_entry number) n))) (cells + length (all_cells (all_code (routines_at_entry w (routine_entry number) n)))))
   unfolding pass_from routines_at_entry routine_past
-  pass_from_lem zero number first cells f l u = no_routines number first cells f u
-  pass_from_lem (suc n) number first cells f l u =
+  pass_from_lem zero number first cells f u = no_routines number first cells f u
+  pass_from_lem (suc n) number first cells f u =
       let r = routine_at_entry w (routine_entry number) in
       let next = routine_entry (suc number) in
       let a : 8 + 5 * number + 5 ≡ 8 + 5 * suc number = omega arith in
@@ -243,7 +240,7 @@ module _ (w : List ℕ) where
       let c : cells + length (all_cells r.code ++ all_cells (all_code rs)) ≡ m + length (all_cells (all_code rs)) = simp length-append (omega arith) in
       rw (a, all_code_more r rs, routines_test_more number first cells r rs, s, cells_append r.code (all_code rs), i, c)
       (passes_on (routine_test w number first cells r) (routines_test w (suc number) (first + k) m rs) m _
-      (λ j. pass_from w (suc number) (first + word w (routine_entry number + 4)) j n) (omega arith)
+      (λ j. pass_from w (suc number) (first + word w (routine_entry number + 4)) j n)
       (λ (h : routine_test w number first cells r ≡ true).
       let room = routine_room w number first cells h in
-      rw (← size_is w number first cells) (pass_from_lem n (suc number) (first + k) m (rw (← size_is w number first cells) at room.0) (omega arith) room.1)))
+      rw (← size_is w number first cells) (pass_from_lem n (suc number) (first + k) m (rw (← size_is w number first cells) at room.0) room.1)))

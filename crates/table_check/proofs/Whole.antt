@@ -77,7 +77,7 @@ checked_is : (w : List ℕ) → table_test w
     ≡ ((leb 1 (word w 2) && leb (word w 2) 64) && (routines_test w 0 0 2888 (routines w) && tail_test w (word w 2) (length (code w)) (cells_end w)))
 unfolding table_test table_listing
 checked_is w =
-    let p = pass_from_lem w (word w 2) 0 0 2888 (omega arith) (omega arith) (omega arith) in
+    let p = pass_from_lem w (word w 2) 0 0 2888 (omega arith) (omega arith) in
     let z : 0 + word w 2 ≡ word w 2 = omega arith in
     let y : 0 + length (all_code (routines_at_entry w 8 (word w 2))) ≡ length (all_code (routines_at_entry w 8 (word w 2))) = omega arith in
     ap (λ (b : Bool). (leb 1 (word w 2) && leb (word w 2) 64) && b) (p ∙ rw (z, y))

@@ -1,6 +1,7 @@
 -- What the check of a whole table computes: one pass over the routines, with running numbers of the instructions and of the cells' words,
 -- then the unused words and the limit of pieces.
-use Rattle.std.specs.Prelude.{Bool, true, false, cond, ◌&&◌, not, List, [], ◌∷◌, ℕ, zero, suc, ◌+◌, ◌*◌, eqb, leb, length}
+use Rattle.std.specs.Prelude.{Bool, true, false, cond, ◌&&◌, not, List, [], ◌∷◌, ℕ, zero, suc, ◌+◌, ◌*◌, eqb, leb, length, Option, Some, None}
+use Rattle.std.specs.Option.{option_map_or}
 use Rattle.listing.specs.Lists.{all, is_empty, all_yes}
 use Rattle.listing.specs.Listing.{Routine, Listing, name_count}
 use Rattle.listing.specs.Limits.{instruction_limit, name_limit}
@@ -43,19 +44,16 @@ entry_test w a first =
     && (leb (first + word w (a + 4)) instruction_limit
     && eqb (word w (a + 1)) (kind_bits (kinds_of_bits (word w (a + 0)) (word w (a + 1)))))))
 
--- the address behind its cells; 0 for a no
-unfoldable pub routine_past : List ℕ → ℕ → ℕ → ℕ → ℕ
+-- the address behind its cells; none for a no
+unfoldable pub routine_past : List ℕ → ℕ → ℕ → ℕ → Option ℕ
 routine_past w number first cells =
-    let r = routine_at_entry w (routine_entry number) in cond (routine_test w number first cells r) (cells + length (all_cells r.code)) 0
+    let r = routine_at_entry w (routine_entry number) in cond (routine_test w number first cells r) (Some (cells + length (all_cells r.code))) None
 
 -- ── n routines from a number on, then the rest ───────────────────────────────────
-unfoldable pub goes_on_lem : ℕ → (ℕ → Bool) → Bool
-goes_on_lem m next = cond (eqb m 0) false (next m)
-
 unfoldable pub pass_from : List ℕ → ℕ → ℕ → ℕ → ℕ → Bool
 pass_from w number first cells zero = tail_test w number first cells
 pass_from w number first cells (suc n) =
-    goes_on_lem (routine_past w number first cells) (λ m. pass_from w (suc number) (first + word w (routine_entry number + 4)) m n)
+    option_map_or (λ m. pass_from w (suc number) (first + word w (routine_entry number + 4)) m n) (routine_past w number first cells) false
 
 -- the same of all together
 unfoldable pub routines_pass : Listing → ℕ → List Routine → Bool

@@ -2,10 +2,11 @@
 use mathlib.Core.Path.{◌≡◌, refl, sym, ap, ◌∙◌}
 use mathlib.Core.Bool.{Bool, true, false, cond, ◌&&◌}
 use mathlib.Core.List.{List, ◌++◌}
-use Prim.Native.Nat.{ℕ, suc, ◌+◌, ◌*◌, ◌≤◌, ◌<◌, ◌-◌, zero}
+use Prim.Native.Nat.{ℕ, suc, ◌+◌, ◌*◌, ◌≤◌, ◌<◌, zero}
 use native.Mathlib.Omega.{arith}
 use lib.Dec.{eqb, ltb, leb}
 use lib.ListN.{length, length-append}
+use Rattle.std.proofs.Common.{Option, Some, None}
 use borrow.Author.Tests.{eq-eqb, ne_eqb, lt-ltb, le-ltb, le-leb, lt-leb, ltb-true}
 use Rattle.listing.specs.Lists.{all}
 use Rattle.listing.specs.Questions.{argument_count, call_is_there}
@@ -54,11 +55,8 @@ module _ (w : List ℕ) (names a : ℕ) where
   names_past zero l h = absurd (omega arith)
   names_past (suc n) l h = names_more w names a n ∙ rw (le-ltb (word w (a + 1)) names h) (simp and_no)
 
-  pub names_turn : (left : ℕ) → 0 < left → word w a ≡ 0 → word w (a + 1) < names → names_test w names (a + 2) (left - 1) ≡ names_test w names a left
-  names_turn zero l h k = absurd (omega arith)
-  names_turn (suc n) l h k =
-      let z : suc n - 1 ≡ n = omega arith in
-      sym (names_more w names a n ∙ rw (eq-eqb (word w a) 0 h, lt-ltb (word w (a + 1)) names k, z))
+  pub names_turn : (left n b : ℕ) → left ≡ suc n → b ≡ a + 2 → word w a ≡ 0 → word w (a + 1) < names → names_test w names b n ≡ names_test w names a left
+  names_turn left n b z y h k = rw (z, y) (sym (names_more w names a n ∙ rw (eq-eqb (word w a) 0 h, lt-ltb (word w (a + 1)) names k)))
 
   pub names_end : (left : ℕ) → left ≡ 0 → names_test w names a left ≡ true
   names_end left z = rw z (names_none w names a)
@@ -110,16 +108,16 @@ regroup_call true true true here true false sames h = simp and_no
 regroup_call true true true here true true sames h = rw (h refl)
 
 -- a no inside a no
-pub cond_cond : (x y : Bool) (v : ℕ) → cond (x && y) v 0 ≡ cond x (cond y v 0) 0
+pub cond_cond : (x y : Bool) (v : Option ℕ) → cond (x && y) v None ≡ cond x (cond y v None) None
 cond_cond true y v = refl
 cond_cond false y v = refl
 
-pub calls_none : (w : List ℕ) (names a : ℕ) → a ≤ 11080 → calls_past w names a 0 ≡ a
+pub calls_none : (w : List ℕ) (names a : ℕ) → a ≤ 11080 → calls_past w names a 0 ≡ Some a
 unfolding calls_past cells_past calls_at all words_of_each same_at
 calls_none w names a h = let z : a + 0 ≡ a = omega arith in rw (z, le-leb a 11080 h)
 
 pub calls_more : (w : List ℕ) (names a n : ℕ) → calls_past w names a (suc n)
-    ≡ cond (head_test w a && (leb (after_call w a) 11080 && names_test w names (a + 2) (word w (a + 0)))) (calls_past w names (after_call w a) n) 0
+    ≡ cond (head_test w a && (leb (after_call w a) 11080 && names_test w names (a + 2) (word w (a + 0)))) (calls_past w names (after_call w a) n) None
 unfolding calls_past cells_past calls_at all words_of_each names_test
 calls_more w names a n =
     let b = after_call w a in
@@ -128,29 +126,27 @@ calls_more w names a n =
     let behind : a + length c ≡ b = call_behind w a in
     let l : a + length (c ++ r) ≡ b + length r = simp length-append (omega arith) in
     rw (same_split w a c r, l, behind, call_same w a, call_there w names a)
-    (ap (λ (t : Bool). cond t (b + length r) 0)
+    (ap (λ (t : Bool). cond t (Some (b + length r)) None)
     (regroup_call (head_test w a) _ _ (leb b 11080) (leb (b + length r) 11080) _ _ (leb_before b (length r) 11080))
     ∙ cond_cond (head_test w a && (leb b 11080 && names_test w names (a + 2) (word w (a + 0)))) _ _)
 
 -- the turns of the check, with so many child fields left
 module _ (w : List ℕ) (names a : ℕ) where
-  pub calls_head : (left : ℕ) → 0 < left → head_test w a ≡ false → calls_past w names a left ≡ 0
+  pub calls_head : (left : ℕ) → 0 < left → head_test w a ≡ false → calls_past w names a left ≡ None
   calls_head zero l h = absurd (omega arith)
   calls_head (suc n) l h = calls_more w names a n ∙ rw h
 
-  pub calls_long : (left : ℕ) → 0 < left → 11080 < after_call w a → calls_past w names a left ≡ 0
+  pub calls_long : (left : ℕ) → 0 < left → 11080 < after_call w a → calls_past w names a left ≡ None
   calls_long zero l h = absurd (omega arith)
   calls_long (suc n) l h = calls_more w names a n ∙ rw (lt-leb (after_call w a) 11080 h) (simp and_no)
 
-  pub calls_names : (left : ℕ) → 0 < left → names_test w names (a + 2) (word w (a + 0)) ≡ false → calls_past w names a left ≡ 0
+  pub calls_names : (left : ℕ) → 0 < left → names_test w names (a + 2) (word w (a + 0)) ≡ false → calls_past w names a left ≡ None
   calls_names zero l h = absurd (omega arith)
   calls_names (suc n) l h = calls_more w names a n ∙ rw h (simp and_no)
 
-  pub calls_turn : (left : ℕ) → 0 < left → head_test w a ≡ true → after_call w a ≤ 11080 → names_test w names (a + 2) (word w (a + 0)) ≡ true
-      → calls_past w names (after_call w a) (left - 1) ≡ calls_past w names a left
-  calls_turn zero l h b k = absurd (omega arith)
-  calls_turn (suc n) l h b k =
-      let z : suc n - 1 ≡ n = omega arith in sym (calls_more w names a n ∙ rw (h, le-leb (after_call w a) 11080 b, k, z))
+  pub calls_turn : (left n : ℕ) → left ≡ suc n → head_test w a ≡ true → after_call w a ≤ 11080 → names_test w names (a + 2) (word w (a + 0)) ≡ true
+      → calls_past w names (after_call w a) n ≡ calls_past w names a left
+  calls_turn left n z h b k = rw z (sym (calls_more w names a n ∙ rw (h, le-leb (after_call w a) 11080 b, k)))
 
-  pub calls_end : (left : ℕ) → left ≡ 0 → a ≤ 11080 → calls_past w names a left ≡ a
+  pub calls_end : (left : ℕ) → left ≡ 0 → a ≤ 11080 → calls_past w names a left ≡ Some a
   calls_end left z h = rw z (calls_none w names a h)

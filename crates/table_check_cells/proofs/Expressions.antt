@@ -2,7 +2,7 @@
 use mathlib.Core.Path.{◌≡◌, refl, sym, ap, ◌∙◌}
 use mathlib.Core.Bool.{Bool, true, false, cond, ◌&&◌, ◌||◌}
 use mathlib.Core.List.{List}
-use Prim.Native.Nat.{ℕ, zero, suc, ◌+◌, ◌-◌, ◌≤◌, ◌<◌}
+use Prim.Native.Nat.{ℕ, zero, suc, ◌+◌, ◌≤◌, ◌<◌}
 use native.Mathlib.Omega.{arith}
 use lib.Dec.{eqb, ltb, leb}
 use lib.ListN.{get_or}
@@ -145,11 +145,9 @@ module _ (w : List ℕ) (names held a : ℕ) (most : held ≤ 8) where
   expression_stop zero l h = absurd (omega arith)
   expression_stop (suc n) l h = expression_more w names held a n most ∙ rw h
 
-  pub expression_turn : (left next : ℕ) → 0 < left → next ≡ held_past w names held a → (next ≡ 9 → ⊥)
-      → expression_test w names next (a + 2) (left - 1) ≡ expression_test w names held a left
-  expression_turn zero next l q h = absurd (omega arith)
-  expression_turn (suc n) next l q h =
-      let z : suc n - 1 ≡ n = omega arith in sym (expression_more w names held a n most ∙ rw (← q, ne_eqb next 9 h, z))
+  pub expression_turn : (left n b next : ℕ) → left ≡ suc n → b ≡ a + 2 → next ≡ held_past w names held a → (next ≡ 9 → ⊥)
+      → expression_test w names next b n ≡ expression_test w names held a left
+  expression_turn left n b next z y q h = rw (z, y) (sym (expression_more w names held a n most ∙ rw (← q, ne_eqb next 9 h)))
 
   pub next_most : (next : ℕ) → next ≡ held_past w names held a → (next ≡ 9 → ⊥) → next ≤ 8
   next_most next q h = let m = held_past_most w names held a most in omega arith

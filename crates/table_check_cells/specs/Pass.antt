@@ -1,6 +1,6 @@
 -- What the check of a routine's instructions computes on a table's words: one pass, with a running address of the cells.
 -- The words are compared with those of what they decode to, and what they decode to is asked question 6's conditions.
-use Rattle.std.specs.Prelude.{Bool, true, cond, ◌&&◌, ◌||◌, List, [], ◌∷◌, ℕ, zero, suc, ◌+◌, ◌*◌, ◌<◌, eqb, ltb, leb, length, get_or}
+use Rattle.std.specs.Prelude.{Bool, true, cond, ◌&&◌, ◌||◌, List, [], ◌∷◌, ℕ, zero, suc, ◌+◌, ◌*◌, ◌<◌, eqb, ltb, leb, length, get_or, Option, Some, None, option_and_then}
 use Rattle.listing.specs.Lists.{all}
 use Rattle.listing.specs.Listing.{Instruction, Routine}
 use Rattle.listing.specs.Expressions.{effect_of, leaves_one_from}
@@ -50,15 +50,15 @@ expression_test w names held a n =
 unfoldable pub names_test : List ℕ → ℕ → ℕ → ℕ → Bool
 names_test w names a n = let ns = names_at w a n in all (λ m. ltb m names) ns && same_at w a (words_of_each name_words ns)
 
--- the address behind n words of cells from `cells` on, that end in their area and pass; 0 for a no
-unfoldable pub cells_past : ℕ → Bool → ℕ → Bool → ℕ
-cells_past cells entry n passes = cond (entry && (leb (cells + n) cell_end && passes)) (cells + n) 0
+-- the address behind n words of cells from `cells` on, that end in their area and pass; none for a no
+unfoldable pub cells_past : ℕ → Bool → ℕ → Bool → Option ℕ
+cells_past cells entry n passes = cond (entry && (leb (cells + n) cell_end && passes)) (Some (cells + n)) None
 
 -- the head of a child field: its routine is there and takes so many arguments
 unfoldable pub head_test : List ℕ → ℕ → Bool
 head_test w a = ltb (word w (a + 1)) (word w 2) && eqb (word w (a + 0)) (word w (8 + 5 * word w (a + 1) + 0))
 
-unfoldable pub calls_past : List ℕ → ℕ → ℕ → ℕ → ℕ
+unfoldable pub calls_past : List ℕ → ℕ → ℕ → ℕ → Option ℕ
 calls_past w names a n =
     let cs = calls_at w a n in
     cells_past a (all (call_is_there (routines_in w) names) cs) (length (words_of_each call_words cs)) (same_at w a (words_of_each call_words cs))
@@ -74,18 +74,15 @@ instruction_test w names size e cells i =
     instruction_passes (routines_in w) names size i
     && (leb (cells + length (cell_words i)) cell_end && (same_at w e (entry_words cells i) && same_at w cells (cell_words i)))
 
--- the address behind the cells of the instruction whose entry stands at e; 0 for a no
-unfoldable pub entry_past : List ℕ → ℕ → ℕ → ℕ → ℕ → ℕ
+-- the address behind the cells of the instruction whose entry stands at e; none for a no
+unfoldable pub entry_past : List ℕ → ℕ → ℕ → ℕ → ℕ → Option ℕ
 entry_past w names size e cells =
-    let i = instruction_at_entry w e in cond (instruction_test w names size e cells i) (cells + length (cell_words i)) 0
+    let i = instruction_at_entry w e in cond (instruction_test w names size e cells i) (Some (cells + length (cell_words i))) None
 
 -- ── n entries from e on ──────────────────────────────────────────────────────────
-unfoldable pub onward : ℕ → (ℕ → ℕ) → ℕ
-onward m next = cond (eqb m 0) 0 (next m)
-
-unfoldable pub code_past : List ℕ → ℕ → ℕ → ℕ → ℕ → ℕ → ℕ
-code_past w names size e cells zero = cells
-code_past w names size e cells (suc n) = onward (entry_past w names size e cells) (λ m. code_past w names size (e + 5) m n)
+unfoldable pub code_past : List ℕ → ℕ → ℕ → ℕ → ℕ → ℕ → Option ℕ
+code_past w names size e cells zero = Some cells
+code_past w names size e cells (suc n) = option_and_then (λ m. code_past w names size (e + 5) m n) (entry_past w names size e cells)
 
 -- these instructions pass, their entries stand from e on and their cells from `cells` on
 unfoldable pub code_test : List ℕ → ℕ → ℕ → ℕ → ℕ → List Instruction → Bool

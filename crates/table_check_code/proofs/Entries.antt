@@ -6,6 +6,7 @@ use Prim.Native.Nat.{ℕ, zero, suc, ◌+◌, ◌*◌}
 use native.Mathlib.Omega.{arith}
 use lib.Dec.{eqb, ltb, leb}
 use lib.ListN.{length, length-append}
+use Rattle.std.proofs.Common.{Option, Some, None}
 use borrow.Author.Tests.{eq-eqb, ne_eqb, lt-ltb, eqb-true, ltb-true}
 use Rattle.listing.specs.Lists.{all}
 use Rattle.listing.specs.Listing.{Piece, Instruction, assign, schedule, branch, jump, wait, fork, end}
@@ -118,10 +119,10 @@ regroup_fork true true room true same = refl
 
 -- ── by kind ──────────────────────────────────────────────────────────────────────
 module _ (w : List ℕ) (small : Words w) (names size e at : ℕ) where
-  abbrev Gives : ℕ → Type 0
+  abbrev Gives : Option ℕ → Type 0
   Gives n = entry_past w names size e at ≡ n
 
-  pub past_other_place : (word w (e + 2) ≡ at → ⊥) → Gives 0
+  pub past_other_place : (word w (e + 2) ≡ at → ⊥) → Gives None
   unfolding entry_past instruction_test
   past_other_place h = rw (entry_place w e at (instruction_at_entry w e) (ne_eqb (word w (e + 2)) at h)) (simp and_no)
 
@@ -143,7 +144,7 @@ module _ (w : List ℕ) (small : Words w) (names size e at : ℕ) where
         let p = word w (e + 3) in
         let x₁ = pieces_at w at p in
         rw (h, x, five_rest w e 1 n at _ 0 h x, cells_count (piece_at w) p at, same_number n, same_number p, pieces_length at p, pieces_have_form w small p at)
-        (ap (λ (t : Bool). cond t (at + 2 * p) 0) (regroup_assign (leaves_one_from 0 x₁) (ltb n names) (there x₁) (leb (at + 2 * p) 11080) (eqb (word w (e + 4)) 0) (same_at w at (words_of_each piece_words x₁))))
+        (ap (λ (t : Bool). cond t (Some (at + 2 * p)) None) (regroup_assign (leaves_one_from 0 x₁) (ltb n names) (there x₁) (leb (at + 2 * p) 11080) (eqb (word w (e + 4)) 0) (same_at w at (words_of_each piece_words x₁))))
 
     pub past_branch : word w (e + 0) ≡ 3
         → Gives (cells_past at (ltb (word w (e + 1)) size && eqb (word w (e + 4)) 0) (2 * word w (e + 3)) (expression_test w names 0 at (word w (e + 3))))
@@ -153,7 +154,7 @@ module _ (w : List ℕ) (small : Words w) (names size e at : ℕ) where
         let p = word w (e + 3) in
         let x₁ = pieces_at w at p in
         rw (h, x, five_rest w e 3 n at _ 0 h x, cells_count (piece_at w) p at, same_number n, same_number p, pieces_length at p, pieces_have_form w small p at)
-        (ap (λ (t : Bool). cond t (at + 2 * p) 0) (regroup_branch (leaves_one_from 0 x₁) (there x₁) (ltb n size) (leb (at + 2 * p) 11080) (eqb (word w (e + 4)) 0) (same_at w at (words_of_each piece_words x₁))))
+        (ap (λ (t : Bool). cond t (Some (at + 2 * p)) None) (regroup_branch (leaves_one_from 0 x₁) (there x₁) (ltb n size) (leb (at + 2 * p) 11080) (eqb (word w (e + 4)) 0) (same_at w at (words_of_each piece_words x₁))))
 
     pub past_schedule : word w (e + 0) ≡ 2
         → Gives (cells_past at (ltb (word w (e + 1)) names) (2 * word w (e + 3) + 2 * word w (e + 4))
@@ -183,14 +184,14 @@ module _ (w : List ℕ) (small : Words w) (names size e at : ℕ) where
           pieces_have_form w small p at,
           pieces_have_form w small q (at + 2 * p),
         )
-        (ap (λ (t : Bool). cond t (at + (2 * p + 2 * q)) 0) (regroup_schedule (leaves_one_from 0 x₁) (leaves_one_from 0 x₂) (ltb n names) (there x₁) (there x₂) (leb (at + (2 * p + 2 * q)) 11080) (same_at w at d) (same_at w (at + 2 * p) f)))
+        (ap (λ (t : Bool). cond t (Some (at + (2 * p + 2 * q))) None) (regroup_schedule (leaves_one_from 0 x₁) (leaves_one_from 0 x₂) (ltb n names) (there x₁) (there x₂) (leb (at + (2 * p + 2 * q)) 11080) (same_at w at d) (same_at w (at + 2 * p) f)))
 
     pub past_jump : word w (e + 0) ≡ 4 → Gives (cells_past at (ltb (word w (e + 1)) size && (eqb (word w (e + 3)) 0 && eqb (word w (e + 4)) 0)) 0 true)
     unfolding entry_past instruction_test instruction_passes instruction_at_entry instruction_of instruction_has_form is_there entry_words cell_words cells_past same_at
     past_jump h =
         let n = word w (e + 1) in
         rw (h, five_rest w e 4 n at 0 0 h x, same_number n)
-        (ap (λ (t : Bool). cond t (at + 0) 0) (go (ltb n size) (leb (at + 0) 11080) (eqb (word w (e + 3)) 0 && eqb (word w (e + 4)) 0)))
+        (ap (λ (t : Bool). cond t (Some (at + 0)) None) (go (ltb n size) (leb (at + 0) 11080) (eqb (word w (e + 3)) 0 && eqb (word w (e + 4)) 0)))
       where
         go : (jump room plain : Bool) → (jump && (room && (plain && true))) ≡ ((jump && plain) && (room && true))
         go false room plain = refl
@@ -202,7 +203,7 @@ module _ (w : List ℕ) (small : Words w) (names size e at : ℕ) where
     past_end h =
         let n = word w (e + 1) in
         rw (h, five_rest w e 7 0 at 0 0 h x, ← below_one n)
-        (ap (λ (t : Bool). cond t (at + 0) 0) (go (eqb n 0 && (eqb (word w (e + 3)) 0 && eqb (word w (e + 4)) 0)) (leb (at + 0) 11080)))
+        (ap (λ (t : Bool). cond t (Some (at + 0)) None) (go (eqb n 0 && (eqb (word w (e + 3)) 0 && eqb (word w (e + 4)) 0)) (leb (at + 0) 11080)))
       where
         below_one : (n : ℕ) → eqb n 0 ≡ ltb n 1
         below_one n = same_answer (eqb n 0) (ltb n 1) (λ (t : eqb n 0 ≡ true). let z = eqb-true n 0 t in lt-ltb n 1 (omega arith)) (λ (t : ltb n 1 ≡ true). let z = ltb-true n 1 t in eq-eqb n 0 (omega arith))
@@ -219,10 +220,10 @@ module _ (w : List ℕ) (small : Words w) (names size e at : ℕ) where
         let p = word w (e + 3) in
         let ns = names_at w at p in
         rw (h, x, five_rest w e 5 0 at _ 0 h x, cells_count (name_at w) p at, same_number p, names_length at p)
-        (ap (λ (t : Bool). cond t (at + 2 * p) 0) (regroup_wait (leb 1 p && leb p 4) (all (λ m. ltb m names) ns) (leb (at + 2 * p) 11080) (eqb (word w (e + 1)) 0 && eqb (word w (e + 4)) 0) (same_at w at (words_of_each name_words ns))))
+        (ap (λ (t : Bool). cond t (Some (at + 2 * p)) None) (regroup_wait (leb 1 p && leb p 4) (all (λ m. ltb m names) ns) (leb (at + 2 * p) 11080) (eqb (word w (e + 1)) 0 && eqb (word w (e + 4)) 0) (same_at w at (words_of_each name_words ns))))
 
     pub past_fork : word w (e + 0) ≡ 6
-        → Gives (cond ((eqb (word w (e + 1)) 0 && eqb (word w (e + 4)) 0) && (leb 1 (word w (e + 3)) && leb (word w (e + 3)) 8)) (calls_past w names at (word w (e + 3))) 0)
+        → Gives (cond ((eqb (word w (e + 1)) 0 && eqb (word w (e + 4)) 0) && (leb 1 (word w (e + 3)) && leb (word w (e + 3)) 8)) (calls_past w names at (word w (e + 3))) None)
     unfolding entry_past instruction_test instruction_passes instruction_at_entry instruction_of instruction_has_form is_there entry_words cell_words cells_past calls_past one_to
     past_fork h =
         let p = word w (e + 3) in
@@ -231,14 +232,17 @@ module _ (w : List ℕ) (small : Words w) (names size e at : ℕ) where
         let v = at + length (words_of_each call_words cs) in
         let calls = all (call_is_there (routines_in w) names) cs in
         rw (h, x, five_rest w e 6 0 at _ 0 h x, calls_count w p at, same_number p)
-        (ap (λ (t : Bool). cond t v 0) (regroup_fork (leb 1 p && leb p 8) calls (leb v 11080) plain (same_at w at (words_of_each call_words cs)))
-        ∙ cond_cond (plain && (leb 1 p && leb p 8)) (calls && (leb v 11080 && same_at w at (words_of_each call_words cs))) v)
+        (ap (λ (t : Bool). cond t (Some v) None) (regroup_fork (leb 1 p && leb p 8) calls (leb v 11080) plain (same_at w at (words_of_each call_words cs)))
+        ∙ cond_cond (plain && (leb 1 p && leb p 8)) (calls && (leb v 11080 && same_at w at (words_of_each call_words cs))) (Some v))
 
   abbrev Not : ℕ → Type 0
   Not j = word w (e + 0) ≡ j → ⊥
 
-  pub past_no_kind : Not 1 → Not 2 → Not 3 → Not 4 → Not 5 → Not 6 → Not 7 → Gives 0
+  pub past_no_kind : Not 1 → Not 2 → Not 3 → Not 4 → Not 5 → Not 6 → Not 7 → Gives None
   unfolding entry_past instruction_test instruction_at_entry instruction_of entry_words
   past_no_kind n1 n2 n3 n4 n5 n6 n7 =
       let k = word w (e + 0) in
       rw (ne_eqb k 1 n1, ne_eqb k 2 n2, ne_eqb k 3 n3, ne_eqb k 4 n4, ne_eqb k 5 n5, ne_eqb k 6 n6, ne_eqb k 7 n7, five_kind w e 7 0 at 0 0 (ne_eqb k 7 n7)) (simp and_no)
+
+-- the check of an entry, by the number of its kind
+pub ruleset by_kind = (past_other_place, past_assign, past_schedule, past_branch, past_jump, past_wait, past_fork, past_end, past_no_kind)

@@ -2,18 +2,20 @@
 use mathlib.Core.Path.{◌≡◌, refl}
 use mathlib.Core.Bool.{Bool, true, false, cond, ◌&&◌}
 use mathlib.Core.List.{List, [], ◌∷◌, ◌++◌}
-use Prim.Native.Nat.{ℕ, zero, suc, ◌+◌, ◌-◌, ◌≤◌, ◌<◌}
+use Prim.Native.Nat.{ℕ, zero, suc, ◌+◌, ◌≤◌, ◌<◌}
 use native.Mathlib.Omega.{arith}
 use lib.Dec.{leb}
 use lib.ListN.{length, length-append}
-use borrow.Author.Tests.{ne_eqb, le-leb, leb-true}
+use Rattle.std.proofs.Common.{Option, Some, None}
+use Rattle.std.specs.Prelude.{option_and_then}
+use borrow.Author.Tests.{le-leb, leb-true}
 use Rattle.listing.specs.Lists.{all}
 use Rattle.listing.specs.Listing.{Instruction}
 use Rattle.table.specs.Areas.{words_of_each, cell_words, entry_words, all_cells, all_entries}
 use Rattle.table.specs.Decode.{instruction_at_entry, code_at_entry}
 use Rattle.table.proofs.Lengths.{entry_five}
 use Rattle.table.proofs.Tests.{and_left, and_right, and_no}
-use Rattle.table_check_cells.specs.Pass.{same_at, routines_in, instruction_passes, instruction_test, entry_past, onward, code_past, code_test}
+use Rattle.table_check_cells.specs.Pass.{same_at, routines_in, instruction_passes, instruction_test, entry_past, code_past, code_test}
 use Rattle.table_check_cells.proofs.Words.{same_split, leb_before}
 
 -- ── one instruction more ─────────────────────────────────────────────────────────
@@ -39,10 +41,9 @@ module _ (w : List ℕ) (names size : ℕ) where
       (same_at w e (entry_words at i)) (same_at w (e + 5) (all_entries m is)) (same_at w at (cell_words i)) (same_at w m (all_cells is)) (leb_before m (length (all_cells is)) 11080))
 
   -- a turn: if the instruction passes, the rest of the pass counts
-  passes_on : (b b' : Bool) (m r : ℕ) (f : ℕ → ℕ) → 1 ≤ m → (b ≡ true → f m ≡ cond b' r 0) → onward (cond b m 0) f ≡ cond (b && b') r 0
-  unfolding onward
-  passes_on true b' m r f l h = rw (ne_eqb m 0 (λ (z : m ≡ 0). omega arith), h refl)
-  passes_on false b' m r f l h = refl
+  passes_on : (b b' : Bool) (m r : ℕ) (f : ℕ → Option ℕ) → (b ≡ true → f m ≡ cond b' (Some r) None) → option_and_then f (cond b (Some m) None) ≡ cond (b && b') (Some r) None
+  passes_on true b' m r f h = h refl
+  passes_on false b' m r f h = refl
 
   instruction_room_lem : (e at : ℕ) (i : Instruction) → instruction_test w names size e at i ≡ true → at + length (cell_words i) ≤ 11080
   unfolding instruction_test
@@ -50,7 +51,7 @@ module _ (w : List ℕ) (names size : ℕ) where
       let m = at + length (cell_words i) in
       leb-true m 11080 (and_left (leb m 11080) (same_at w e (entry_words at i) && same_at w at (cell_words i)) (and_right (instruction_passes (routines_in w) names size i) _ h))
 
-  no_code : (e at : ℕ) → at ≤ 11080 → at ≡ cond (code_test w names size e at []) (at + length (all_cells [])) 0
+  no_code : (e at : ℕ) → at ≤ 11080 → Some at ≡ cond (code_test w names size e at []) (Some (at + length (all_cells []))) None
   unfolding code_test all_cells words_of_each all all_entries same_at
   no_code e at u = let z : at + 0 ≡ at = omega arith in rw (z, le-leb at 11080 u)
 
@@ -58,39 +59,42 @@ module _ (w : List ℕ) (names size : ℕ) where
   unfolding all_cells words_of_each
   cells_more at i is = simp length-append (omega arith)
 
-  pub code_past_lem : (n e at : ℕ) → 1 ≤ at → at ≤ 11080
-      → code_past w names size e at n ≡ cond (code_test w names size e at (code_at_entry w e n)) (at + length (all_cells (code_at_entry w e n))) 0
+  pub code_past_lem : (n e at : ℕ) → at ≤ 11080
+      → code_past w names size e at n ≡ cond (code_test w names size e at (code_at_entry w e n)) (Some (at + length (all_cells (code_at_entry w e n)))) None
   unfolding code_past code_at_entry entry_past
-  code_past_lem zero e at l u = no_code e at u
-  code_past_lem (suc n) e at l u =
+  code_past_lem zero e at u = no_code e at u
+  code_past_lem (suc n) e at u =
       let i = instruction_at_entry w e in
       let is = code_at_entry w (e + 5) n in
       let m = at + length (cell_words i) in
       rw (code_test_more e at i is, cells_more at i is)
-      (passes_on (instruction_test w names size e at i) (code_test w names size (e + 5) m is) m (m + length (all_cells is)) (λ k. code_past w names size (e + 5) k n) (omega arith)
-      (λ (h : instruction_test w names size e at i ≡ true). code_past_lem n (e + 5) m (omega arith) (instruction_room_lem e at i h)))
+      (passes_on (instruction_test w names size e at i) (code_test w names size (e + 5) m is) m (m + length (all_cells is)) (λ k. code_past w names size (e + 5) k n)
+      (λ (h : instruction_test w names size e at i ≡ true). code_past_lem n (e + 5) m (instruction_room_lem e at i h)))
 
   -- ── the turns of the pass ──────────────────────────────────────────────────────
-  pub entry_past_top : (e at : ℕ) → entry_past w names size e at ≤ 11080
+  pub entry_past_top : (e at v : ℕ) → entry_past w names size e at ≡ Some v → v ≤ 11080
   unfolding entry_past
-  entry_past_top e at = go (instruction_test w names size e at (instruction_at_entry w e)) refl
+  entry_past_top e at v = go (instruction_test w names size e at (instruction_at_entry w e)) refl
     where
-      go : (b : Bool) → instruction_test w names size e at (instruction_at_entry w e) ≡ b → cond b (at + length (cell_words (instruction_at_entry w e))) 0 ≤ 11080
-      go true h = instruction_room_lem e at (instruction_at_entry w e) h
-      go false h = omega arith
+      go : (b : Bool) → instruction_test w names size e at (instruction_at_entry w e) ≡ b
+          → cond b (Some (at + length (cell_words (instruction_at_entry w e)))) None ≡ Some v → v ≤ 11080
+      go true h q =
+          let room = instruction_room_lem e at (instruction_at_entry w e) h in
+          let z : at + length (cell_words (instruction_at_entry w e)) ≡ v = cc in
+          omega arith
+      go false h q = absurd (let z : ⊥ = cc in z)
 
   -- the instruction is refused, or the rest counts from behind its cells
-  pub code_past_stop : (e at left : ℕ) → 0 < left → entry_past w names size e at ≡ 0 → code_past w names size e at left ≡ 0
-  unfolding code_past onward
+  pub code_past_stop : (e at left : ℕ) → 0 < left → entry_past w names size e at ≡ None → code_past w names size e at left ≡ None
+  unfolding code_past
   code_past_stop e at zero l h = absurd (omega arith)
   code_past_stop e at (suc n) l h = rw h
 
-  pub code_past_more : (e at left v : ℕ) → 0 < left → v ≡ entry_past w names size e at → (v ≡ 0 → ⊥)
-      → code_past w names size (e + 5) v (left - 1) ≡ code_past w names size e at left
-  unfolding code_past onward
-  code_past_more e at zero v l q h = absurd (omega arith)
-  code_past_more e at (suc n) v l q h = let z : suc n - 1 ≡ n = omega arith in rw (← q, ne_eqb v 0 h, z)
+  pub code_past_more : (e at left n next v : ℕ) → left ≡ suc n → next ≡ e + 5 → entry_past w names size e at ≡ Some v
+      → code_past w names size next v n ≡ code_past w names size e at left
+  unfolding code_past
+  code_past_more e at left n next v z y q = rw (z, y, q)
 
-  pub code_past_none : (e at left : ℕ) → left ≡ 0 → code_past w names size e at left ≡ at
+  pub code_past_none : (e at left : ℕ) → left ≡ 0 → code_past w names size e at left ≡ Some at
   unfolding code_past
   code_past_none e at left z = rw z

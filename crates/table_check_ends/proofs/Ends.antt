@@ -1,72 +1,38 @@
--- The ends of a table: an instruction by its kind, words of 0, operands.
-use mathlib.Core.Path.{◌≡◌, refl, sym, ◌∙◌}
-use mathlib.Core.Bool.{Bool, true, false, ◌&&◌}
+-- The ends of a table: words of 0, operands.
+use mathlib.Core.Path.{◌≡◌, refl, ap}
+use mathlib.Core.Bool.{◌&&◌}
 use mathlib.Core.List.{List}
-use Prim.Native.Nat.{ℕ, zero, suc, ◌+◌, ◌-◌, ◌≤◌, ◌<◌}
+use Prim.Native.Nat.{ℕ, zero, suc, ◌+◌, ◌*◌, ◌-◌, ◌≤◌, ◌<◌}
+use native.Mathlib.Numerals.{add-one}
 use native.Mathlib.Omega.{arith}
-use borrow.Author.Tests.{eq-eqb, ne_eqb}
+use lib.Dec.{eqb}
+use lib.ListN.{length, take, drop}
+use lib.Seq.{drop-cons}
+use Rattle.words.specs.Words.{all_zero}
 use Rattle.listing.specs.Listing.{Instruction, assign, schedule, branch, jump, wait, fork, end}
 use Rattle.table.specs.Areas.{operands}
-use Rattle.table.specs.Decode.{word, no_instruction, instruction_of, instruction_at_entry}
+use Rattle.table.specs.Decode.{word, instruction_at_entry}
 use Rattle.table_check_ends.specs.Ends.{zeros_at, operand_count}
 
--- ── an instruction by the number of its kind ─────────────────────────────────────
--- a number that is no kind's
-pub record NoKind (kind : ℕ) : Type 0 where
-  pub not1 : kind ≡ 1 → ⊥
-  pub not2 : kind ≡ 2 → ⊥
-  pub not3 : kind ≡ 3 → ⊥
-  pub not4 : kind ≡ 4 → ⊥
-  pub not5 : kind ≡ 5 → ⊥
-  pub not6 : kind ≡ 6 → ⊥
-  pub not7 : kind ≡ 7 → ⊥
+-- ── the checks of a row of words or instructions ─────────────────────────────────
+-- The test of words in a row is that of the slice of them.
+pub zeros_by_slice : (w : List ℕ) (a k : ℕ) → a + k ≤ length w → all_zero (take k (drop a w)) ≡ zeros_at w a k
+unfolding zeros_at
+zeros_by_slice w a zero h = refl
+zeros_by_slice w a (suc k) h =
+    rw (drop-cons w a 0 (omega arith), add-one a) (ap (λ b. eqb (word w a) 0 && b) (zeros_by_slice w (suc a) k (omega arith)))
 
-pub no_instruction_lem : (w : List ℕ) (e : ℕ) → NoKind (word w (e + 0)) → instruction_at_entry w e ≡ no_instruction
-unfolding instruction_at_entry instruction_of
-no_instruction_lem w e n =
-    let k = word w (e + 0) in
-    rw (ne_eqb k 1 n.not1, ne_eqb k 2 n.not2, ne_eqb k 3 n.not3, ne_eqb k 4 n.not4, ne_eqb k 5 n.not5, ne_eqb k 6 n.not6, ne_eqb k 7 n.not7)
+pub operands_turn : (w : List ℕ) (n i : ℕ) → i < n
+    → operand_count w (328 + 5 * i) (n - i) ≡ operands (instruction_at_entry w (328 + 5 * i)) + operand_count w (328 + 5 * (i + 1)) (n - (i + 1))
+unfolding operand_count
+operands_turn w n i l =
+    let p : n - i ≡ suc (n - (i + 1)) = omega arith in
+    let q : 328 + 5 * i + 5 ≡ 328 + 5 * (i + 1) = omega arith in
+    rw (p, q)
 
--- ── the turns of the checks, with so many words or instructions left ─────────────
-and_true : (x : Bool) → x && true ≡ x
-and_true true = refl
-and_true false = refl
-
-and_false : (x : Bool) → x && false ≡ false
-and_false true = refl
-and_false false = refl
-
-module _ (w : List ℕ) (a : ℕ) where
-  pub zeros_stop : (left : ℕ) → 0 < left → (word w a ≡ 0 → ⊥) → zeros_at w a left ≡ false
-  unfolding zeros_at
-  zeros_stop zero l h = absurd (omega arith)
-  zeros_stop (suc n) l h = rw (ne_eqb (word w a) 0 h)
-
-  pub zeros_turn : (left next : ℕ) → left ≡ suc next → word w a ≡ 0 → zeros_at w (a + 1) next ≡ zeros_at w a left
-  unfolding zeros_at
-  zeros_turn left next z h = rw (z, eq-eqb (word w a) 0 h)
-
-  -- A word that is 0 leaves the answer as it is; another one makes it no; at the end it is the answer.
-  pub clear_stays : (left next : ℕ) (clear clear' b : Bool) → left ≡ suc next → word w a ≡ 0 → clear' ≡ clear
-      → clear && zeros_at w a left ≡ b → clear' && zeros_at w (a + 1) next ≡ b
-  clear_stays left next clear clear' b z h s e = rw (s, zeros_turn left next z h) e
-
-  pub clear_no_more : (left next : ℕ) (clear clear' b : Bool) → 0 < left → (word w a ≡ 0 → ⊥) → clear' ≡ false
-      → clear && zeros_at w a left ≡ b → clear' && zeros_at w (a + 1) next ≡ b
-  clear_no_more left next clear clear' b l h s e = rw s (sym (and_false clear) ∙ (rw (zeros_stop left l h) at e))
-
-  pub clear_ends : (left : ℕ) (clear b : Bool) → left ≡ 0 → clear && zeros_at w a left ≡ b → clear ≡ b
-  unfolding zeros_at
-  clear_ends left clear b z e = sym (and_true clear) ∙ (rw z at e)
-
-  pub operands_end : (left : ℕ) → left ≡ 0 → operand_count w a left ≡ 0
-  unfolding operand_count
-  operands_end left z = rw z
-
-  pub operands_turn : (left : ℕ) → 0 < left → operand_count w a left ≡ operands (instruction_at_entry w a) + operand_count w (a + 5) (left - 1)
-  unfolding operand_count
-  operands_turn zero l = absurd (omega arith)
-  operands_turn (suc n) l = let z : suc n - 1 ≡ n = omega arith in rw z
+pub operands_end : (w : List ℕ) (n i : ℕ) → n ≤ i → operand_count w (328 + 5 * i) (n - i) ≡ 0
+unfolding operand_count
+operands_end w n i l = let z : n - i ≡ 0 = omega arith in rw z
 
 pub operands_most : (i : Instruction) → operands i ≤ 1
 unfolding operands

@@ -7,58 +7,37 @@ ghost use Rattle.table.specs.Areas.{operands, TableLong};
 ghost use Rattle.table.specs.Decode.{instruction_at_entry};
 ghost use Rattle.table_check_ends.specs.Ends.{zeros_at, operand_count, tail_test};
 
-use table::{ASSIGN, BRANCH, END, FORK, JUMP, KIND, SCHEDULE, TABLE_WORDS, WAIT};
+use table::{
+    ASSIGN, BRANCH, CELL_END, CELL_WORDS, CELLS, ENTRIES, ENTRY_WORDS, FORK, JUMP, KIND,
+    ROUTINE_COUNT, ROUTINE_WORDS, ROUTINES, SCHEDULE, TABLE_WORDS, WAIT,
+};
+use words::all_zero;
 
 // May the instruction whose entry stands at `e` be the last of its routine: `E` or `G`?
+#[tactic(auto, unfolding(table::specs::Decode::instruction_at_entry, table::specs::Decode::instruction_of, listing::specs::Questions::may_be_last))]
 pub fn may_end(t: &[u32], e: usize) -> bool
     requires { e + 5 ≤ length t.now }
     ensures { result ≡ may_be_last (instruction_at_entry t.now e) }
 {
-    let kind = t[e + KIND];
-    match kind {
-        ASSIGN => false,
-        SCHEDULE => false,
-        BRANCH => false,
-        JUMP => true,
-        WAIT => false,
-        FORK => false,
-        END => true,
-        _ => true,
-    }
+    !matches!(t[e + KIND], ASSIGN | SCHEDULE | BRANCH | WAIT | FORK)
 }
 
-// Are the words from `from` to before `to` 0? It goes on to the last one, since the compiler then takes several at a time.
+// Are the words from `from` to before `to` 0?
+#[tactic(auto, using(crate::proofs::Ends::zeros_by_slice))]
 fn zeros_pass(t: &[u32], from: usize, to: usize) -> bool
     requires { (from ≤ to) × (to ≤ length t.now) }
     ensures { result ≡ zeros_at t.now from (to - from) }
 {
-    let mut clear = true;
-    let mut i = from;
-    while i < to {
-        if t[i] != 0 {
-            clear = false;
-        }
-        i += 1;
-    }
-    clear
+    all_zero(&t[from..to])
 }
 
 // The pieces of the instruction at `e` that stand in its entry.
+#[tactic(auto, unfolding(table::specs::Decode::instruction_at_entry, table::specs::Decode::instruction_of, table::specs::Areas::operands))]
 fn operands_at(t: &[u32], e: usize) -> usize
     requires { e + 5 ≤ length t.now }
     ensures { result ≡ operands (instruction_at_entry t.now e) }
 {
-    let kind = t[e + KIND];
-    match kind {
-        ASSIGN => 1,
-        SCHEDULE => 1,
-        BRANCH => 1,
-        JUMP => 1,
-        WAIT => 0,
-        FORK => 0,
-        END => 0,
-        _ => 0,
-    }
+    usize::from(matches!(t[e + KIND], ASSIGN | SCHEDULE | BRANCH | JUMP))
 }
 
 // Those of all `n` instructions.
@@ -66,33 +45,22 @@ fn operand_count(t: &[u32], n: usize) -> usize
     requires { (328 + 5 * n ≤ length t.now) × (n ≤ 512) }
     ensures { result ≡ operand_count t.now 328 n }
 {
-    let mut e: usize = 328;
-    let mut sum: usize = 0;
-    let mut left = n;
-    while left > 0 {
-        sum += operands_at(t, e);
-        e += 5;
-        left -= 1;
+    let mut sum = 0;
+    for i in 0..n {
+        sum += operands_at(t, ENTRIES + ENTRY_WORDS * i);
     }
     sum
 }
 
 // Behind `n` routines, `first` instructions and their cells: words of 0, and at most 4,096 pieces.
+#[tactic(auto, using(crate::proofs::Ends::operand_count_most), unfolding(crate::specs::Ends::tail_test))]
 pub fn tail_passes(t: &[u32], n: usize, first: usize, cells: usize) -> bool
     requires { TableLong t.now × (n ≤ 64) × (first ≤ 512) × (cells ≤ 11080) }
     ensures { result ≡ tail_test t.now n first cells }
 {
-    if !zeros_pass(t, 3, 8) {
-        return false;
-    }
-    if !zeros_pass(t, 8 + 5 * n, 328) {
-        return false;
-    }
-    if !zeros_pass(t, 328 + 5 * first, 2888) {
-        return false;
-    }
-    if !zeros_pass(t, cells, TABLE_WORDS) {
-        return false;
-    }
-    cells + 2 * operand_count(t, first) <= 11080
+    zeros_pass(t, ROUTINE_COUNT + 1, ROUTINES)
+        && zeros_pass(t, ROUTINES + ROUTINE_WORDS * n, ENTRIES)
+        && zeros_pass(t, ENTRIES + ENTRY_WORDS * first, CELLS)
+        && zeros_pass(t, cells, TABLE_WORDS)
+        && cells + CELL_WORDS * operand_count(t, first) <= CELL_END
 }

@@ -1,11 +1,9 @@
+use Prim.Native.Nat.{◌-◌}
 use mathlib.Core.Path.{◌≡◌}
 use lib.Dec.{eqb}
 use Rattle.table.specs.Areas.{kind_bits}
 use Rattle.table.specs.Decode.{kinds_of_bits}
 use Rattle.table_check.proofs.kinds_fit.Given as goal
 
-abbrev pub invariant-loop-left : goal.invariant-loop-left
-invariant-loop-left l = eqb l.rest (kind_bits (kinds_of_bits l.left l.rest)) ≡ eqb l.bits (kind_bits (kinds_of_bits l.arguments l.bits))
-
-abbrev pub decreases-loop-left : goal.decreases-loop-left
-decreases-loop-left l = l.left
+abbrev pub invariant-loop : goal.invariant-loop
+invariant-loop l = eqb l.rest (kind_bits (kinds_of_bits (l.arguments - l.counter) l.rest)) ≡ eqb l.bits (kind_bits (kinds_of_bits l.arguments l.bits))

@@ -4,7 +4,4 @@ use Rattle.table_check.specs.Check.{pass_from}
 use Rattle.table_check.proofs.routines_pass.Given as goal
 
 abbrev pub invariant-loop-number : goal.invariant-loop-number
-invariant-loop-number l = (l.number ≤ l.n) × (l.first ≤ 512) × (1 ≤ l.cells) × (l.cells ≤ 11080) × (pass_from l.t l.number l.first l.cells (l.n - l.number) ≡ pass_from l.t 0 0 2888 l.n)
-
-abbrev pub decreases-loop-number : goal.decreases-loop-number
-decreases-loop-number l = l.n - l.number
+invariant-loop-number l = (l.first ≤ 512) × (l.cells ≤ 11080) × (pass_from l.t l.number l.first l.cells (l.n - l.number) ≡ pass_from l.t 0 0 2888 l.n)

@@ -3,27 +3,21 @@
 // A function named `.._past` gives the address behind the cells that it looks at, or none if the answer is no.
 #![tactic(auto)]
 
+pub mod line;
+
 ghost use Rattle.std.specs.Prelude.{◌≡◌, true, cond, ◌&&◌, ◌+◌, ◌*◌, ◌≤◌, eqb, ltb, leb};
 ghost use Rattle.table.specs.Areas.{TableLong};
 ghost use Rattle.table.specs.Decode.{word};
 ghost use Rattle.table_check_cells.specs.Pass.{expression_test, names_test, cells_past, calls_past};
 
+pub use line::Line;
 use table::{CELL_END, CELL_WORDS};
 use table_check_cells::{calls_past, expression_passes, names_pass};
-
-// What an instruction's entry says beside its kind: its operand, the address of its cells, its two counts.
-#[derive(Clone, Copy, Debug, PartialEq, Eq)]
-pub struct Line {
-    pub operand: u32,
-    pub cells: usize,
-    pub first: u32,
-    pub second: u32,
-}
 
 // `S` and `U`: an operand below `limit`, and one expression.
 #[tactic(auto, unfolding(table_check_cells::specs::Pass::cells_past))]
 pub fn expression_past(t: &[u32], names: u32, limit: u32, line: Line) -> Option<usize>
-    requires { TableLong t.now × (line.cells ≤ 11080) }
+    requires { TableLong t.now }
     ensures { result ≡ cells_past line.cells (ltb line.operand limit && eqb line.second 0) (2 * line.first) (expression_test t.now names 0 line.cells line.first) }
 {
     let n = line.first as usize;
@@ -42,7 +36,7 @@ pub fn expression_past(t: &[u32], names: u32, limit: u32, line: Line) -> Option<
 // `A`: a name, and two expressions.
 #[tactic(auto, unfolding(table_check_cells::specs::Pass::cells_past))]
 pub fn schedule_past(t: &[u32], names: u32, line: Line) -> Option<usize>
-    requires { TableLong t.now × (line.cells ≤ 11080) }
+    requires { TableLong t.now }
     ensures { result ≡ cells_past line.cells (ltb line.operand names) (2 * line.first + 2 * line.second) (expression_test t.now names 0 line.cells line.first && expression_test t.now names 0 (line.cells + 2 * line.first) line.second) }
 {
     let n = line.first as usize;
@@ -63,7 +57,6 @@ pub fn schedule_past(t: &[u32], names: u32, line: Line) -> Option<usize>
 // `G` and `E`: an operand below `limit`, and no cells.
 #[tactic(auto, unfolding(table_check_cells::specs::Pass::cells_past))]
 pub fn plain_past(limit: u32, line: Line) -> Option<usize>
-    requires { line.cells ≤ 11080 }
     ensures { result ≡ cells_past line.cells (ltb line.operand limit && (eqb line.first 0 && eqb line.second 0)) 0 true }
 {
     if limit <= line.operand || line.first != 0 || line.second != 0 {
@@ -82,7 +75,7 @@ fn counts_pass(line: Line, most: u32) -> bool
 // `W`: 1 to 4 names.
 #[tactic(auto, unfolding(table_check_cells::specs::Pass::cells_past))]
 pub fn wait_past(t: &[u32], names: u32, line: Line) -> Option<usize>
-    requires { TableLong t.now × (line.cells ≤ 11080) }
+    requires { TableLong t.now }
     ensures { result ≡ cells_past line.cells ((eqb line.operand 0 && eqb line.second 0) && (leb 1 line.first && leb line.first 4)) (2 * line.first) (names_test t.now names line.cells line.first) }
 {
     let n = line.first as usize;
@@ -96,7 +89,7 @@ pub fn wait_past(t: &[u32], names: u32, line: Line) -> Option<usize>
 
 // `F`: 1 to 8 children.
 pub fn fork_past(t: &[u32], names: u32, line: Line) -> Option<usize>
-    requires { TableLong t.now × (line.cells ≤ 11080) × (word t.now 2 ≤ 64) }
+    requires { TableLong t.now × (word t.now 2 ≤ 64) }
     ensures { result ≡ cond ((eqb line.operand 0 && eqb line.second 0) && (leb 1 line.first && leb line.first 8)) (calls_past t.now names line.cells line.first) None }
 {
     if counts_pass(line, 8) {

@@ -1,32 +1,23 @@
 -- Words made 0 one after the other, and the whole forms that come of it.
-use mathlib.Core.Path.{◌≡◌, refl, sym, ap, ◌∙◌}
-use mathlib.Core.List.{List, [], ◌∷◌, ◌++◌, append_assoc}
-use Prim.Native.Nat.{ℕ, suc, ◌+◌, ◌-◌, ◌≤◌, ◌<◌}
+use mathlib.Core.Path.{◌≡◌, refl, ap, ◌∙◌}
+use mathlib.Core.List.{List, [], ◌∷◌, ◌++◌}
+use Prim.Native.Nat.{ℕ, ◌+◌, ◌-◌, ◌≤◌, ◌<◌}
 use native.Mathlib.Omega.{arith}
-use lib.ListN.{length, get_or, take, drop, set, replicate, length-append, length-take, length-drop, length-replicate, take-append-drop, replicate-append-replicate}
-use lib.Seq.{drop-cons, set_at, drop-set-lt}
+use borrow.Rule.Slice.PartMut.{put_mid}
+use lib.ListN.{length, take, drop, set, replicate, length-append, length-take, length-drop, length-replicate}
+use lib.Seq.{drop-set-lt}
+use Rattle.std.proofs.lemmas.List.{drop-drop}
 use Rattle.walk.specs.Calls.{halted_words}
 use Rattle.machine_halt.specs.Zeroed.{zeroed, blank_words}
 
-pub zeroed_none : (from : ℕ) (l : List ℕ) → l ≡ zeroed from from l
+-- The words from one place up to 12,288, filled with 0.
+pub filled : (from : ℕ) (l ys : List ℕ) → from ≤ 12288 → 12288 ≤ length l → ys ≡ replicate (length (take (12288 - from) (drop from l))) 0
+    → put_mid from (12288 - from) l ys ≡ zeroed from 12288 l
 unfolding zeroed
-zeroed_none from l = let e : from - from ≡ 0 = omega arith in rw e (sym (take-append-drop from l))
-
-zero_behind : (n : ℕ) (l : List ℕ) → replicate n 0 ++ (0 ∷ l) ≡ replicate (n + 1) 0 ++ l
-zero_behind n l = sym (append_assoc (replicate n 0) (0 ∷ []) l) ∙ ap (λ (z : List ℕ). z ++ l) (replicate-append-replicate n 1 0)
-
-pub zeroed_next : (from k : ℕ) (l : List ℕ) → from ≤ k → k < length l → set (zeroed from k l) k 0 ≡ zeroed from (k + 1) l
-unfolding zeroed
-zeroed_next from k l h g =
-    let n : ℕ = k - from in
-    let front : List ℕ = take from l ++ replicate n 0 in
-    let long : length front ≡ k = length-append (take from l) (replicate n 0) ∙ (omega (arith, length-take from l, length-replicate {A = ℕ} n 0)) in
-    let e : k + 1 - from ≡ n + 1 = omega arith in
-    let f : k + 1 ≡ suc k = omega arith in
-    ap (λ (z : List ℕ). set z k 0) (sym (append_assoc (take from l) (replicate n 0) (drop k l)) ∙ ap (λ (z : List ℕ). front ++ z) (drop-cons l k 0 g))
-    ∙ (set_at front (get_or l k 0) (drop (suc k) l) 0 k long
-    ∙ (append_assoc (take from l) (replicate n 0) (0 ∷ drop (suc k) l)
-    ∙ (ap (λ (z : List ℕ). take from l ++ z) (zero_behind n (drop (suc k) l)) ∙ rw (e, f))))
+filled from l ys h g e =
+    let n : length (take (12288 - from) (drop from l)) ≡ 12288 - from = length-take (12288 - from) (drop from l) ∙ omega (arith, length-drop from l) in
+    let p : from + (12288 - from) ≡ 12288 = omega arith in
+    rw (e, n, drop-drop (12288 - from) from l, p)
 
 pub zeroed_length : (from to : ℕ) (l : List ℕ) → from ≤ to → to ≤ length l → length (zeroed from to l) ≡ length l
 unfolding zeroed

@@ -14,11 +14,7 @@ fn clear_from(m: &mut [u32], from: usize)
     requires { HasMachine m.old × (from ≤ 12288) }
     ensures { m.new ≡ zeroed from 12288 m.old }
 {
-    let mut k = from;
-    while k < MACHINE_WORDS {
-        m[k] = 0;
-        k += 1;
-    }
+    m[from..MACHINE_WORDS].fill(0);
 }
 
 // The stop's number, and nothing else.

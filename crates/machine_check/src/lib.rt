@@ -17,12 +17,11 @@ ghost use Rattle.machine_check.specs.Answer.{Answered};
 use machine::MACHINE_WORDS;
 use machine_check_records::{stopped_words, words_in_place};
 use machine_check_tree::scan::tree_passes;
-use machine_words::Test;
 use table::TABLE_WORDS;
 use table_read::environment_size;
 
 // The stop's number, or the next moment due (0: none).
-#[derive(Clone, Copy)]
+#[derive(Clone, Copy, Debug, PartialEq, Eq)]
 pub enum MachineCheck {
     NotAState,
     Stopped(u32),
@@ -30,28 +29,25 @@ pub enum MachineCheck {
 }
 
 // Do the words stand for a state of the walk on the table's listing? With the next moment due, and the soonest of each block.
-pub fn running_words(t: &[u32], m: &[u32], dues: &mut [u64; 65]) -> Test
-    requires { TableLong t.now × MachineLong m.now × (is_table t.now ≡ true) × (length dues.old ≡ 65) }
+pub fn running_words(t: &[u32], m: &[u32], dues: &mut [u64; 65]) -> Option<u64>
+    requires { TableLong t.now × MachineLong m.now × (is_table t.now ≡ true) }
     ensures { (test_of result ≡ tested (running_words (table_listing t.now) m.now)
         (words_due (environment_size (table_listing t.now)) m.now))
-        × (length dues.new ≡ 65)
         × (running_words (table_listing t.now) m.now ≡ true
         → Dues (environment_size (table_listing t.now)) m.now dues.new)
         × (dues.new ≡ words_kept (environment_size (table_listing t.now)) m.now dues.old) }
 {
     let size = environment_size(t);
-    let Test::Passes(due) = words_in_place(m, size, dues) else {
-        return Test::Fails;
-    };
+    let due = words_in_place(m, size, dues)?;
     if !tree_passes(t, m) {
-        return Test::Fails;
+        return None;
     }
-    Test::Passes(due)
+    Some(due)
 }
 
 // Question 7 on the 12,288 words of each memory.
 pub fn machine_answer(t: &[u32], m: &[u32], dues: &mut [u64; 65]) -> MachineCheck
-    requires { TableLong t.now × MachineLong m.now × (is_table t.now ≡ true) × (length dues.old ≡ 65) }
+    requires { TableLong t.now × MachineLong m.now × (is_table t.now ≡ true) }
     ensures { Answered (table_listing t.now) m.now dues.old dues.new result }
 {
     if stopped_words(m) {
@@ -59,14 +55,14 @@ pub fn machine_answer(t: &[u32], m: &[u32], dues: &mut [u64; 65]) -> MachineChec
         return MachineCheck::Stopped(k);
     }
     match running_words(t, m, dues) {
-        Test::Fails => MachineCheck::NotAState,
-        Test::Passes(due) => MachineCheck::Running(due),
+        None => MachineCheck::NotAState,
+        Some(due) => MachineCheck::Running(due),
     }
 }
 
 // Question 7 on memories of at least 12,288 words; the table has passed question 6. Of a state, the soonest moment due of each block is kept.
 pub fn check_machine(t: &[u32], m: &[u32], dues: &mut [u64; 65]) -> MachineCheck
-    requires { HasTable t.now × HasMachine m.now × (is_table (first_words t.now) ≡ true) × (length dues.old ≡ 65) }
+    requires { HasTable t.now × HasMachine m.now × (is_table (first_words t.now) ≡ true) }
     ensures { Answered (table_listing (first_words t.now)) (first_words m.now) dues.old dues.new result }
 {
     machine_answer(&t[0..TABLE_WORDS], &m[0..MACHINE_WORDS], dues)

@@ -10,103 +10,83 @@ ghost use Rattle.machine_words.specs.Tests.{test_of, tested, blocks_due, Dues};
 ghost use Rattle.machine_check_slots.specs.Kept.{blocks_kept, words_kept};
 
 use machine::{
-    BLOCK_WORDS, BLOCKS, ENVIRONMENT, ENVIRONMENT_AT, FIRST_STOP, LAST_STOP, LIVE, ORDER,
-    ORDER_WORDS, SLOTS, UNUSED,
+    BLOCK_WORDS, BLOCKS, ENVIRONMENT, ENVIRONMENT_AT, FIRST_STOP, LAST_STOP, LIVE, MACHINE_WORDS,
+    ORDER, ORDER_WORDS, SLOTS, UNUSED,
 };
 use machine_check_slots::slots_hold;
-use machine_words::{Test, block_rests, present_moment, zero_from};
+use machine_words::{block_rests, present_moment, zero_from};
 use words::number;
 
 // Is the slot of the k-th routine in order one, and does its block know the place?
+#[tactic(auto, unfolding(machine::specs::Words::knows_place))]
 pub fn knows_place(m: &[u32], k: usize) -> bool
     requires { MachineLong m.now × (k < 64) }
     ensures { result ≡ knows_place m.now k }
 {
     let s = number(m[ORDER + k]);
-    if SLOTS <= s {
-        return false;
-    }
-    number(m[BLOCKS + s * BLOCK_WORDS]) == k + 1
+    s < SLOTS && number(m[BLOCKS + s * BLOCK_WORDS]) == k + 1
 }
 
 pub fn know_places(m: &[u32], n: usize) -> bool
     requires { MachineLong m.now × (n ≤ 64) }
     ensures { result ≡ know_places m.now n }
 {
-    let mut k = n;
-    while 0 < k {
-        if !knows_place(m, k - 1) {
+    for k in (0..n).rev() {
+        if !knows_place(m, k) {
             return false;
         }
-        k -= 1;
     }
     true
 }
 
+#[tactic(auto, unfolding(machine::specs::Words::header_in_place))]
 pub fn header_in_place(m: &[u32]) -> bool
     requires { MachineLong m.now }
     ensures { result ≡ header_in_place m.now }
 {
-    if m[0] != 0 {
-        return false;
-    }
     let n = number(m[LIVE]);
-    if SLOTS < n {
-        return false;
-    }
-    if !zero_from(m, UNUSED, 60) {
-        return false;
-    }
-    if !know_places(m, n) {
-        return false;
-    }
-    zero_from(m, ORDER + n, ORDER_WORDS - n)
+    m[0] == 0
+        && n <= SLOTS
+        && zero_from(m, UNUSED, 60)
+        && know_places(m, n)
+        && zero_from(m, ORDER + n, ORDER_WORDS - n)
 }
 
-pub fn blocks_in_place(m: &[u32], n: usize, size: usize, dues: &mut [u64; 65]) -> Test
-    requires { MachineLong m.now × (n ≤ 64) × (n ≡ get_or m.now 3 0) × (length dues.old ≡ 65) }
+pub fn blocks_in_place(m: &[u32], n: usize, size: usize, dues: &mut [u64; 65]) -> Option<u64>
+    requires { MachineLong m.now × (n ≤ 64) × (n ≡ get_or m.now 3 0) }
     ensures { (test_of result ≡ tested (blocks_in_place size m.now) (blocks_due size m.now))
-        × (length dues.new ≡ 65)
         × (blocks_in_place size m.now ≡ true → Dues size m.now dues.new)
         × (dues.new ≡ blocks_kept size m.now dues.old) }
 {
     let present = present_moment(m);
     if !zero_from(m, ENVIRONMENT_AT, 8) {
-        return Test::Fails;
+        return None;
     }
-    let Test::Passes(outer) = block_rests(m, ENVIRONMENT_AT, size, present) else {
-        return Test::Fails;
-    };
+    let outer = block_rests(m, ENVIRONMENT_AT, size, present)?;
     dues[ENVIRONMENT] = outer;
     slots_hold(m, n, present, outer, dues)
 }
 
 // All of question 7 that needs no table but the number of environment variables, with the next moment due, and the soonest of each block.
-pub fn words_in_place(m: &[u32], size: usize, dues: &mut [u64; 65]) -> Test
-    requires { MachineLong m.now × (length dues.old ≡ 65) }
+pub fn words_in_place(m: &[u32], size: usize, dues: &mut [u64; 65]) -> Option<u64>
+    requires { MachineLong m.now }
     ensures { (test_of result ≡ tested (words_in_place size m.now) (words_due size m.now))
-        × (length dues.new ≡ 65)
         × (words_in_place size m.now ≡ true → Dues size m.now dues.new)
         × (dues.new ≡ words_kept size m.now dues.old) }
 {
     if !header_in_place(m) {
-        return Test::Fails;
+        return None;
     }
     let n = number(m[LIVE]);
     blocks_in_place(m, n, size, dues)
 }
 
 // Is it the stopped form: a stop's number first, all other words 0?
+#[tactic(auto, unfolding(machine::specs::ReadMachine::stopped_words, walk::specs::Calls::is_stop))]
 pub fn stopped_words(m: &[u32]) -> bool
     requires { MachineLong m.now }
     ensures { result ≡ stopped_words m.now }
 {
     let k = m[0];
-    if k < FIRST_STOP {
-        return false;
-    }
-    if LAST_STOP < k {
-        return false;
-    }
-    zero_from(m, 1, 12287)
+    FIRST_STOP <= k && k <= LAST_STOP && zero_from(m, 1, MACHINE_WORDS - 1)
 }

@@ -12,7 +12,7 @@ use Rattle.machine.specs.Words.{environment_block, variables_in, slots_hold, hea
 use Rattle.machine.specs.Due.{due_at, words_due}
 use Rattle.machine.proofs.Basics.{and_right}
 use Rattle.machine.proofs.NextDue.{earlier_never, earlier_associative}
-use Rattle.machine_words.specs.declared.Test.TheVariants.{Passes}
+use Rattle.std.proofs.Common.{Some}
 use Rattle.machine_words.specs.Tests.{test_of, tested, slot_due_lem, slots_due, blocks_due, SlotDues, Dues}
 use Rattle.machine_words.proofs.DueOrder.{blocks_due_is_words_due}
 use Rattle.machine_words.proofs.TestLaws.{passes}
@@ -56,7 +56,7 @@ module _ (n present : ℕ) (m : List ℕ) (due : ℕ) where
       }
 
   pub slots_end : (found s : ℕ) → s ≤ 0 → SlotsLeft n present m due found s →
-      test_of (Passes found) ≡ tested (slots_hold n present m 64) (earlier (due_at due) (slots_due m 64))
+      test_of (Some found) ≡ tested (slots_hold n present m 64) (earlier (due_at due) (slots_due m 64))
   unfolding slots_hold slots_due
   slots_end found s h L =
       let z : s ≡ 0 = omega arith in

@@ -11,11 +11,11 @@ ghost use Rattle.machine_check_slots.specs.Kept.{slots_kept};
 
 use machine::{BLOCK_WORDS, BLOCKS, KEPT_UNUSED, OWN, SLOTS};
 use machine_words::due::sooner;
-use machine_words::{Test, block_rests, zero_from};
+use machine_words::{block_rests, zero_from};
 use words::{Moment, number};
 
 // Is slot s free and all 0, or does the order list of n routines lead back to it?
-pub fn slot_holds(m: &[u32], n: usize, s: usize, present: Moment) -> Test
+pub fn slot_holds(m: &[u32], n: usize, s: usize, present: Moment) -> Option<u64>
     requires { MachineLong m.now × (s < 64) × (n ≤ 64) }
     ensures { test_of result ≡ tested (slot_holds n present.0 m.now s) (slot_due_lem m.now s) }
 {
@@ -23,40 +23,41 @@ pub fn slot_holds(m: &[u32], n: usize, s: usize, present: Moment) -> Test
     let p = number(m[at]);
     if p == 0 {
         if !zero_from(m, at, BLOCK_WORDS) {
-            return Test::Fails;
+            return None;
         }
-        return Test::Passes(0);
+        return Some(0);
     }
     if n < p {
-        return Test::Fails;
+        return None;
     }
     if number(m[63 + p]) != s {
-        return Test::Fails;
+        return None;
     }
     if !zero_from(m, at + KEPT_UNUSED, 3) {
-        return Test::Fails;
+        return None;
     }
     let k = number(m[at + OWN]);
     block_rests(m, at, k, present)
 }
 
 // All slots, with the sooner of a moment due (0: none) and theirs; the soonest of each is kept.
-pub fn slots_hold(m: &[u32], n: usize, present: Moment, due: u64, dues: &mut [u64; 65]) -> Test
-    requires { MachineLong m.now × (n ≤ 64) × (length dues.old ≡ 65) }
+pub fn slots_hold(
+    m: &[u32],
+    n: usize,
+    present: Moment,
+    due: u64,
+    dues: &mut [u64; 65],
+) -> Option<u64>
+    requires { MachineLong m.now × (n ≤ 64) }
     ensures { (test_of result ≡ tested (slots_hold n present.0 m.now 64) (earlier (due_at due) (slots_due m.now 64)))
-        × (length dues.new ≡ 65)
         × (slots_hold n present.0 m.now 64 ≡ true → SlotDues 0 m.now dues.old dues.new)
         × (dues.new ≡ slots_kept n present.0 m.now 64 dues.old) }
 {
     let mut found = due;
-    let mut s: usize = SLOTS;
-    while 0 < s {
-        let Test::Passes(here) = slot_holds(m, n, s - 1, present) else {
-            return Test::Fails;
-        };
-        dues[s - 1] = here;
+    for s in (0..SLOTS).rev() {
+        let here = slot_holds(m, n, s, present)?;
+        dues[s] = here;
         found = sooner(found, here);
-        s -= 1;
     }
-    Test::Passes(found)
+    Some(found)
 }

@@ -1,12 +1,12 @@
 -- The sooner of two moments due, and one more variable of the search for the soonest.
-use Prim.Native.Nat.{ℕ, zero, suc, ◌+◌, ◌*◌, ◌-◌, ◌<◌, ◌≤◌}
+use Prim.Native.Nat.{ℕ, zero, suc, min, ◌+◌, ◌*◌, ◌-◌, ◌<◌, ◌≤◌}
 use mathlib.Core.Path.{◌≡◌, refl, sym, ◌∙◌}
 use mathlib.Core.Bool.{Bool, true, false}
 use mathlib.Core.List.{List}
 use lib.ListN.{get_or}
 use lib.Dec.{leb}
 use native.Mathlib.Omega.{arith}
-use borrow.Author.Tests.{le-leb, lt-leb}
+use borrow.Author.Tests.{le-leb, lt-leb, leb-true, leb-false}
 use Rattle.walk.specs.Instant.{moment, earlier_of, earlier, due_of, due_of_variables}
 use Rattle.machine.specs.Words.{moment_at, waiting_of, variable_in, variables_in}
 use Rattle.machine.specs.Due.{due_at}
@@ -39,6 +39,13 @@ first_sooner a b f g h = some_due a f ∙ sym (both a b f g true (le-leb a b h))
 pub second_sooner : (a b : ℕ) → (a ≡ 0 → ⊥) → (b ≡ 0 → ⊥) → b < a → due_at b ≡ earlier (due_at a) (due_at b)
 unfolding earlier_of
 second_sooner a b f g h = some_due b g ∙ sym (both a b f g false (lt-leb a b h))
+
+pub sooner_is_least : (a b : ℕ) → (a ≡ 0 → ⊥) → (b ≡ 0 → ⊥) → due_at (min a b) ≡ earlier (due_at a) (due_at b)
+sooner_is_least a b f g = go (leb a b) refl
+  where
+    go : (x : Bool) → leb a b ≡ x → due_at (min a b) ≡ earlier (due_at a) (due_at b)
+    go true e = let h = leb-true a b e in let z : min a b ≡ a = omega arith in rw z (first_sooner a b f g h)
+    go false e = let h = leb-false a b e in let z : min a b ≡ b = omega arith in rw z (second_sooner a b f g h)
 
 -- ── variables ─────────────────────────────────────────────────────────────────────────────────────
 -- the soonest so far and what is left to look at

@@ -1,19 +1,16 @@
 -- What the tests of question 7 give that look for the next moment due on the way: nothing if the test fails, else the soonest moment found.
-use Rattle.std.specs.Prelude.{◌≡◌, Bool, true, false, List, ℕ, zero, suc, ◌+◌, ◌≤◌, ◌<◌, get_or}
-use Rattle.std.proofs.Math.Option.{Option, none, some}
+use Rattle.std.specs.Prelude.{◌≡◌, Bool, true, false, List, ℕ, zero, suc, ◌+◌, ◌≤◌, ◌<◌, get_or, Option, Some, None}
 use Rattle.walk.specs.Instant.{NextDue, never, earlier, due_of_variables}
 use Rattle.machine.specs.Words.{block_at, environment_block, variables_in}
 use Rattle.machine.specs.Due.{due_at}
-use Rattle.machine_words.specs.declared.Test.{Test}
-use Rattle.machine_words.specs.declared.Test.TheVariants.{Fails, Passes}
 
-unfoldable pub test_of : Test → Option NextDue
-test_of Fails = none
-test_of (Passes t) = some (due_at t)
+unfoldable pub test_of : Option ℕ → Option NextDue
+test_of None = None
+test_of (Some t) = Some (due_at t)
 
 unfoldable pub tested : Bool → NextDue → Option NextDue
-tested true d = some d
-tested false d = none
+tested true d = Some d
+tested false d = None
 
 -- The soonest moment due in slot s; none if it is free, as its count of variables is 0 then.
 unfoldable pub slot_due_lem : List ℕ → ℕ → NextDue

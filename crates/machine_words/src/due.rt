@@ -9,6 +9,7 @@ use crate::moment_at;
 use machine::VARIABLE_WORDS;
 
 // The sooner of two moments due.
+#[tactic(auto, using(crate::proofs::DueLaws::first_none, crate::proofs::DueLaws::second_none, crate::proofs::DueLaws::sooner_is_least))]
 pub fn sooner(a: u64, b: u64) -> u64
     ensures { due_at result ≡ earlier (due_at a) (due_at b) }
 {
@@ -18,10 +19,7 @@ pub fn sooner(a: u64, b: u64) -> u64
     if b == 0 {
         return a;
     }
-    if a <= b {
-        return a;
-    }
-    b
+    a.min(b)
 }
 
 // The soonest of a moment and those of the k variables from `at` on.
@@ -30,11 +28,9 @@ pub fn sooner_of_variables(m: &[u32], at: usize, k: usize, due: u64) -> u64
     ensures { due_at result ≡ earlier (due_at due) (due_of_variables (variables_in m.now at k)) }
 {
     let mut found = due;
-    let mut i: usize = 0;
-    while i < k {
+    for i in 0..k {
         let here = moment_at(m, at + i * VARIABLE_WORDS + 2);
         found = sooner(found, here);
-        i += 1;
     }
     found
 }

@@ -15,21 +15,21 @@ returns-then-stopped_words c =
       kept = stopped_leaves _ _ _ (sym c.stopped_words.ensures ∙ c.if-stopped_words.true);
     }
 
-pub returns-in-Fails : goal.returns-in-Fails
-returns-in-Fails c =
+pub returns-in-None : goal.returns-in-None
+returns-in-None c =
     record {
-      answer = answer_none _ _ (sym c.stopped_words.ensures ∙ c.if-stopped_words.false) (has_failed _ _ _ c.running_words.ensures.0 c.in-Fails.is);
+      answer = answer_none _ _ (sym c.stopped_words.ensures ∙ c.if-stopped_words.false) (has_failed _ _ _ c.running_words.ensures.0 c.in-None.is);
       each = λ d e. none_not_running e;
-      places = c.running_words.ensures.1;
-      kept = c.running_words.ensures.3 ∙ tests_leave _ _ _ (sym c.stopped_words.ensures ∙ c.if-stopped_words.false);
+      places = search rules;
+      kept = c.running_words.ensures.2 ∙ tests_leave _ _ _ (sym c.stopped_words.ensures ∙ c.if-stopped_words.false);
     }
 
-pub returns-in-Passes : goal.returns-in-Passes
-returns-in-Passes c =
-    let p = has_passed _ _ _ _ c.running_words.ensures.0 c.in-Passes.is in
+pub returns-in-Some : goal.returns-in-Some
+returns-in-Some c =
+    let p = has_passed _ _ _ _ c.running_words.ensures.0 c.in-Some.is in
     record {
       answer = answer_running _ _ _ (λ i. omega (arith, c.type_inv.m i)) (sym c.stopped_words.ensures ∙ c.if-stopped_words.false) p.0 p.1;
-      each = λ d e. c.running_words.ensures.2 p.0;
-      places = c.running_words.ensures.1;
-      kept = c.running_words.ensures.3 ∙ tests_leave _ _ _ (sym c.stopped_words.ensures ∙ c.if-stopped_words.false);
+      each = λ d e. c.running_words.ensures.1 p.0;
+      places = search rules;
+      kept = c.running_words.ensures.2 ∙ tests_leave _ _ _ (sym c.stopped_words.ensures ∙ c.if-stopped_words.false);
     }

@@ -5,6 +5,3 @@ use Rattle.machine_check_records.proofs.know_places.Given as goal
 
 abbrev pub invariant-loop-k : goal.invariant-loop-k
 invariant-loop-k l = (l.k ≤ l.n) × (know_places l.m l.k ≡ know_places l.m l.n)
-
-abbrev pub decreases-loop-k : goal.decreases-loop-k
-decreases-loop-k l = l.k

@@ -14,7 +14,7 @@ returns-then-not-header_in_place c =
     let a = c.args in
     let h : header_in_place a.m.now ≡ false = sym c.header_in_place.ensures ∙ c.if-not-header_in_place.true in
     let no = header_unfit a.size a.m.now h in
-    (fails _ _ no, search rules, not_both no, header_fails _ _ _ h)
+    (fails _ _ no, not_both no, header_fails _ _ _ h)
 
 pub blocks_in_place-requires : goal.blocks_in_place-requires
 blocks_in_place-requires c =
@@ -25,4 +25,4 @@ pub returns : goal.returns
 returns c =
     let h = sym c.header_in_place.ensures ∙ c.if-not-header_in_place.false in
     let b = c.blocks_in_place.ensures in
-    (b.0 ∙ words_by_blocks _ _ h, b.1, λ e. b.2 (blocks_of_words _ _ e), b.3 ∙ header_passes _ _ _ h)
+    (b.0 ∙ words_by_blocks _ _ h, λ e. b.1 (blocks_of_words _ _ e), b.2 ∙ header_passes _ _ _ h)

@@ -9,6 +9,3 @@ abbrev pub invariant-loop-s : goal.invariant-loop-s
 invariant-loop-s l =
     SlotsLeft l.n l.present.0 l.m l.due l.found l.s × (length l.dues ≡ 65) × SlotDues l.s l.m l.initial.dues l.dues
     × (slots_kept l.n l.present.0 l.m l.s l.dues ≡ slots_kept l.n l.present.0 l.m 64 l.initial.dues)
-
-abbrev pub decreases-loop-s : goal.decreases-loop-s
-decreases-loop-s l = l.s

@@ -5,6 +5,7 @@ use mathlib.Core.List.{List, [], ◌∷◌}
 use Prim.Native.Nat.{ℕ, zero, suc, ◌+◌, ◌-◌, ◌<◌, ◌≤◌}
 use lib.ListN.{length, get_or, drop, length-drop, drop_of_length-le}
 use lib.Seq.{drop-cons, get_or-drop}
+use Rattle.std.proofs.Common.{Option, None}
 use borrow.Author.Tests.{eq-eqb, ne_eqb, eqb-true, ltb-true, le-leb, lt-leb}
 use native.Mathlib.Omega.{arith}
 use native.Mathlib.Numerals.{add-one}
@@ -16,12 +17,12 @@ use Rattle.machine.specs.Records.{Frame, level_fits, asleep_at, made_by_first, c
 use Rattle.machine.specs.Words.{block_at, moment_at, slot_of, record_in, records_in}
 use Rattle.machine.proofs.PassingWordsHold.{length-variables_in}
 use Rattle.table_child_fields.specs.Tables.{HeadsFit, Seen, at_wait, at_fork, at_other}
-use Rattle.table_child_fields.specs.Picking.{no_maker, maker_of}
+use Rattle.table_child_fields.specs.Picking.{maker_of}
 use Rattle.table_child_fields.specs.declared.pick.Maker.{Maker}
-use Rattle.machine_check_paths.specs.Scan.{whole, record_of, scan_after, Ready, Heads, Stack, bottom, above, Going, Caller, Made, maker_for}
+use Rattle.machine_check_paths.specs.Scan.{whole, fields_at, record_of, scan_after, Ready, Heads, Stack, bottom, above, Going, Caller, Made, maker_for}
 use Rattle.machine_check_paths.specs.declared.path.Path.{Path}
 use Rattle.table_child_fields.proofs.TableLaws.{head_after_add}
-use Rattle.table_child_fields.proofs.PickLaws.{no_clash, Missing, too_low, too_high, Chosen, Picked}
+use Rattle.table_child_fields.proofs.PickLaws.{none_is_no, Missing, too_low, too_high, Chosen, Picked}
 use Rattle.table.proofs.Reach.{calls_count}
 
 -- ── heads ─────────────────────────────────────────────────────────────────────────────────────────
@@ -49,15 +50,15 @@ fork_heads w a n f = record { size = calls_count w n a; callee = calls_by_head w
 -- ── frames ────────────────────────────────────────────────────────────────────────────────────────
 -- two paths agree at a level
 abbrev pub Agree : Path → Path → ℕ → Type 0
-Agree q p i = (get_or q.next i 0 ≡ get_or p.next i 0) × (get_or q.head i 0 ≡ get_or p.head i 0) × (get_or q.left i 0 ≡ get_or p.left i 0)
+Agree q p i = fields_at q i ≡ fields_at p i
 
 -- only what stands below the number of frames matters
 pub keep : (w : List ℕ) (p q : Path) (n : ℕ) → ((i : ℕ) → i < n → Agree q p i) →
     (frames : List Frame) → length frames ≤ n → Stack w p frames → Stack w q frames
 keep w p q n f [] l bottom = bottom
 keep w p q n f (x ∷ outer) l (above h e s) =
-    let (a, b, c) = f (length outer) (omega arith) in
-    above {f = x} {outer = outer} (rw (b, c) h) (e ∙ sym a) (keep w p q n f outer (omega arith) s)
+    let a = f (length outer) (omega arith) in
+    above {f = x} {outer = outer} (rw a h) (e ∙ sym (ap (λ u. u.next) a)) (keep w p q n f outer (omega arith) s)
 
 shed : (w : List ℕ) (p : Path) (k : ℕ) (frames : List Frame) → Stack w p frames → Stack w p (drop k frames)
 shed w p zero frames s = s
@@ -68,16 +69,16 @@ shed w p (suc k) (x ∷ outer) (above h e s) = shed w p k outer s
 pub record Level (w : List ℕ) (p : Path) (frames : List Frame) (level : ℕ) : Type 0 where
   pub calls : List Call
   pub outer : List Frame
-  pub is : drop (length frames - suc level) frames ≡ record { next = get_or p.next level 0; calls = calls } ∷ outer
+  pub is : drop (length frames - suc level) frames ≡ record { next = (fields_at p level).next; calls = calls } ∷ outer
   pub size : length outer ≡ level
-  pub heads : Heads w calls (get_or p.head level 0) (get_or p.left level 0)
+  pub heads : Heads w calls (fields_at p level).head (fields_at p level).left
   pub rest : Stack w p outer
 
 level_of : (w : List ℕ) (p : Path) (frames st : List Frame) (level : ℕ) → drop (length frames - suc level) frames ≡ st → length st ≡ suc level → Stack w p st → Level w p frames level
 level_of w p frames [] level e n s = absurd (let z : ⊥ = omega arith in z)
 level_of w p frames (x ∷ outer) level e n (above h q s) =
     let z : length outer ≡ level = omega arith in
-    record { calls = x.calls; outer = outer; is = e ∙ ap (λ k. record { next = k; calls = x.calls } ∷ outer) (q ∙ ap (λ k. get_or p.next k 0) z); size = z; heads = rw z at h; rest = s }
+    record { calls = x.calls; outer = outer; is = e ∙ ap (λ k. record { next = k; calls = x.calls } ∷ outer) (q ∙ ap (λ k. (fields_at p k).next) z); size = z; heads = rw z at h; rest = s }
 
 pub level_frame : (w : List ℕ) (p : Path) (frames : List Frame) (level : ℕ) → level < length frames → Stack w p frames → Level w p frames level
 level_frame w p frames level h s = level_of w p frames _ level refl (simp length-drop (omega arith)) (shed w p (length frames - suc level) frames s)
@@ -107,31 +108,31 @@ module _ (w m : List ℕ) (k : ℕ) (p : Path) (within : k < get_or m 3 0) (G : 
     fits_frames = rw G.depth at fits
 
     in_frame : child_of_frame (table_listing w) (moment_at m 1) (record_of m k) (scan_after w m k)
-        (record { next = get_or p.next (record_of m k).level 0; calls = frame.calls } ∷ frame.outer) ≡ whole w m
+        (record { next = (fields_at p (record_of m k).level).next; calls = frame.calls } ∷ frame.outer) ≡ whole w m
     unfolding scan
     in_frame =
         let old : child_of_frame (table_listing w) (moment_at m 1) (record_of m k) (scan_after w m k) (drop (length G.frames - suc (record_of m k).level) G.frames) ≡ whole w m =
         rw (next_record, fits_frames) at G.law in
         rw frame.is at old
 
-    missing_child : (next left child : ℕ) → next ≡ get_or p.next (record_of m k).level 0 → left ≡ get_or p.left (record_of m k).level 0 → child ≡ (record_of m k).child →
+    missing_child : (next left child : ℕ) → next ≡ (fields_at p (record_of m k).level).next → left ≡ (fields_at p (record_of m k).level).left → child ≡ (record_of m k).child →
         Missing next left child → whole w m ≡ false
     unfolding child_of_frame made_by_first
     missing_child next left child a b c (too_low h) =
-        sym in_frame ∙ rw (lt-leb (get_or p.next (record_of m k).level 0) (record_of m k).child (rw (← a, ← c) h))
+        sym in_frame ∙ rw (lt-leb (fields_at p (record_of m k).level).next (record_of m k).child (rw (← a, ← c) h))
     missing_child next left child a b c (too_high h l) =
-        let low : get_or p.next (record_of m k).level 0 ≤ (record_of m k).child = rw (← a, ← c) h in
-        let none : drop ((record_of m k).child - get_or p.next (record_of m k).level 0) frame.calls ≡ [] =
-        drop_of_length-le frame.calls {i = (record_of m k).child - get_or p.next (record_of m k).level 0} (rw (frame.heads.size, ← b, ← a, ← c) l) in
+        let low : (fields_at p (record_of m k).level).next ≤ (record_of m k).child = rw (← a, ← c) h in
+        let none : drop ((record_of m k).child - (fields_at p (record_of m k).level).next) frame.calls ≡ [] =
+        drop_of_length-le frame.calls {i = (record_of m k).child - (fields_at p (record_of m k).level).next} (rw (frame.heads.size, ← b, ← a, ← c) l) in
         sym in_frame ∙ rw (le-leb _ _ low, none)
 
-    chosen_child : (next left child routine head rest : ℕ) → next ≡ get_or p.next (record_of m k).level 0 → left ≡ get_or p.left (record_of m k).level 0 → child ≡ (record_of m k).child →
-        Chosen w (get_or p.head (record_of m k).level 0) left next child routine head rest → Caller w m k p routine head rest
+    chosen_child : (next left child routine head rest : ℕ) → next ≡ (fields_at p (record_of m k).level).next → left ≡ (fields_at p (record_of m k).level).left → child ≡ (record_of m k).child →
+        Chosen w (fields_at p (record_of m k).level).head left next child routine head rest → Caller w m k p routine head rest
     unfolding child_of_frame
     chosen_child next left child routine head rest a b c C =
-        let n0 = get_or p.next (record_of m k).level 0 in
-        let h0 = get_or p.head (record_of m k).level 0 in
-        let l0 = get_or p.left (record_of m k).level 0 in
+        let n0 = (fields_at p (record_of m k).level).next in
+        let h0 = (fields_at p (record_of m k).level).head in
+        let l0 = (fields_at p (record_of m k).level).left in
         let s = (record_of m k).child - n0 in
         let low : n0 ≤ (record_of m k).child = rw (← a, ← c) C.low in
         let high : s < l0 = rw (← a, ← b, ← c) C.high in
@@ -152,19 +153,19 @@ module _ (w m : List ℕ) (k : ℕ) (p : Path) (within : k < get_or m 3 0) (G : 
           law = rw (le-leb n0 (record_of m k).child low, split) at in_frame;
         }
       where
-        after_chosen : (s : ℕ) → s < get_or p.left (record_of m k).level 0 → head ≡ head_after w (get_or p.head (record_of m k).level 0) (s + 1) →
-            rest ≡ get_or p.left (record_of m k).level 0 - s - 1 → Heads w (drop (suc s) frame.calls) head rest
+        after_chosen : (s : ℕ) → s < (fields_at p (record_of m k).level).left → head ≡ head_after w (fields_at p (record_of m k).level).head (s + 1) →
+            rest ≡ (fields_at p (record_of m k).level).left - s - 1 → Heads w (drop (suc s) frame.calls) head rest
         after_chosen s h f g =
-            let q : get_or p.left (record_of m k).level 0 - s - 1 ≡ get_or p.left (record_of m k).level 0 - suc s = omega arith in
-            rw (f, g, add-one s, q) (heads_after w frame.calls (get_or p.head (record_of m k).level 0) (get_or p.left (record_of m k).level 0) (suc s) frame.heads h)
+            let q : (fields_at p (record_of m k).level).left - s - 1 ≡ (fields_at p (record_of m k).level).left - suc s = omega arith in
+            rw (f, g, add-one s, q) (heads_after w frame.calls (fields_at p (record_of m k).level).head (fields_at p (record_of m k).level).left (suc s) frame.heads h)
 
     -- the look for the child field answers for the record
-    pub picked_made : (next left first child : ℕ) (r : Maker) → next ≡ get_or p.next (record_of m k).level 0 →
-        left ≡ get_or p.left (record_of m k).level 0 → first ≡ get_or p.head (record_of m k).level 0 → child ≡ (record_of m k).child →
+    pub picked_made : (next left first child : ℕ) (r : Option Maker) → next ≡ (fields_at p (record_of m k).level).next →
+        left ≡ (fields_at p (record_of m k).level).left → first ≡ (fields_at p (record_of m k).level).head → child ≡ (record_of m k).child →
         Picked w first left next child r → Made w m k p r
     picked_made next left first child r a b f c P = record {
       no_maker_lem = λ e. missing_child next left child a b c (P.no_maker_lem e);
-      a_maker = λ e. chosen_child next left child _ _ _ a b c (rw f at (P.a_maker e));
+      a_maker = λ made e. chosen_child next left child _ _ _ a b c (rw f at (P.a_maker made e));
     }
 
 -- ── what comes after a record ─────────────────────────────────────────────────────────────────────
@@ -213,19 +214,19 @@ pub place_from_lem : (m : List ℕ) (k at place : ℕ) → at ≡ block_at (slot
 place_from_lem m k at place a e = e ∙ ap (λ u. get_or m (u + 3) 0) a ∙ sym (place_word m k)
 
 -- ── answers ───────────────────────────────────────────────────────────────────────────────────────
-pub no_maker_made : (w m : List ℕ) (k : ℕ) (p : Path) (r : Maker) → r.found ≡ false → whole w m ≡ false → Made w m k p r
-no_maker_made w m k p r e h = record { no_maker_lem = λ z. h; a_maker = λ z. no_clash e z }
+pub no_maker_made : (w m : List ℕ) (k : ℕ) (p : Path) (r : Option Maker) → r ≡ None → whole w m ≡ false → Made w m k p r
+no_maker_made w m k p r e h = record { no_maker_lem = λ z. h; a_maker = λ made z. none_is_no (sym e ∙ z) }
 
-pub maker_unfit : (w m : List ℕ) (k : ℕ) (p : Path) → level_fits p.forked (record_of m k).level p.depth ≡ false → no_maker ≡ maker_for w m k p
+pub maker_unfit : (w m : List ℕ) (k : ℕ) (p : Path) → level_fits p.forked (record_of m k).level p.depth ≡ false → None ≡ maker_for w m k p
 unfolding maker_for
 maker_unfit w m k p e = rw e
 
 pub maker_fit : (w m : List ℕ) (k : ℕ) (p : Path) (level child : ℕ) → level ≡ (record_of m k).level → child ≡ (record_of m k).child → level_fits p.forked level p.depth ≡ true →
-    maker_of w (get_or p.head level 0) (get_or p.left level 0) (get_or p.next level 0) child ≡ maker_for w m k p
+    maker_of w (fields_at p level).head (fields_at p level).left (fields_at p level).next child ≡ maker_for w m k p
 unfolding maker_for
 maker_fit w m k p level child a b e = rw (← a, ← b, e)
 
-pub frame_fits : (w m : List ℕ) (k : ℕ) (p : Path) (level : ℕ) → Going w m k p → level < p.depth → HeadsFit w (get_or p.head level 0) (get_or p.left level 0)
+pub frame_fits : (w m : List ℕ) (k : ℕ) (p : Path) (level : ℕ) → Going w m k p → level < p.depth → HeadsFit w (fields_at p level).head (fields_at p level).left
 frame_fits w m k p level G h = (level_frame w p G.frames level (rw (← G.depth) h) G.stack).heads.fit
 
 pub size_from : (m : List ℕ) (k at n : ℕ) → at ≡ block_at (slot_of m k) → n ≡ get_or m (at + 4) 0 → n ≡ length (record_of m k).own

@@ -3,4 +3,4 @@
 
 pub mod path;
 
-pub use path::{Path, block_of, refused, settle};
+pub use path::{Path, block_of, settle};

@@ -1,29 +1,26 @@
-// A path holds, for each level above the place that the scan has come to, the child fields of which children may still come:
-// the number of the first, the address of its head, how many are left. Here it goes past a record of the right size.
+// A path holds, for each level above the place that the scan has come to, the child fields of which children may still come;
+// here it goes past a record of the right size.
 ghost use Rattle.std.specs.Prelude.{◌≡◌, ◌+◌, ◌<◌, ◌≤◌, length, get_or};
 ghost use Rattle.table.specs.Areas.{TableLong};
 ghost use Rattle.walk.specs.Question7.{owned_by};
 ghost use Rattle.table.specs.Decode.{table_listing};
 ghost use Rattle.machine.specs.Words.{block_at, slot_of, MachineLong};
 ghost use Rattle.machine_check_paths.specs.Scan.{Ready, Going, Caller, Stepped, record_of};
-ghost use Rattle.machine_check_paths.specs.Scan.{refused_path, entered_path, pushed_path, settled_path};
+ghost use Rattle.machine_check_paths.specs.Scan.{entered_path, pushed_path, settled_path};
 
 use machine::{BLOCK_WORDS, BLOCKS, CHILD, LEVEL, ORDER, PLACE};
 use table::{FORK, WAIT};
-use table_child_fields::pick::Maker;
+use table_child_fields::pick::{Coming, Maker};
 use table_child_fields::routines::line_at;
 use words::number;
 
-#[derive(Clone, Copy)]
+// The path of a list that passes so far.
+#[derive(Clone, Copy, Debug, PartialEq, Eq)]
 pub struct Path {
-    // Does the list pass so far?
-    pub good: bool,
     // Is the last record at an `F`, so that a child of it comes next?
     pub forked: bool,
     pub depth: usize,
-    pub next: [usize; 11],
-    pub head: [usize; 11],
-    pub left: [usize; 11],
+    pub levels: [Coming; 11],
 }
 
 // The address of the k-th routine's block.
@@ -34,26 +31,19 @@ pub fn block_of(m: &[u32], k: usize) -> usize
     BLOCKS + number(m[ORDER + k]) * BLOCK_WORDS
 }
 
-pub fn refused(p: Path) -> Path
-    ensures { result ≡ refused_path p }
-{
-    let mut q = p;
-    q.good = false;
-    q
-}
-
 // The record of a child: the child fields after its own may still come.
-fn entered(p: Path, level: usize, child: usize, head: usize, left: usize) -> Path
+fn entered(p: Path, level: usize, child: usize, made: Maker) -> Path
     requires { (level < 11) × (child < 4294967296) }
-    ensures { result ≡ entered_path p level child head left }
+    ensures { result ≡ entered_path p level child made.head made.left }
 {
     let mut q = p;
-    q.good = true;
     q.forked = false;
     q.depth = level + 1;
-    q.next[level] = child + 1;
-    q.head[level] = head;
-    q.left[level] = left;
+    q.levels[level] = Coming {
+        next: child + 1,
+        head: made.head,
+        left: made.left,
+    };
     q
 }
 
@@ -65,14 +55,17 @@ fn pushed(p: Path, level: usize, cells: usize, count: usize) -> Path
     let mut q = p;
     q.forked = true;
     q.depth = level + 2;
-    q.next[level + 1] = 0;
-    q.head[level + 1] = cells;
-    q.left[level + 1] = count;
+    q.levels[level + 1] = Coming {
+        next: 0,
+        head: cells,
+        left: count,
+    };
     q
 }
 
 // A record of the right size: is its routine asleep?
-pub fn settle(t: &[u32], m: &[u32], k: usize, p: Path, made: Maker) -> Path
+// t, m, k and p go together here and in the tree's step; they are no struct, since `Going`, which ties them and names the frames, cannot be a ghost field.
+pub fn settle(t: &[u32], m: &[u32], k: usize, p: Path, made: Maker) -> Option<Path>
     requires { TableLong t.now × MachineLong m.now × (k < get_or m.now 3 0) × Ready t.now m.now × Going t.now m.now k p × Caller t.now m.now k p made.routine made.head made.left × (length (record_of m.now k).own ≡ owned_by (table_listing t.now) made.routine) }
     ensures { (result ≡ settled_path t.now m.now k p made) × Stepped t.now m.now (k + 1) result }
 {
@@ -80,17 +73,17 @@ pub fn settle(t: &[u32], m: &[u32], k: usize, p: Path, made: Maker) -> Path
     let level = number(m[at + LEVEL]);
     let child = number(m[at + CHILD]);
     let place = number(m[at + PLACE]);
-    let q = entered(p, level, child, made.head, made.left);
+    let q = entered(p, level, child, made);
     let line = line_at(t, made.routine, place);
     let kind = line.kind;
     if kind == WAIT {
-        return q;
+        return Some(q);
     }
     if kind != FORK {
-        return refused(p);
+        return None;
     }
     if 9 < level {
-        return refused(p); // its children would be at level 11
+        return None; // its children would be at level 11
     }
-    pushed(q, level, line.cells, line.first)
+    Some(pushed(q, level, line.cells, line.first))
 }

@@ -19,13 +19,11 @@ pub fn owned_by(t: &[u32], r: usize) -> usize
     let arguments = number(t[at]);
     let mut bits = number(t[at + KIND_BITS]);
     let mut owned = number(t[at + LOCALS]);
-    let mut k: usize = 0;
-    while k < arguments {
+    for _ in 0..arguments {
         if bits % 2 != 1 {
             owned += 1;
         }
         bits /= 2;
-        k += 1;
     }
     owned
 }

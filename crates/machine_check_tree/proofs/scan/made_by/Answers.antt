@@ -1,38 +1,24 @@
 -- `machine_check_tree::scan::made_by` meets its contract.
 use Prim.Native.Nat.{◌<◌}
-use mathlib.Core.Path.{◌≡◌, sym, ap, ◌∙◌}
-use lib.ListN.{get_or}
+use mathlib.Core.Path.{◌≡◌, refl, sym, ap, ◌∙◌}
 use native.Mathlib.Omega.{arith}
-use Rattle.machine_check_paths.specs.Scan.{record_of}
+use Rattle.machine_check_paths.specs.Scan.{record_of, fields_at}
 use Rattle.machine_check_paths.proofs.ScanLaws.{level_below, level_unfit, picked_made, level_from, child_from, no_maker_made, frame_fits, maker_unfit, maker_fit}
 use Rattle.table_child_fields.proofs.PickLaws.{picked}
 use Rattle.machine_check_tree.proofs.scan.made_by.Goals as goal
-
-pub block_of-at-requires : goal.block_of-at-requires
-block_of-at-requires c = (c.requires.1, omega (arith, c.requires.3.few, c.requires.2), c.requires.3.slot c.args.k c.requires.2)
 
 pub returns-then-not-level_fits : goal.returns-then-not-level_fits
 returns-then-not-level_fits c =
     let a = c.args in
     let e : c.number-level.result ≡ (record_of a.m.now a.k).level = level_from a.m.now a.k _ _ c.block_of-at.ensures.0 c.number-level.ensures.0 in
     let h = rw e at (sym c.level_fits.ensures ∙ c.if-not-level_fits.true) in (
-      c.no_maker.ensures ∙ maker_unfit _ _ _ _ h,
-      no_maker_made _ _ _ _ _ (ap (λ x. x.found) c.no_maker.ensures)
+      maker_unfit _ _ _ _ h,
+      no_maker_made _ _ _ _ _ refl
           (level_unfit a.t.now a.m.now a.k a.p c.requires.2 c.requires.4 h),
     )
 
 pub bounds-p-level : goal.bounds-p-level
 bounds-p-level c =
-    let b : c.number-level.result < c.args.p.depth = level_below _ _ _ (sym c.level_fits.ensures ∙ c.if-not-level_fits.false) in
-    omega (arith, b, c.requires.4.room)
-
-pub bounds-p-level-2 : goal.bounds-p-level-2
-bounds-p-level-2 c =
-    let b : c.number-level.result < c.args.p.depth = level_below _ _ _ (sym c.level_fits.ensures ∙ c.if-not-level_fits.false) in
-    omega (arith, b, c.requires.4.room)
-
-pub bounds-p-level-3 : goal.bounds-p-level-3
-bounds-p-level-3 c =
     let b : c.number-level.result < c.args.p.depth = level_below _ _ _ (sym c.level_fits.ensures ∙ c.if-not-level_fits.false) in
     omega (arith, b, c.requires.4.room)
 
@@ -50,5 +36,5 @@ returns c =
     let h = sym c.level_fits.ensures ∙ c.if-not-level_fits.false in (
       c.pick.ensures ∙ maker_fit _ _ _ _ _ _ e f h,
       picked_made a.t.now a.m.now a.k a.p c.requires.2 c.requires.4 (rw e at h)
-          _ _ _ _ _ (ap (λ u. get_or a.p.next u 0) e) (ap (λ u. get_or a.p.left u 0) e) (ap (λ u. get_or a.p.head u 0) e) f (rw c.pick.ensures (picked _ _ _ _ _)),
+          _ _ _ _ _ (ap (λ u. (fields_at a.p u).next) e) (ap (λ u. (fields_at a.p u).left) e) (ap (λ u. (fields_at a.p u).head) e) f (rw c.pick.ensures (picked _ _ _ _ _)),
     )

@@ -11,12 +11,6 @@ returns-then-lines-place c =
     let h : word c.args.t.now (8 + 5 * c.args.r + 4) ≤ c.args.place = omega (arith, c.number-lines.ensures.0, c.if-lines-place.true) in
     (line_past_lem _ _ _ h, past_the_end c.args.t.now c.requires.2 c.args.r c.requires.1 c.args.place h)
 
-pub fetch-requires : goal.fetch-requires
-fetch-requires c =
-    let b = c.requires.2.code c.args.r c.requires.1 in
-    let h : c.args.place < word c.args.t.now (8 + 5 * c.args.r + 4) = omega (arith, c.number-lines.ensures.0, c.if-lines-place.false) in
-    (c.requires.0, (omega (arith, c.requires.1, c.requires.2.most), omega (arith, b, h)))
-
 pub returns : goal.returns
 returns c =
     let a = c.args in

@@ -4,3 +4,4 @@ pub mod InBlocks
 pub mod RowChanges
 pub mod Staying
 pub mod Queued
+pub mod Filled

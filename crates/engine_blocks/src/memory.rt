@@ -27,9 +27,6 @@ pub fn clear_words(m: &mut [u32], s: usize, from: usize, to: usize)
     requires { HasMachine m.old × (s ≤ 64) × (from ≤ to) × (to ≤ 184) }
     ensures { InBlock s m.old m.new (cleared from to (block m.old s)) }
 {
-    let mut offset = from;
-    while offset < to {
-        put_word(m, s, offset, 0);
-        offset += 1;
-    }
+    let start = BLOCKS + s * BLOCK_WORDS;
+    m[start + from..start + to].fill(0);
 }

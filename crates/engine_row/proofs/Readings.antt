@@ -10,10 +10,7 @@ use Rattle.engine_rows.specs.Rows.{Row}
 use Rattle.engine_blocks.proofs.RowChanges.{row_of}
 use Rattle.engine_blocks.specs.Blocks.{block, nonzero, row_at, rows_of}
 
--- A field of a row is read off its block.
-pub field_read : {A : Type 0} (field : Row → A) (words : List ℕ) (s : ℕ) → s < 64 → field (row_at (block words s)) ≡ field (rows_of words s)
-field_read field words s h = ap field (sym (row_of words s h))
-
+-- A word read as yes or no.
 pub nonzero_test : (n : ℕ) → not (eqb n 0) ≡ nonzero n
 unfolding nonzero
 nonzero_test zero = refl

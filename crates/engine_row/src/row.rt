@@ -1,4 +1,6 @@
-// The fields of a slot's row.
+// The fields of a slot's row. (One function for each: what tells them apart is the field of the row that the contract names.)
+#![tactic(auto, using(engine_blocks::proofs::RowChanges::row_of, crate::proofs::Readings::nonzero_test), unfolding(engine_blocks::specs::Blocks::row_at))]
+
 ghost use Rattle.std.specs.Prelude.{◌≡◌, min};
 ghost use Rattle.machine.specs.Words.{AtSlot};
 ghost use Rattle.engine_blocks.specs.Blocks.{block, rows_of};
@@ -24,7 +26,7 @@ pub fn asleep(m: &[u32], s: usize) -> bool
     word_at(m, s, ASLEEP) != 0
 }
 
-// The parent's slot; main's is 64.
+// The parent's slot; main's is 64. (No Option: the `parent` of the contract's row is this number.)
 pub fn parent(m: &[u32], s: usize) -> usize
     requires { AtSlot m.now s }
     ensures { result ≡ (rows_of m.now s).parent }
@@ -102,9 +104,5 @@ pub fn own_count(m: &[u32], s: usize) -> usize
     requires { AtSlot m.now s }
     ensures { result ≡ min (block m.now s 4) 16 }
 {
-    let count = word_at(m, s, OWN);
-    if count < 16 {
-        return count as usize;
-    }
-    16
+    word_at(m, s, OWN).min(16) as usize
 }

@@ -1,29 +1,27 @@
 -- `engine_blocks::memory::clear_words` meets its contract.
-use mathlib.Core.Path.{◌≡◌}
-use Prim.Native.Nat.{◌≤◌, ◌-◌}
-use native.Mathlib.Numerals.{add-one}
+use mathlib.Core.List.{List}
+use mathlib.Core.Path.{◌≡◌, refl, sym, ap, ◌∙◌}
+use Prim.Native.Nat.{ℕ, ◌+◌, ◌-◌, ◌≤◌}
 use native.Mathlib.Omega.{arith}
+use lib.ListN.{length, replicate}
 use borrow.Author.Rules.{rules}
-use Rattle.engine_blocks.proofs.InBlocks.{in_block_start, in_block_put_then}
-use Rattle.engine_blocks.proofs.Puts.{cleared_none, cleared_next}
+use borrow.Rule.Slice.PartMut.{mid_of, put_mid, same_len_mid, mid_len}
+use Rattle.machine.specs.Words.{block_at}
+use Rattle.engine_blocks.proofs.Filled.{in_block_filled}
 use Rattle.engine_blocks.specs.Blocks.{block}
 use Rattle.engine_blocks.specs.Changes.{InBlock, cleared}
 use Rattle.engine_blocks.proofs.memory.clear_words.Goals as goal
 
-pub loop-offset-init : goal.loop-offset-init
-loop-offset-init c =
-    let a = c.args in
-    (search rules, search rules, rw (cleared_none a.from (block a.m.now a.s)) (in_block_start a.m.now a.s))
-
-pub loop-offset-preserved : goal.loop-offset-preserved
-loop-offset-preserved c =
-    let a = c.args in
-    let v = c.loop-offset in
-    let p = in_block_put_then v.offset 0 v.invariant.2 c.put_word.ensures in
-    (search rules, search rules, rw (add-one, ← cleared_next a.from v.offset (block a.m.now a.s) (search rules)) p)
-
 pub returns : goal.returns
 returns c =
-    let v = c.loop-offset in
-    let z : v.offset ≡ c.args.to = omega arith in
-    rw z at v.invariant.2
+    let a = c.args in
+    let m = a.m.now in
+    let start = block_at a.s in
+    let first = start + a.from in
+    let k = start + a.to - first in
+    let room : start + 184 ≤ length m = search rules in
+    let low : first ≤ start + a.to = omega arith in
+    let last : first + k ≡ start + a.to = omega arith in
+    let new = c.fill.ensures.after (λ y h. h) ∙ ap (λ (n : ℕ). replicate n 0) (mid_len first (start + a.to) m (omega arith)) in
+    let size = same_len_mid first k m c.fill.new.self c.fill.ensures.len in
+    rw new (in_block_filled m a.s a.from a.to first k (search rules) (search rules) room refl last (rw new at size))

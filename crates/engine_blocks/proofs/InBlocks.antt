@@ -8,11 +8,9 @@ use lib.ListN.{length, get_or, set, take, drop, length-set, length-take, length-
 use lib.Seq.{get_or-set_same, get_or-set_other, get_or-take, get_or-drop, ext_get_or}
 use borrow.Author.Tests.{lt-ltb, le-ltb}
 use Rattle.machine.specs.Words.{block_at}
-use Rattle.engine_rows.specs.Rows.{Row}
 use Rattle.engine_blocks.proofs.Puts.{put_same, put_other}
 use Rattle.engine_blocks.specs.Blocks.{Block, block}
 use Rattle.engine_blocks.specs.Changes.{SameOutside, SameTriggers, InBlock, put_in}
-use Rattle.engine_blocks.specs.Store.{Store}
 
 -- ── words of a block ──────────────────────────────────────────────────────────────────────────────
 pub block_word : (words : List ℕ) (s offset : ℕ) → offset < 184 → block words s offset ≡ get_or words (block_at s + offset) 0

@@ -11,7 +11,7 @@ use Rattle.engine_blocks.proofs.Puts.{put_other, cleared_above}
 use Rattle.engine_blocks.proofs.Tabulated.{tabulate_same}
 use Rattle.engine_blocks.specs.Blocks.{Block, block, nonzero, variable_in, variables_in, owner_in, bindings_in, row_at, rows_of, environment_of}
 use Rattle.engine_blocks.specs.Changes.{InBlock, Changes, put_in, cleared, placed_block}
-use Rattle.engine_blocks.specs.Store.{Store, store_of, with_slot}
+use Rattle.engine_blocks.specs.Store.{store_of, with_slot}
 use Rattle.engine_blocks.specs.Tabulate.{tabulate_from}
 
 -- ── rows by slot ──────────────────────────────────────────────────────────────────────────────────

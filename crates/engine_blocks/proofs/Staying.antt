@@ -4,13 +4,12 @@ use mathlib.Core.Path.{◌≡◌, refl, sym, ap, ◌∙◌, fun_ext}
 use Prim.Native.Nat.{ℕ, ◌≤◌, ◌<◌}
 use native.Mathlib.Decide.{ℕ_discrete, dec_lt}
 use native.Mathlib.Omega.{arith}
-use Rattle.engine_rows.specs.Rows.{Row}
 use Rattle.engine_blocks.proofs.InBlocks.{other_block}
 use Rattle.engine_blocks.proofs.Puts.{put_other}
 use Rattle.engine_blocks.proofs.RowChanges.{row_of, row_past, variables_same, bindings_same}
 use Rattle.engine_blocks.specs.Blocks.{Block, block, row_at, rows_of, environment_of}
 use Rattle.engine_blocks.specs.Changes.{SameOutside, SameTriggers, SameRows, InBlock, put_in}
-use Rattle.engine_blocks.specs.Store.{Store, store_of}
+use Rattle.engine_blocks.specs.Store.{store_of}
 
 module _ {a b c : List ℕ} where
   pub outside_then : SameOutside a b → SameOutside b c → SameOutside a c

@@ -10,6 +10,7 @@ ghost use Rattle.engine_blocks.specs.Store.{with_variable};
 ghost use Rattle.engine_blocks.specs.Changes.{InBlock, Changes, overwritten_block, made_block, due_block};
 
 use engine_blocks::{put_word, word_at};
+use engine_variable_changes::unmark;
 use engine_variables::due;
 use machine::{DUE_HIGH, DUE_LOW, VALUE, VARIABLE_WORDS, WAITING, WRITTEN};
 use words::Moment;
@@ -43,9 +44,8 @@ pub fn make_due(m: &mut [u32], s: usize, index: usize, present: Moment)
     ensures { Changes s m.old m.new (due_block index present.0 (block m.old s))
         (with_variable (owner_at s index) (λ x. made_due present.0 x)) }
 {
-    if due(m, s, index) == present.0 {
-        make(m, s, index);
-        return;
+    match due(m, s, index) {
+        Some(moment) if moment.0 == present.0 => make(m, s, index),
+        _ => unmark(m, s, index),
     }
-    put_word(m, s, WRITTEN + index, 0);
 }

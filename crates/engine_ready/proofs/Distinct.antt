@@ -8,7 +8,7 @@ use lib.Dec.{eqb, ltb}
 use lib.ListN.{length}
 use borrow.Author.Tests.{ltb-true, ltb-false, eqb-true, eqb-false}
 use Rattle.engine_rows.specs.Ready.{insert_at, insert}
-use Rattle.engine_rows.specs.Rows.{Row, Rows}
+use Rattle.engine_rows.specs.Rows.{Rows}
 use Rattle.engine_ready.specs.Ordered.{Later, later_none, later_one, Ordered, ordered_none, ordered_one}
 
 -- ── a push keeps the order ────────────────────────────────────────────────────────────────────────

@@ -1,10 +1,12 @@
 -- Entries of an array, the last one first; an entry stored.
 use mathlib.Core.List.{List, [], ◌∷◌, ◌++◌, append_assoc}
-use mathlib.Core.Path.{◌≡◌, refl, ap, ap₂, ◌∙◌}
-use Prim.Native.Nat.{ℕ, zero, suc, ◌+◌, ◌≤◌, ◌<◌}
+use mathlib.Core.Path.{◌≡◌, refl, sym, ap, ap₂, ◌∙◌}
+use Prim.Native.Nat.{ℕ, zero, suc, ◌+◌, ◌-◌, ◌≤◌, ◌<◌}
 use native.Mathlib.Omega.{arith}
-use lib.ListN.{length, get_or, set, take, drop, drop_of_length-le}
-use lib.Seq.{get_or-set_same, get_or-set_other, drop-cons, get_or-take, length-take-le}
+use lib.ListN.{length, get_or, set, take}
+use lib.Seq.{get_or-set_same, get_or-set_other, get_or-take, length-take-le, take-suc}
+use borrow.Rule.Slice.PartMut.{put_mid, post_of}
+use Rattle.std.proofs.lemmas.List.{get_or_append_left, get_or-append_right}
 use Rattle.engine_ready.specs.Slots.{falling, slots_of}
 use Rattle.engine_ready.specs.declared.ReadyList.{ReadyList}
 
@@ -30,12 +32,15 @@ falling_split p i (suc n) =
     let z : 0 + (i + n) ≡ i + n = omega arith in
     rw (e, z) (ap (λ (r : List ℕ). get_or p (i + n) 0 ∷ r) (falling_split p i n))
 
+-- The same entries from i on in one array and from j on in another.
+pub falling_alike : (p q : List ℕ) (i j n : ℕ) → ((k : ℕ) → k < n → get_or p (i + k) 0 ≡ get_or q (j + k) 0) → falling p i n ≡ falling q j n
+unfolding falling
+falling_alike p q i j zero h = refl
+falling_alike p q i j (suc n) h = ap₂ (λ (x : ℕ) (r : List ℕ). x ∷ r) (h n (omega arith)) (falling_alike p q i j n (λ k l. h k (omega arith)))
+
 -- A store outside of the entries.
 pub falling_set : (p : List ℕ) (k v i n : ℕ) → ((j : ℕ) → i ≤ j → j < i + n → j ≡ k → ⊥) → falling (set p k v) i n ≡ falling p i n
-unfolding falling
-falling_set p k v i zero h = refl
-falling_set p k v i (suc n) h =
-    rw (get_or-set_other p k (i + n) v 0 (h (i + n) (omega arith) (omega arith)), falling_set p k v i n (λ j a b. h j a (omega arith)))
+falling_set p k v i n h = falling_alike (set p k v) p i i n (λ j l. get_or-set_other p k (i + j) v 0 (h (i + j) (omega arith) (omega arith)))
 
 -- v stored at i, behind the n entries after it.
 pub falling_stored : (p : List ℕ) (i n v : ℕ) → i < length p → falling (set p i v) 0 (suc (i + n)) ≡ falling p (suc i) n ++ (v ∷ falling p 0 i)
@@ -58,20 +63,32 @@ falling_put p n v room =
     let z : 0 + n ≡ n = omega arith in
     ap₂ (λ (x : ℕ) (r : List ℕ). x ∷ r) (rw z (get_or-set_same p n v 0 room)) (falling_set p n v 0 n (λ j a b q. omega arith))
 
--- The next new slot, from the last one down, stored behind the entries in use.
-pub put_next : (p new others : List ℕ) (count at left : ℕ) → left < count → count ≤ length new → at < length p → falling p 0 at ≡ drop (suc left) (take count new) ++ others
-    → falling (set p at (get_or new left 0)) 0 (suc at) ≡ drop left (take count new) ++ others
-put_next p new others count at left h few room e =
-    let here : length (take count new) ≡ count = length-take-le count new few in
-    falling_put p at (get_or new left 0) room ∙ rw (drop-cons (take count new) left 0 (omega arith), get_or-take count new left 0 h, e)
+-- New slot i stored below those before it, which end at e.
+pub put_below : (p new : List ℕ) (e i : ℕ) → i < length new → i < e → e ≤ length p → falling p (e - i) i ≡ take i new
+    → falling (set p (e - 1 - i) (get_or new i 0)) (e - suc i) (suc i) ≡ take (suc i) new
+put_below p new e i few room long h =
+    let a = e - suc i in
+    let x = get_or new i 0 in
+    let down : e - 1 - i ≡ a = omega arith in
+    let up : e - i ≡ suc a = omega arith in
+    rw down (
+    falling_last (set p a x) a i
+    ∙ rw (falling_set p a x (suc a) i (λ j l m q. omega arith), get_or-set_same p a x 0 (omega arith)) (ap (λ (r : List ℕ). r ++ (x ∷ [])) (rw up at h))
+    ∙ sym (take-suc new i 0 few)
+    )
 
-pub none_put : (new : List ℕ) (count : ℕ) → count ≤ length new → drop count (take count new) ≡ []
-none_put new count few = drop_of_length-le (take count new) {i = count} (let e = length-take-le count new few in omega arith)
+-- The new slots and, below them, the others.
+pub put_all : (p new others : List ℕ) (n count : ℕ) → falling p n count ≡ take count new → falling p 0 n ≡ others → falling p 0 (n + count) ≡ take count new ++ others
+put_all p new others n count h e = falling_split p n count ∙ ap₂ (λ (a b : List ℕ). a ++ b) h e
 
--- Entry i of the new ones stored behind the entries in use.
-pub put_onto : (p new others : List ℕ) (at i : ℕ) → at < length p → falling p 0 at ≡ falling new 0 i ++ others
-    → falling (set p at (get_or new i 0)) 0 (suc at) ≡ falling new 0 (suc i) ++ others
-unfolding falling
-put_onto p new others at i room e =
-    let z : 0 + i ≡ i = omega arith in
-    falling_put p at (get_or new i 0) room ∙ rw z (ap (λ (r : List ℕ). get_or new i 0 ∷ r) e)
+-- The slots of `new` over the entries from n on.
+pub falling_over : (p new : List ℕ) (n k : ℕ) → n + length new ≤ length p → k ≡ length new → falling (put_mid n k p new) 0 (n + length new) ≡ falling new 0 (length new) ++ falling p 0 n
+falling_over p new n k room e =
+    let rest = new ++ post_of n k p in
+    let long : length (take n p) ≡ n = length-take-le n p (omega arith) in
+    let front = falling_alike (put_mid n k p new) p 0 0 n (λ j h. let o : 0 + j ≡ j = omega arith in rw o (get_or_append_left (take n p) rest 0 j (omega arith) ∙ get_or-take n p j 0 h)) in
+    let back = falling_alike (put_mid n k p new) new n 0 (length new) (λ j h.
+    let z : n + j - n ≡ j = omega arith in
+    let o : 0 + j ≡ j = omega arith in
+    get_or-append_right (take n p) rest n (n + j) 0 long (omega arith) ∙ rw (z, o) (get_or_append_left new (post_of n k p) 0 j h)) in
+    falling_split (put_mid n k p new) n (length new) ∙ ap₂ (λ (a b : List ℕ). a ++ b) back front

@@ -13,6 +13,7 @@ ghost use Rattle.engine_blocks.specs.Blocks.{owner_at, rows_of};
 ghost use Rattle.engine_triggers.specs.Chains.{triggers_at, NoTriggers, Chains, OnlyTriggers};
 ghost use Rattle.engine_triggers.specs.Awaited.{awaited_names, FewNames, Sleeper, Sleepers, NamesOf, lists_with};
 
+use engine_variables::Binding;
 use machine::{FIRST_TRIGGERS, NEXT_TRIGGERS, SLOTS};
 use table::{CELL_WORDS, WAIT};
 use table_read::{fetch, name_at};
@@ -25,9 +26,7 @@ fn list_name(m: &mut [u32], s: usize, j: usize, name: usize)
         × ((lists : Owner → List ℕ) → Chains m.old (4 * s + j) lists
         → Chains m.new (suc (4 * s + j)) (λ o. cons_if (same_owner (owner_of (rows_of m.old s).bindings name) o) s (lists o))) }
 {
-    let binding = engine_variables::owner(m, s, name);
-    let block = binding.block;
-    let index = binding.index;
+    let Binding { block, index } = engine_variables::owner(m, s, name);
     let first = engine_blocks::word_at(m, block, FIRST_TRIGGERS + index);
     let number = 4 * s + j + 1;
     engine_blocks::put_word(m, s, NEXT_TRIGGERS + j, first);
@@ -41,11 +40,9 @@ fn list_names(m: &mut [u32], t: &[u32], s: usize, cells: usize, count: usize)
         × ((lists : Owner → List ℕ) → Chains m.old (4 * s) lists
         → Chains m.new (4 * s + count) (lists_with (rows_of m.old s).bindings s (names_at t.now cells count) lists)) }
 {
-    let mut j: usize = 0;
-    while j < count {
+    for j in 0..count {
         let name = name_at(t, cells + CELL_WORDS * j);
         list_name(m, s, j, name);
-        j += 1;
     }
 }
 
@@ -77,9 +74,7 @@ pub fn list_sleepers(m: &mut [u32], t: &[u32])
         × ((listing : Listing) → NamesOf listing t.now m.old → (s index : ℕ) → s ≤ 64 → index < 16
         → triggers_at m.new s index ≡ triggers_of listing (rows_of m.old) (owner_at s index)) }
 {
-    let mut s: usize = 0;
-    while s < SLOTS {
+    for s in 0..SLOTS {
         list_slot(m, t, s);
-        s += 1;
     }
 }

@@ -8,13 +8,13 @@ use lib.ListN.{set}
 use borrow.Author.Tests.{lt-ltb, le-ltb}
 use Rattle.walk.specs.Memory.{variable_at}
 use Rattle.walk.specs.State.{Variable, no_variable}
-use Rattle.engine_rows.specs.Rows.{Row, with_own, variable_of, rows_with, environment_with}
+use Rattle.engine_rows.specs.Rows.{with_own, variable_of, rows_with, environment_with}
 use Rattle.engine_blocks.proofs.InBlocks.{same_outside, same_triggers}
 use Rattle.engine_blocks.proofs.RowChanges.{row_of, rows_in_block, environment_stays, rows_stay, environment_in_block, variable_same, bindings_same}
 use Rattle.engine_blocks.proofs.Tabulated.{tabulate-set, get_d_tabulate}
 use Rattle.engine_blocks.specs.Blocks.{Block, block, variable_in, variables_in, owner_at, row_at, environment_of}
 use Rattle.engine_blocks.specs.Changes.{InBlock, Changes}
-use Rattle.engine_blocks.specs.Store.{Store, store_of, variable_from, with_variable}
+use Rattle.engine_blocks.specs.Store.{store_of, variable_from, with_variable}
 
 -- Only words of variable i differ.
 pub record InVariable (a b : Block) (i : ℕ) : Type 0 where

@@ -1,6 +1,8 @@
 -- What reading a name's binding, and a variable by block and index, gives.
-use Rattle.std.specs.Prelude.{List, ◌≡◌, ℕ, ◌≤◌, ◌<◌, length}
-use Rattle.walk.specs.State.{Variable}
+use Rattle.std.specs.Prelude.{List, ◌≡◌, ℕ, ◌≤◌, ◌<◌, length, Some, None}
+use Rattle.std.specs.declared.option.Option.{Option}
+use Rattle.words.specs.declared.moment.Moment.{Moment}
+use Rattle.walk.specs.State.{Variable, Waiting, idle, due}
 use Rattle.engine_rows.specs.Rows.{Owner, in_environment, in_slot, Row, owner_of}
 use Rattle.engine_variables.specs.declared.Binding.{Binding}
 use Rattle.engine_blocks.specs.Blocks.{block, variable_in, owner_at}
@@ -21,3 +23,8 @@ variables_beside store (in_slot s i) = (store.rows s).own
 pub record ReadOf {A : Type 0} (words : List ℕ) (s index : ℕ) (field : Variable → A) (r : A) : Type 0 where
   pub word : r ≡ field (variable_in (block words s) index)
   pub owned : (n : ℕ) → index < length (variables_beside (store_of n words) (owner_at s index)) → r ≡ field (variable_from (store_of n words) (owner_at s index))
+
+-- The moment of a waiting write, if there is one.
+unfoldable pub due_moment : Waiting → Option Moment
+due_moment idle = None
+due_moment (due t v) = Some (record { 0 = t })

@@ -4,12 +4,12 @@
 
 ghost use Rattle.std.specs.Prelude.{◌≤◌, ◌<◌};
 ghost use Rattle.machine.specs.Words.{HasMachine};
-ghost use Rattle.machine.specs.Layout.{waiting_moment};
 ghost use Rattle.engine_blocks.specs.Blocks.{block, rows_of};
-ghost use Rattle.engine_variables.specs.Bindings.{ReadOf, BoundTo};
+ghost use Rattle.engine_variables.specs.Bindings.{ReadOf, BoundTo, due_moment};
 
 use engine_blocks::word_at;
-use machine::{BINDINGS, DUE_HIGH, DUE_LOW, ENVIRONMENT, SLOTS, VALUE, VARIABLE_WORDS, WRITTEN};
+use machine::{BINDINGS, DUE_HIGH, DUE_LOW, ENVIRONMENT, VALUE, VARIABLE_WORDS, WRITTEN};
+use words::Moment;
 
 // 2 to the 32: a moment's low word counts to here.
 pub const SIZE: u64 = 4294967296;
@@ -28,14 +28,8 @@ pub fn owner(m: &[u32], s: usize, name: usize) -> Binding
 {
     let word = word_at(m, s, BINDINGS + name);
     let index = (word % 16) as usize;
-    let block = (word / 16) as usize;
-    if block < SLOTS {
-        return Binding { block, index };
-    }
-    Binding {
-        block: ENVIRONMENT,
-        index,
-    }
+    let block = ((word / 16) as usize).min(ENVIRONMENT);
+    Binding { block, index }
 }
 
 // Its value.
@@ -54,12 +48,17 @@ pub fn written(m: &[u32], s: usize, index: usize) -> bool
     word_at(m, s, WRITTEN + index) != 0
 }
 
-// The moment of its waiting write, 0 without one: a bare number, since it can mean none.
-pub fn due(m: &[u32], s: usize, index: usize) -> u64
+// The moment of its waiting write, if it has one: in the words 0 means none.
+pub fn due(m: &[u32], s: usize, index: usize) -> Option<Moment>
     requires { HasMachine m.now × (s ≤ 64) × (index < 16) }
-    ensures { ReadOf m.now s index (λ x. waiting_moment x.waiting) result }
+    ensures { ReadOf m.now s index (λ x. due_moment x.waiting) result }
 {
-    let first = word_at(m, s, DUE_LOW + index * VARIABLE_WORDS) as u64;
-    let second = word_at(m, s, DUE_HIGH + index * VARIABLE_WORDS) as u64;
-    first + second * SIZE
+    let first = u64::from(word_at(m, s, DUE_LOW + index * VARIABLE_WORDS));
+    let second = u64::from(word_at(m, s, DUE_HIGH + index * VARIABLE_WORDS));
+    let moment = first + second * SIZE;
+    if moment == 0 {
+        None
+    } else {
+        Some(Moment(moment))
+    }
 }

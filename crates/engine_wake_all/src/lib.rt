@@ -17,8 +17,8 @@ use engine_wake::wake_from;
 use machine::{FIRST_TRIGGERS, NEXT_TRIGGERS};
 use words::number;
 
-// Whether trigger `next` is there, numbered up to `most`, and its slot sleeps and has its lowest priority below `low`.
-fn goes_first(m: &[u32], next: usize, most: usize, low: u64) -> bool
+// Whether trigger `next` is there, numbered up to `most`, and its slot sleeps and comes before the first, which has priority `low`.
+fn goes_first(m: &[u32], next: usize, most: usize, low: Option<u32>) -> bool
     requires { HasMachine m.now × (most ≤ 256) }
     ensures { result ≡ goes_first (rows_of m.now) next most low }
 {
@@ -32,8 +32,11 @@ fn goes_first(m: &[u32], next: usize, most: usize, low: u64) -> bool
     if !engine_row::asleep(m, slot) {
         return false;
     }
-    let own = engine_row::low(m, slot) as u64;
-    own < low
+    let own = engine_row::low(m, slot);
+    match low {
+        Some(first) => own < first,
+        None => true,
+    }
 }
 
 // A due write or an input, before any routine runs: it reaches all who await the variable. As a rule each goes before all who
@@ -48,10 +51,11 @@ pub fn wake_all(m: &[u32], q: ReadyList, s: usize, index: usize) -> ReadyList
     let mut low = engine_push::first_low(m, q);
     let mut new = [0u8; 64];
     let mut count: usize = 0;
+    // (A `while`: the list is linked by its words, each of which tells the next.)
     while goes_first(m, next, most, low) {
         most = next - 1;
         let slot = most / 4;
-        low = engine_row::low(m, slot) as u64;
+        low = Some(engine_row::low(m, slot));
         new[count] = slot as u8;
         count += 1;
         next = number(engine_blocks::word_at(m, slot, NEXT_TRIGGERS + most % 4));
@@ -59,5 +63,5 @@ pub fn wake_all(m: &[u32], q: ReadyList, s: usize, index: usize) -> ReadyList
     if next > 0 {
         return wake_from(m, q, s, index, 0);
     }
-    engine_ready::put_first(q, &new, count)
+    engine_ready::put_first(q, &new[..count])
 }

@@ -1,5 +1,4 @@
 -- `engine_make_due::make` meets its contract.
-use borrow.Author.Rules.{rules}
 use Rattle.engine_blocks.specs.Changes.{made_block}
 use Rattle.engine_make_due.proofs.make.Goals as goal
 

@@ -14,4 +14,4 @@ unfolding slots_of falling
 returns c =
     let q = c.args.q in
     let e : q.count ≡ suc (q.count - 1) = omega arith in
-    (search rules, ap (falling q.places 0) e ∙ ap (λ (k : ℕ). k ∷ falling q.places 0 (q.count - 1)) (ap (λ (k : ℕ). get_or q.places k 0) (zero-add (q.count - 1)) ∙ sym c.byte_number-slot.ensures))
+    (search rules, ap (falling q.places 0) e ∙ ap (λ (k : ℕ). k ∷ falling q.places 0 (q.count - 1)) (ap (λ (k : ℕ). get_or q.places k 0) (zero-add (q.count - 1)) ∙ sym c.from-slot.ensures))

@@ -1,40 +1,39 @@
--- `engine_ready::put_before` meets its contract: after each turn the last of the new slots, in their order, stand before the others.
+-- `engine_ready::put_before` meets its contract.
 use mathlib.Core.Path.{◌≡◌, refl, ◌∙◌}
-use mathlib.Core.List.{◌++◌}
-use Prim.Native.Nat.{suc, ◌+◌, ◌-◌, ◌≤◌, ◌<◌}
+use Prim.Native.Nat.{◌+◌, ◌-◌, ◌≤◌, ◌<◌}
 use native.Mathlib.Numerals.{add-one}
 use native.Mathlib.Omega.{arith}
-use lib.ListN.{length, take, drop, length-set}
+use lib.ListN.{length, length-set, get_or}
 use borrow.Author.Rules.{rules}
 use Rattle.engine_ready.specs.Slots.{falling, slots_of}
-use Rattle.engine_ready.proofs.Falling.{put_next, none_put}
+use Rattle.engine_ready.proofs.Falling.{falling_set, put_below, put_all}
 use Rattle.engine_ready.proofs.put_before.Goals as goal
 
-pub loop-left-init : goal.loop-left-init
-loop-left-init c =
-    let a = c.args in
-    let len : length a.q.places ≡ 64 = search rules in
-    let most : length a.new ≡ 8 = search rules in
-    (omega arith, refl, len, rw (none_put a.new a.count (omega (arith, c.requires.1))))
+pub loop-i-init : goal.loop-i-init
+unfolding falling
+loop-i-init c = (search rules, refl, refl)
 
-pub loop-left-preserved : goal.loop-left-preserved
-loop-left-preserved c =
+pub loop-i-preserved : goal.loop-i-preserved
+loop-i-preserved c =
     let a = c.args in
-    let v = c.loop-left in
+    let v = c.loop-i in
     let few = c.requires in
-    let more = c.loop-left-test.true in
-    let most : length a.new ≡ 8 = search rules in
-    let room : v.at < length v.p = omega (arith, v.invariant.1, v.invariant.2, few.0) in
-    let up : suc (v.left - 1) ≡ v.left = omega arith in (
-      omega (arith, v.invariant.0),
-      omega (arith, v.invariant.1),
-      length-set v.p v.at _ ∙ v.invariant.2,
-      rw add-one (put_next v.p a.new _ a.count v.at (v.left - 1) (omega (arith, v.invariant.0)) (omega (arith, few.1)) room (rw up v.invariant.3)),
+    let more : v.i < a.count = search rules in
+    let eight : length a.new ≡ 8 = search rules in
+    let e = a.q.count + a.count in
+    let at = e - 1 - v.i in
+    let x = get_or a.new v.i 0 in
+    let room : e ≤ length v.p = omega (arith, v.invariant.0, few.0) in (
+      length-set v.p at x ∙ v.invariant.0,
+      rw add-one (put_below v.p a.new e v.i (omega (arith, eight, few.1)) (omega arith) room v.invariant.1),
+      falling_set v.p at x 0 a.q.count (λ j l m q. omega arith) ∙ v.invariant.2,
     )
 
 pub returns : goal.returns
 unfolding slots_of
 returns c =
-    let v = c.loop-left in
-    let z : v.left ≡ 0 = omega arith in
-    (omega (arith, v.invariant.1), rw z at v.invariant.3)
+    let a = c.args in
+    let v = c.loop-i in
+    let z : v.i ≡ a.count = omega arith in
+    let n : a.q.count + a.count - a.count ≡ a.q.count = omega arith in
+    (refl, put_all v.p a.new (falling a.q.places 0 a.q.count) a.q.count a.count (rw (z, n) at v.invariant.1) v.invariant.2)

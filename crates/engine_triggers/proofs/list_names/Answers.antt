@@ -21,7 +21,7 @@ pub loop-j-init : goal.loop-j-init
 loop-j-init c =
     let a = c.args in
     let e : 4 * a.s + 0 ≡ 4 * a.s = omega arith in
-    (search rules, search rules, only_start a.m.now, λ lists C. rw (e, lists_none (rows_of a.m.now a.s).bindings a.s a.t.now a.cells lists) C)
+    (search rules, only_start a.m.now, λ lists C. rw (e, lists_none (rows_of a.m.now a.s).bindings a.s a.t.now a.cells lists) C)
 
 pub list_name-requires : goal.list_name-requires
 list_name-requires c =
@@ -34,7 +34,7 @@ list_name-requires c =
     let h : v.j < a.count = search rules in
     let here : v.j < length (names_at t a.cells a.count) = omega arith in
     let e = c.name_at-name.ensures ∙ sym (cells_by_place (name_at t) a.count a.cells v.j 0 h) in
-    let same = ap (λ (x : Rows). length (x a.s).bindings) (rows_of_same v.invariant.2.rows) in
+    let same = ap (λ (x : Rows). length (x a.s).bindings) (rows_of_same v.invariant.1.rows) in
     let low = few.named v.j here in
     let most = few.few in
     let sixteen = bindings_few a.m.now a.s (search rules) in
@@ -48,13 +48,12 @@ loop-j-preserved c =
     let r = rows_of a.m.now a.s in
     let done = c.list_name.ensures in
     let f : suc (4 * a.s + v.j) ≡ 4 * a.s + suc v.j = omega arith in
-    let rows = rows_of_same v.invariant.2.rows in
+    let rows = rows_of_same v.invariant.1.rows in
     let size = done.0.outside.size in (
-      search rules,
       omega arith,
-      only_then v.invariant.2 done.0,
+      only_then v.invariant.1 done.0,
       λ lists C. rw (add-one, lists_next r.bindings a.s t a.cells v.j lists, ← f)
-          (rw (rows, c.name_at-name.ensures) at (done.1 (lists_with r.bindings a.s (names_at t a.cells v.j) lists) (v.invariant.3 lists C))),
+          (rw (rows, c.name_at-name.ensures) at (done.1 (lists_with r.bindings a.s (names_at t a.cells v.j) lists) (v.invariant.2 lists C))),
     )
 
 pub returns : goal.returns
@@ -62,4 +61,4 @@ returns c =
     let a = c.args in
     let v = c.loop-j in
     let z : v.j ≡ a.count = omega arith in
-    (v.invariant.2, rw z at v.invariant.3)
+    (v.invariant.1, rw z at v.invariant.2)

@@ -19,8 +19,5 @@ use Rattle.engine_triggers.proofs.list_names.Given as goal
 -- `engine_triggers::list_names` meets its contract.
 abbrev pub invariant-loop-j : goal.invariant-loop-j
 invariant-loop-j l =
-    (l.j ≤ l.count) × (12288 ≤ length l.m) × (OnlyTriggers l.initial.m l.m)
+    (12288 ≤ length l.m) × (OnlyTriggers l.initial.m l.m)
     × ((lists : Owner → List ℕ) → Chains l.initial.m (4 * l.s) lists → Chains l.m (4 * l.s + l.j) (lists_with (rows_of l.initial.m l.s).bindings l.s (names_at l.t l.cells l.j) lists))
-
-abbrev pub decreases-loop-j : goal.decreases-loop-j
-decreases-loop-j l = l.count - l.j

@@ -14,7 +14,4 @@ use Rattle.engine_triggers.proofs.list_sleepers.Given as goal
 
 -- `engine_triggers::list_sleepers` meets its contract.
 abbrev pub invariant-loop-s : goal.invariant-loop-s
-invariant-loop-s l = (l.s ≤ 64) × (12288 ≤ length l.m) × (OnlyTriggers l.initial.m l.m) × (Chains l.m (4 * l.s) (listed_below_lem l.t (rows_of l.initial.m) l.s))
-
-abbrev pub decreases-loop-s : goal.decreases-loop-s
-decreases-loop-s l = 64 - l.s
+invariant-loop-s l = (12288 ≤ length l.m) × (OnlyTriggers l.initial.m l.m) × (Chains l.m (4 * l.s) (listed_below_lem l.t (rows_of l.initial.m) l.s))

@@ -11,7 +11,7 @@ use Rattle.engine_ready.proofs.Distinct.{ordered_few}
 use Rattle.engine_ready.proofs.Falling.{length_slots}
 use Rattle.engine_ready.specs.Ordered.{Ordered}
 use Rattle.engine_ready.specs.Slots.{falling, slots_of}
-use Rattle.engine_wake_all.proofs.Putting.{first_goes, Putting, putting_room, putting_next, putting_few, putting_end}
+use Rattle.engine_wake_all.proofs.Putting.{first_goes, Putting, putting_room, putting_next, putting_few, gathered, gathered_long, putting_end}
 use Rattle.engine_triggers.specs.Chains.{first_trigger, triggers_at}
 use Rattle.engine_wake.specs.Wakes.{triggered_from}
 use Rattle.engine_wake_all.proofs.wake_all.Goals as goal
@@ -38,8 +38,8 @@ overflow_sub-most c =
     let some = g.some in
     omega arith
 
-pub low-low-requires : goal.low-low-requires
-low-low-requires c =
+pub low-requires : goal.low-requires
+low-requires c =
     let g = first_goes _ _ _ _ (sym c.goes_first.ensures ∙ c.loop-most-test.true) in
     let near = g.near in
     (search rules, omega arith)
@@ -79,15 +79,25 @@ loop-most-preserved c =
     let g = first_goes _ _ _ _ (sym c.goes_first.ensures ∙ c.loop-most-test.true) in
     let next = c.number-next-in-loop-most.ensures.0 ∙ c.word_at-in-loop-most.ensures in
     let P = putting_next _ _ _ _ _ _ _ _ v.invariant.2 g in
-    (P.bound, P.size, rw (next, c.low-low.ensures, add-one) P)
+    (P.bound, P.size, rw (next, c.low.ensures, add-one) P)
 
 pub returns-then-next-gt0 : goal.returns-then-next-gt0
 returns-then-next-gt0 c = c.wake_from.ensures
+
+pub slice_bounds-new-end : goal.slice_bounds-new-end
+slice_bounds-new-end c =
+    let v = c.loop-most in
+    let few = putting_few _ _ _ _ _ _ _ _ v.invariant.2 in
+    omega (arith, v.invariant.1)
+
+pub slice_bounds-put_first-end : goal.slice_bounds-put_first-end
+slice_bounds-put_first-end c = sym (gathered_long _ _ _ _ _ _ _ _ c.loop-most.invariant.2)
 
 pub put_first-requires : goal.put_first-requires
 put_first-requires c =
     let v = c.loop-most in
     let few = putting_few _ _ _ _ _ _ _ _ v.invariant.2 in
+    let long = gathered_long _ _ _ _ _ _ _ _ v.invariant.2 in
     let n = length_slots c.args.q in
     omega arith
 
@@ -95,5 +105,5 @@ pub returns : goal.returns
 returns c =
     let v = c.loop-most in
     let none : v.next ≡ 0 = omega arith in
-    let e = c.put_first.ensures.1 in
+    let e = rw (gathered_long _ _ _ _ _ _ _ _ v.invariant.2, gathered _ _ _ _ _ _ _ _ v.invariant.2) at c.put_first.ensures.1 in
     (e ∙ putting_end _ _ _ _ _ _ _ _ v.invariant.2 none, rw e v.invariant.2.order)

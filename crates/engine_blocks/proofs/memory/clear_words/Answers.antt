@@ -1,15 +1,12 @@
 -- `engine_blocks::memory::clear_words` meets its contract.
-use mathlib.Core.List.{List}
-use mathlib.Core.Path.{◌≡◌, refl, sym, ap, ◌∙◌}
+use mathlib.Core.Path.{◌≡◌, refl, ap, ◌∙◌}
 use Prim.Native.Nat.{ℕ, ◌+◌, ◌-◌, ◌≤◌}
 use native.Mathlib.Omega.{arith}
 use lib.ListN.{length, replicate}
 use borrow.Author.Rules.{rules}
-use borrow.Rule.Slice.PartMut.{mid_of, put_mid, same_len_mid, mid_len}
+use borrow.Rule.Slice.PartMut.{same_len_mid, mid_len}
 use Rattle.machine.specs.Words.{block_at}
 use Rattle.engine_blocks.proofs.Filled.{in_block_filled}
-use Rattle.engine_blocks.specs.Blocks.{block}
-use Rattle.engine_blocks.specs.Changes.{InBlock, cleared}
 use Rattle.engine_blocks.proofs.memory.clear_words.Goals as goal
 
 pub returns : goal.returns

@@ -8,6 +8,8 @@ use native.Mathlib.Omega.{arith}
 use native.Mathlib.Decide.{ℕ_discrete}
 use lib.ListN.{length, take, set, length-set}
 use lib.Seq.{take-suc-set}
+use Rattle.std.specs.Prelude.{Some, None, IsSome, MatchOption}
+use Rattle.std.specs.declared.option.Option as program
 use Rattle.walk.specs.State.{Variable}
 use Rattle.table.proofs.Reach.{head_after_next}
 use Rattle.table.specs.Decode.{call_at, after_call, calls_at, head_after, table_listing}
@@ -98,6 +100,17 @@ module _ {t before : List ℕ} {me cells n : ℕ} (F : MayFork t before me cells
     module _ (more : i < n) where
       free : ((rows_of m (free_slot (rows_of m) 64)).used ≡ false) × (free_slot (rows_of m) 64 < 64)
       free = free_slot-free (rows_of m) (omega (arith, G.room))
+
+      -- so the search finds one
+      pub some_free : (r : program.Option ℕ) → MatchOption r ((s : ℕ) → s < 64 → (rows_of m s).used ≡ true) (λ s. s ≡ free_slot (rows_of m) 64) → IsSome r
+      some_free (Some s) e = refl
+      some_free None all =
+          let z : ◌≡◌ {A = Bool} true false = sym (all _ free.1) ∙ free.0 in
+          let q : ◌≡◌ {A = ℕ} 0 1 = cc in absurd (let v : ⊥ = omega arith in v)
+
+      pub slot_found : (r : program.Option ℕ) (s : ℕ) → r ≡ Some s → MatchOption r ((s : ℕ) → s < 64 → (rows_of m s).used ≡ true) (λ s. s ≡ free_slot (rows_of m) 64)
+          → s ≡ free_slot (rows_of m) 64
+      slot_found r s e h = rw e at h
 
       blank : (k : ℕ) → k < 144 → block m (free_slot (rows_of m) 64) k ≡ 0
       blank = free_blank (G.clean F.variables F.clean) (free_slot (rows_of m) 64) free.1 free.0

@@ -42,13 +42,11 @@ pub fn fork_children(t: &[u32], m: &mut [u32], me: usize, cells: usize, n: usize
 {
     let mut places: [u8; 8] = [0; 8];
     let mut head = cells;
-    let mut i: usize = 0;
-    while i < n {
-        let s = free_slot(m);
+    for i in 0..n {
+        let s = free_slot(m).unwrap();
         new_child(t, m, me, head, i as u32, s, n as u32);
         places[i] = s as u8;
         head = next_head(t, head);
-        i += 1;
     }
     NewSlots { places, count: n }
 }

@@ -3,11 +3,13 @@ use mathlib.Core.Path.{◌≡◌, refl, sym, ap, ◌∙◌}
 use mathlib.Core.Bool.{Bool, true, false, cond, ◌&&◌}
 use mathlib.Core.List.{List, ◌∷◌}
 use mathlib.Core.Option.{Option, none, some}
-use Prim.Native.Nat.{ℕ, zero, suc, ◌+◌, ◌≤◌, ◌<◌}
+use Prim.Native.Nat.{ℕ, zero, suc, ◌+◌, ◌-◌, ◌≤◌, ◌<◌}
 use lib.Dec.{eqb}
 use native.Mathlib.Omega.{arith}
 use lib.ListN.{length}
 use borrow.Author.Tests.{ne_eqb, ltb-true, leb-true}
+use Rattle.std.specs.Prelude.{Some, None, IfSome}
+use Rattle.std.specs.declared.option.Option as program
 use Rattle.words.specs.Words.{bit}
 use Rattle.words_division.specs.Division.{signed_quotient, signed_remainder}
 use Rattle.listing.specs.Listing.{Piece}
@@ -18,8 +20,7 @@ use Rattle.table.proofs.Signs.{sign_is}
 use Rattle.walk.specs.State.{Variable}
 use Rattle.walk.specs.Memory.{operate, top, divide_by, evaluate_piece}
 use Rattle.engine_evaluate.specs.Bound.{bindings_of, FromNames}
-use Rattle.engine_values.specs.Values.{held, below, held_by, divided, sign_of, joined, Pushed, Operated}
-use Rattle.engine_values.proofs.Values.{something_held}
+use Rattle.engine_values.specs.Values.{held, below, held_by, left_by, divided, sign_of, joined, Pushed, Operated}
 use Rattle.engine_values.specs.declared.Held.{Held}
 use Rattle.engine_evaluate.specs.Evaluable.{PieceStands, MayCome, Adds, Past}
 
@@ -91,18 +92,13 @@ module _ {t m : List ℕ} {me a : ℕ} where
   unfolding may_come
   room_for_one {count = count} asked adding = ltb-true count 8 (rw adding.effect at asked.room)
 
-  pub past_added : {before after : List ℕ} {h r : Held} {v : ℕ} → Adds t m me a v → Pushed before h v after r → Past t m me a before h after r
-  unfolding held_with
-  past_added {before = before} {after = after} {h = h} {r = r} adding o =
+  pub past_added : {before after : List ℕ} {h r : Held} {v : ℕ} → Adds t m me a v → Pushed before h v after r → Past t m me a before h after (Some r)
+  unfolding held_with left_by
+  past_added {before = before} {h = h} adding o =
       record {
         size = o.size;
-        counted = λ some-held. rw adding.effect o.counted;
-        values = λ moment. record {
-          equal = λ n bound.
-              let more : 1 ≤ r.count = omega (arith, o.counted) in
-              something_held after r.count r.top more ∙ (ap some o.values ∙ (adding.values moment (held_by before h)).equal n bound);
-        };
-        failed = λ z. absurd (omega (arith, o.counted, z));
+        counted = rw adding.effect o.counted;
+        values = λ moment. record { equal = λ n bound. ap some o.values ∙ (adding.values moment (held_by before h)).equal n bound };
       }
 
 -- ── a sign ───────────────────────────────────────────────────────────────────────
@@ -145,12 +141,16 @@ module _ {t m values : List ℕ} {me a : ℕ} where
   unfolding may_come
   two_for_sign {count} asked is_one = leb-true 2 count (rw (joins_by t a is_one).effect at asked.room)
 
-  pub past_joined : {h r : Held} → is_sign (word t a) ≡ true → length values ≡ 8 → 2 ≤ h.count → Operated values h (word t a) r → Past t m me a values h values r
+  pub past_joined : {h : Held} {r : program.Option Held} → is_sign (word t a) ≡ true → length values ≡ 8 → 2 ≤ h.count → Operated values h (word t a) r
+      → Past t m me a values h values r
   unfolding held_with
-  past_joined {h} is_one size two o =
+  past_joined {h} {r} is_one size two o =
       record {
         size = size;
-        counted = λ some-held. rw (joins_by t a is_one).effect (o.counted some-held);
+        counted = counted r o.counted;
         values = λ moment. record { equal = λ n bound. o.left ∙ on_two values h.count h.top two (joins_by t a is_one) moment _ };
-        failed = o.failed;
       }
+    where
+      counted : (r : program.Option Held) → IfSome r (λ x. x.count ≡ h.count - 1) → IfSome r (λ x. x.count ≡ held_with h.count (effect_of (piece_at t a)))
+      counted (Some x) e = rw (joins_by t a is_one).effect e
+      counted None e = e

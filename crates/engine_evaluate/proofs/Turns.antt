@@ -7,6 +7,8 @@ use Prim.Native.Nat.{ℕ, zero, suc, ◌+◌, ◌*◌, ◌-◌, ◌≤◌, ◌<�
 use native.Mathlib.Omega.{arith}
 use lib.ListN.{length}
 use borrow.Author.Tests.{eqb-true}
+use Rattle.std.specs.Prelude.{Some, None}
+use Rattle.std.specs.declared.option.Option as program
 use Rattle.listing.specs.Lists.{all}
 use Rattle.listing.specs.Expressions.{bind, effect_of, may_come, held_with, leaves_one_from}
 use Rattle.listing.specs.Listing.{Piece}
@@ -18,8 +20,7 @@ use Rattle.walk.specs.Memory.{top, evaluate_pieces, evaluate_by}
 use Rattle.engine_blocks.specs.Store.{store_of}
 use Rattle.engine_evaluate.proofs.Pieces.{both}
 use Rattle.engine_evaluate.specs.Bound.{Bound, bindings_of, variable_named}
-use Rattle.engine_values.specs.Values.{held, held_by, left_by_lem}
-use Rattle.engine_values.proofs.Values.{something_held, nothing_held}
+use Rattle.engine_values.specs.Values.{held, held_by, left_by}
 use Rattle.engine_values.specs.declared.Held.{Held}
 use Rattle.engine_evaluate.specs.Evaluable.{Evaluable, PieceStands, MayCome, Past}
 use Rattle.engine_evaluate.specs.Evaluable.{Evaluates}
@@ -67,28 +68,28 @@ module _ {t m : List ℕ} {me cells pieces : ℕ} where
           record { piece = piece; places = so_far.places; most = so_far.most; room = split.0 }
 
       -- what the pieces behind this one make of what it left is the value of the whole
-      value_on : {after : List ℕ} {r : Held} → Past t m me at values h after r → (moment n : ℕ) → Bound (store_of n m) (bindings_of m me) →
-          value_on_lem moment (variable_named n m me) (pieces_at t (at + 2) (left - 1)) (left_by_lem after r.count r.top) ≡
+      value_on : {after : List ℕ} {r : program.Option Held} → Past t m me at values h after r → (moment n : ℕ) → Bound (store_of n m) (bindings_of m me) →
+          value_on_lem moment (variable_named n m me) (pieces_at t (at + 2) (left - 1)) (left_by after r) ≡
           evaluate_by moment (variable_named n m me) (pieces_at t cells pieces)
       unfolding evaluate_pieces
       value_on past moment n bound =
           ap (value_on_lem moment (variable_named n m me) (pieces_at t (at + 2) (left - 1))) ((past.values moment).equal n bound)
           ∙ (rw (first_piece t at left more) at (so_far.value moment n bound))
 
-      pub fails_now : {after : List ℕ} {r : Held} → Past t m me at values h after r → r.count ≡ 0 → Evaluates m me (pieces_at t cells pieces) none
-      fails_now {after} {r} past z = λ moment. record {
-        equal = λ n bound. rw (nothing_held after r.count r.top z) at (value_on past moment n bound);
-      }
+      pub fails_now : {after : List ℕ} → Past t m me at values h after None → Evaluates m me (pieces_at t cells pieces) none
+      unfolding left_by
+      fails_now past = λ moment. record { equal = λ n bound. value_on past moment n bound }
 
-      pub next_turn : {after : List ℕ} {r : Held} → Past t m me at values h after r → 1 ≤ r.count → Before t m me cells pieces after r (at + 2) (left - 1)
-      next_turn {after} {r} past held-some =
+      pub next_turn : {after : List ℕ} {r : Held} → Past t m me at values h after (Some r) → Before t m me cells pieces after r (at + 2) (left - 1)
+      unfolding left_by
+      next_turn {after} {r} past =
           record {
             place = omega (arith, so_far.place);
             places = past.size;
-            most = rw (past.counted held-some) (held_most h.count (effect_of (piece_at t at)) split.0 so_far.most);
-            form = rw (past.counted held-some) split.1;
+            most = rw past.counted (held_most h.count (effect_of (piece_at t at)) split.0 so_far.most);
+            form = rw past.counted split.1;
             names = there.1;
-            value = λ moment n bound. rw (something_held after r.count r.top held-some) at (value_on past moment n bound);
+            value = λ moment n bound. value_on past moment n bound;
           }
 
     pub last_turn : left ≡ 0 → Evaluates m me (pieces_at t cells pieces) (some h.top)

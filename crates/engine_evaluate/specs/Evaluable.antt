@@ -1,13 +1,14 @@
 -- What evaluation asks for, and what it gives. The letters: t the table's words, m the machine's, me the running routine's slot,
 -- `cells` the address of an expression's first cell.
-use Rattle.std.specs.Prelude.{true, List, ◌∷◌, ◌≡◌, ℕ, ◌+◌, ◌*◌, ◌≤◌, ◌<◌, length}
+use Rattle.std.specs.Prelude.{true, List, ◌∷◌, ◌≡◌, ℕ, ◌+◌, ◌*◌, ◌≤◌, ◌<◌, length, IfSome}
 use Rattle.std.proofs.Math.Option.{Option, some}
+use Rattle.std.specs.declared.option.Option as program
 use Rattle.listing.specs.Lists.{all}
 use Rattle.listing.specs.Expressions.{adds, effect_of, may_come, held_with, leaves_one}
 use Rattle.listing.specs.Questions.{piece_is_there}
 use Rattle.table.specs.Decode.{piece_at, pieces_at}
 use Rattle.engine_evaluate.specs.Bound.{bindings_of, FromNames}
-use Rattle.engine_values.specs.Values.{held_by, left_by_lem}
+use Rattle.engine_values.specs.Values.{held_by, left_by}
 use Rattle.engine_values.specs.declared.Held.{Held}
 use Rattle.walk.specs.Memory.{evaluate_piece, evaluate_by}
 use Rattle.listing.specs.Listing.{Piece}
@@ -40,11 +41,10 @@ pub record Adds (t m : List ℕ) (me a r : ℕ) : Type 0 where
   pub values : (moment : ℕ) (below : List ℕ) → FromNames m me (λ names. evaluate_piece moment names (piece_at t a) below) (some (r ∷ below))
 
 -- What is held after the piece is what it makes of the values held before; nothing is where the evaluation fails.
-pub record Past (t m : List ℕ) (me a : ℕ) (before : List ℕ) (h : Held) (after : List ℕ) (r : Held) : Type 0 where
+pub record Past (t m : List ℕ) (me a : ℕ) (before : List ℕ) (h : Held) (after : List ℕ) (r : program.Option Held) : Type 0 where
   pub size : length after ≡ 8
-  pub counted : 1 ≤ r.count → r.count ≡ held_with h.count (effect_of (piece_at t a))
-  pub values : (moment : ℕ) → FromNames m me (λ names. evaluate_piece moment names (piece_at t a) (held_by before h)) (left_by_lem after r.count r.top)
-  pub failed : r.count ≡ 0 → r.top ≡ 0
+  pub counted : IfSome r (λ x. x.count ≡ held_with h.count (effect_of (piece_at t a)))
+  pub values : (moment : ℕ) → FromNames m me (λ names. evaluate_piece moment names (piece_at t a) (held_by before h)) (left_by after r)
 
 -- r is the expression's value, or none, at any moment.
 abbrev pub Evaluates : List ℕ → ℕ → List Piece → Option ℕ → Type 0

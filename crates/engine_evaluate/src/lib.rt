@@ -6,4 +6,4 @@
 pub mod expression;
 
 pub use engine_values::NO_VALUE;
-pub use expression::evaluate;
+pub use expression::{evaluate, value_of};

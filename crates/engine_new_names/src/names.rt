@@ -42,14 +42,12 @@ fn bind_arguments(
 {
     let mut own: usize = 0;
     let mut rest = bits;
-    let mut j: usize = 0;
-    while j < count {
+    for j in 0..count {
         let bit = rest % 2;
         let word = argument_word(m, me, s, name_at(t, at + CELL_WORDS * j), bit, own);
         put_word(m, s, BINDINGS + j, word);
         own += 1 - bit as usize;
         rest = rest / 2;
-        j += 1;
     }
     own
 }
@@ -59,15 +57,13 @@ pub fn bind_own(m: &mut [u32], s: usize, from: usize, count: usize, own: usize)
     requires { HasMachine m.old × (s < 64) × (from + count ≤ 16) × (own + count ≤ 16) }
     ensures { OwnBound m.old s from count own m.new }
 {
-    let mut j: usize = 0;
-    while j < count {
+    for j in 0..count {
         put_word(
             m,
             s,
             BINDINGS + from + j,
             STEP * s as u32 + (own + j) as u32,
         );
-        j += 1;
     }
 }
 

@@ -2,25 +2,14 @@
 // written"; "all `v` values are copied before the first child runs".
 ghost use Rattle.std.specs.Prelude.{◌+◌, ◌<◌, length};
 ghost use Rattle.machine.specs.Words.{HasMachine};
-ghost use Rattle.engine_evaluate.specs.Bound.{bindings_of, FromNames};
+ghost use Rattle.engine_evaluate.specs.Bound.{bindings_of};
 ghost use Rattle.engine_new_names.specs.Passing.{MayPass, ValuesPassed, ValuePassed};
 
 use engine_blocks::put_word;
-use engine_variables::{owner, value};
+use engine_evaluate::value_of;
 use machine::{VALUE, VARIABLE_WORDS};
 use table::CELL_WORDS;
 use table_read::name_at;
-
-// What the caller's name holds.
-fn named_value(m: &[u32], me: usize, name: usize) -> u32
-    requires { HasMachine m.now × (me < 64) × (name < length (bindings_of m.now me)) }
-    ensures { FromNames m.now me (λ names. (names name).value) result }
-{
-    let binding = owner(m, me, name);
-    let block = binding.block;
-    let index = binding.index;
-    value(m, block, index)
-}
 
 // One argument: by value it is own variable number `own`. The number of own variables after it.
 fn pass_value(m: &mut [u32], me: usize, s: usize, name: usize, bit: u32, own: usize) -> usize
@@ -30,7 +19,7 @@ fn pass_value(m: &mut [u32], me: usize, s: usize, name: usize, bit: u32, own: us
     if bit == 1 {
         return own;
     }
-    let v = named_value(m, me, name);
+    let v = value_of(m, me, name);
     put_word(m, s, VALUE + own * VARIABLE_WORDS, v);
     own + 1
 }
@@ -50,11 +39,9 @@ pub fn pass_values(
 {
     let mut own: usize = 0;
     let mut rest = bits;
-    let mut j: usize = 0;
-    while j < count {
+    for j in 0..count {
         own = pass_value(m, me, s, name_at(t, at + CELL_WORDS * j), rest % 2, own);
         rest = rest / 2;
-        j += 1;
     }
     own
 }

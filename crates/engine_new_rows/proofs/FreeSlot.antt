@@ -20,7 +20,3 @@ module _ (rows : Rows) (n : ℕ) (h : n < 64) where
   pub free_slot_higher : (rows n).used ≡ true → free_slot rows (64 - n) ≡ free_slot rows (63 - n)
   unfolding free_slot free_else
   free_slot_higher e = ap (free_slot rows) left ∙ rw (here, e)
-
-pub free_slot_none : (rows : Rows) → free_slot rows 0 ≡ 0
-unfolding free_slot
-free_slot_none rows = refl

@@ -9,7 +9,7 @@ use engine_blocks::{put_word, word_at};
 use engine_fork_bits::fork_bits;
 use machine::{ASLEEP, BASE, BITS, CHILD, CHILDREN, IN_USE, LEVEL, LOW, OWN, PARENT, ROUTINE};
 
-// What a new routine's row takes from its parent: the parent's slot (main's is 64), the new routine's level, the address of its
+// What a new routine's row takes from its parent: the parent's slot (main's is 64; no Option: `working_block` puts this very number), the new routine's level, the address of its
 // first own variable, the lowest of the parent's priorities, the bits of each child's range.
 #[derive(Clone, Copy)]
 pub struct Parent {

@@ -3,14 +3,14 @@ use mathlib.Core.Path.{◌≡◌, refl, ap, ◌∙◌}
 use mathlib.Core.Bool.{Bool, true, false}
 use mathlib.Core.List.{List, ◌∷◌}
 use mathlib.Core.Option.{Option, none, some}
-use Prim.Native.Nat.{ℕ, zero, suc, ◌≤◌, ◌<◌}
+use Prim.Native.Nat.{ℕ, zero, suc, ◌-◌, ◌≤◌, ◌<◌}
 use native.Mathlib.Omega.{arith}
 use lib.Dec.{eqb}
 use lib.ListN.{length, get_or, set}
 use borrow.Author.Tests.{lt-ltb, le-ltb, eqb-true, eqb-false}
 use Rattle.listing.specs.Expressions.{bind}
 use lib.Seq.{get_or-set_same, get_or-set_other}
-use Rattle.engine_values.specs.Values.{below, held, given, Gives, divided, sign_of, joined, left_by_lem}
+use Rattle.engine_values.specs.Values.{below, held, given, divided, sign_of, joined}
 
 -- A store past the values below the top changes none of them.
 below_past : (values : List ℕ) (count at v : ℕ) → count < at → below (set values at v) count ≡ below values count
@@ -30,11 +30,12 @@ one_more values (suc count) top v room =
     rw (get_or-set_same values (suc count) top 0, below_past values count (suc count) top lt)
 
 -- The value stored last is joined with the top.
-pub two_joined : (values : List ℕ) (count top : ℕ) (f : ℕ → ℕ → Option ℕ) → 1 ≤ count →
-    joined f (held values (suc count) top) ≡ bind (f (get_or values count 0) top) (λ v. left_by_lem values count v)
-unfolding held below joined left_by_lem
+pub two_joined : (values : List ℕ) (count top : ℕ) (f : ℕ → ℕ → Option ℕ) → 2 ≤ count →
+    joined f (held values count top) ≡ bind (f (get_or values (count - 1) 0) top) (λ v. some (held values (count - 1) v))
+unfolding held below joined
 two_joined values zero top f h = absurd (omega arith)
-two_joined values (suc count) top f h = refl
+two_joined values (suc zero) top f h = absurd (omega arith)
+two_joined values (suc (suc count)) top f h = let e : suc (suc count) - 1 ≡ suc count = omega arith in rw e refl
 
 -- A number below 2 to the 32 is a value, any other none.
 pub value_given : (r : ℕ) → r < 4294967296 → given r ≡ some r
@@ -44,12 +45,6 @@ value_given r h = rw (lt-ltb r 4294967296 h)
 pub none_given : (r : ℕ) → 4294967296 ≤ r → given r ≡ none
 unfolding given
 none_given r h = rw (le-ltb r 4294967296 h)
-
-pub gives_value : (r v : ℕ) → r < 4294967296 → r ≡ v → Gives (some v) r
-gives_value r v h e = record { value = value_given r h ∙ ap some e; most = omega arith }
-
-pub gives_none : Gives none 4294967296
-gives_none = record { value = none_given 4294967296 (omega arith); most = omega arith }
 
 -- A division by 0 gives none, by either sign.
 pub by_zero : (kind x : ℕ) → 7 ≤ kind → kind ≤ 8 → sign_of kind x 0 ≡ none
@@ -61,14 +56,3 @@ by_zero kind x low high = go (eqb kind 7) refl
     go false e =
         let other : kind ≡ 8 = omega (arith, eqb-false kind 7 e) in
         rw other
-
--- With a value on top something is held; without one nothing is.
-pub something_held : (values : List ℕ) (count top : ℕ) → 1 ≤ count → left_by_lem values count top ≡ some (held values count top)
-unfolding left_by_lem held
-something_held values zero top h = absurd (omega arith)
-something_held values (suc count) top h = refl
-
-pub nothing_held : (values : List ℕ) (count top : ℕ) → count ≡ 0 → left_by_lem values count top ≡ none
-unfolding left_by_lem
-nothing_held values zero top h = refl
-nothing_held values (suc count) top h = absurd (omega arith)

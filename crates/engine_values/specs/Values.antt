@@ -1,6 +1,7 @@
 -- The values held while an expression is evaluated. Document 01: "An expression is postfix".
-use Rattle.std.specs.Prelude.{cond, List, [], ◌∷◌, ◌≡◌, ℕ, zero, suc, ◌-◌, ◌≤◌, eqb, ltb, length, get_or}
+use Rattle.std.specs.Prelude.{cond, List, [], ◌∷◌, ◌≡◌, ℕ, zero, suc, ◌-◌, ◌≤◌, eqb, ltb, length, get_or, Some, None, IfSome}
 use Rattle.std.proofs.Math.Option.{Option, none, some}
+use Rattle.std.specs.declared.option.Option as program
 use Rattle.words.specs.Words.{bit, wrapping_add, wrapping_subtract, wrapping_multiply, signed_less}
 use Rattle.words_division.specs.Division.{signed_quotient, signed_remainder}
 use Rattle.listing.specs.Expressions.{bind}
@@ -19,14 +20,14 @@ held values (suc count) top = top ∷ below values count
 abbrev pub held_by : List ℕ → Held → List ℕ
 held_by values h = held values h.count h.top
 
+-- The value that the program found, or none.
+unfoldable pub found : program.Option ℕ → Option ℕ
+found (Some v) = some v
+found None = none
+
 -- What a number of 64 bits stands for: a value, which has 32, or none.
 unfoldable pub given : ℕ → Option ℕ
 given r = cond (ltb r 4294967296) (some r) none
-
--- The number that stands for a value or for none: of all that stand for none the first.
-pub record Gives (o : Option ℕ) (r : ℕ) : Type 0 where
-  pub value : given r ≡ o
-  pub most : r ≤ 4294967296
 
 -- Document 02: "18: is every divisor other than 0?" What a division gives.
 unfoldable pub divided : (ℕ → ℕ → ℕ) → ℕ → ℕ → Option ℕ
@@ -51,13 +52,12 @@ pub record Pushed (before : List ℕ) (h : Held) (v : ℕ) (after : List ℕ) (r
   pub counted : r.count ≡ suc h.count
   pub values : held_by after r ≡ v ∷ held_by before h
 
--- What is held after a piece: something always is, unless the evaluation fails.
-unfoldable pub left_by_lem : List ℕ → ℕ → ℕ → Option (List ℕ)
-left_by_lem values zero top = none
-left_by_lem values (suc count) top = some (top ∷ below values count)
+-- What is held after a piece: something, unless the evaluation fails.
+unfoldable pub left_by : List ℕ → program.Option Held → Option (List ℕ)
+left_by values (Some h) = some (held_by values h)
+left_by values None = none
 
 -- The two values on top are joined by the sign.
-pub record Operated (values : List ℕ) (h : Held) (kind : ℕ) (r : Held) : Type 0 where
-  pub counted : 1 ≤ r.count → r.count ≡ h.count - 1
-  pub left : left_by_lem values r.count r.top ≡ joined (sign_of kind) (held_by values h)
-  pub failed : r.count ≡ 0 → r.top ≡ 0
+pub record Operated (values : List ℕ) (h : Held) (kind : ℕ) (r : program.Option Held) : Type 0 where
+  pub counted : IfSome r (λ x. x.count ≡ h.count - 1)
+  pub left : left_by values r ≡ joined (sign_of kind) (held_by values h)

@@ -4,7 +4,8 @@
 
 ghost use Rattle.std.specs.Prelude.{◌≡◌, ◌≤◌, ◌<◌, length, true};
 ghost use Rattle.table.specs.Decode.{is_sign};
-ghost use Rattle.engine_values.specs.Values.{Pushed, Operated, sign_of, Gives};
+ghost use Rattle.std.proofs.Math.Option.{some};
+ghost use Rattle.engine_values.specs.Values.{Pushed, Operated, sign_of, found};
 
 use table::{DIVIDE, LESS, MINUS, PLUS, TIMES};
 use words::{signed_less, wrapping_add, wrapping_multiply, wrapping_subtract};
@@ -34,68 +35,64 @@ pub fn push(values: &mut [u32; 8], held: Held, v: u32) -> Held
 }
 
 // `+` or `-`.
-fn sum(kind: u32, left: u32, right: u32) -> u64
+fn sum(kind: u32, left: u32, right: u32) -> u32
     requires { (3 ≤ kind) × (kind ≤ 4) }
-    ensures { Gives (sign_of kind left right) result }
+    ensures { sign_of kind left right ≡ some result }
 {
     match kind {
-        PLUS => wrapping_add(left, right) as u64,
-        _ => wrapping_subtract(left, right) as u64,
+        PLUS => wrapping_add(left, right),
+        _ => wrapping_subtract(left, right),
     }
 }
 
 // `*` or `<`.
-fn product(kind: u32, left: u32, right: u32) -> u64
+fn product(kind: u32, left: u32, right: u32) -> u32
     requires { (5 ≤ kind) × (kind ≤ 6) }
-    ensures { Gives (sign_of kind left right) result }
+    ensures { sign_of kind left right ≡ some result }
 {
     match kind {
-        TIMES => wrapping_multiply(left, right) as u64,
-        _ => signed_less(left, right) as u64,
+        TIMES => wrapping_multiply(left, right),
+        _ => signed_less(left, right),
     }
 }
 
 // `/` or `%`. "18: is every divisor other than 0?"
-fn quotient(kind: u32, left: u32, right: u32) -> u64
+fn quotient(kind: u32, left: u32, right: u32) -> Option<u32>
     requires { (7 ≤ kind) × (kind ≤ 8) }
-    ensures { Gives (sign_of kind left right) result }
+    ensures { found result ≡ sign_of kind left right }
 {
     if right == 0 {
-        return NO_VALUE;
+        return None;
     }
     match kind {
-        DIVIDE => signed_quotient(left, right) as u64,
-        _ => signed_remainder(left, right) as u64,
+        DIVIDE => Some(signed_quotient(left, right)),
+        _ => Some(signed_remainder(left, right)),
     }
 }
 
 // The sign with this kind's number, between two values. (They are told in twos: one match over all becomes a jump through a table.)
-pub fn sign(kind: u32, left: u32, right: u32) -> u64
+pub fn sign(kind: u32, left: u32, right: u32) -> Option<u32>
     requires { is_sign kind ≡ true }
-    ensures { Gives (sign_of kind left right) result }
+    ensures { found result ≡ sign_of kind left right }
 {
     if kind <= MINUS {
-        return sum(kind, left, right);
+        return Some(sum(kind, left, right));
     }
     if kind <= LESS {
-        return product(kind, left, right);
+        return Some(product(kind, left, right));
     }
     quotient(kind, left, right)
 }
 
 // The two values on top joined by a sign: the one pushed first is the left. It is the last of those below the top.
 // After a division by 0 nothing is held.
-pub fn operate(values: &[u32; 8], held: Held, kind: u32) -> Held
+pub fn operate(values: &[u32; 8], held: Held, kind: u32) -> Option<Held>
     requires { (is_sign kind ≡ true) × (length values.now ≡ 8) × (2 ≤ held.count) × (held.count ≤ 8) }
     ensures { Operated values.now held kind result }
 {
     let below = held.count - 1;
-    let joined = sign(kind, values[below], held.top);
-    if NO_VALUE <= joined {
-        return Held { count: 0, top: 0 };
-    }
-    Held {
-        count: below,
-        top: joined as u32,
+    match sign(kind, values[below], held.top) {
+        Some(top) => Some(Held { count: below, top }),
+        None => None,
     }
 }

@@ -41,6 +41,7 @@ pub fn wake_from(m: &[u32], q: ReadyList, s: usize, index: usize, from: u64) -> 
         return q;
     }
     let mut woken = q;
+    // (A `while`: the list is linked by its words, each of which tells the next.)
     while next > 0 {
         let n = next - 1;
         let slot = n / 4;

@@ -1,30 +1,18 @@
--- `evaluate` meets its contract: one piece and three by their form, others piece by piece.
+-- `evaluate` meets its contract: the number of a value or of none.
 use mathlib.Core.Path.{◌≡◌}
 use Prim.Native.Nat.{◌<◌}
 use native.Mathlib.Omega.{arith}
 use borrow.Author.Rules.{rules}
-use Rattle.engine_values.proofs.Values.{value_given}
-use Rattle.engine_evaluate.proofs.Short.{one_piece, one_value}
+use Rattle.engine_values.specs.Values.{found}
+use Rattle.engine_values.proofs.Values.{value_given, none_given}
 use Rattle.engine_evaluate.proofs.expression.evaluate.Goals as goal
 
-pub operand-requires : goal.operand-requires
-operand-requires c =
-    let one : c.args.pieces ≡ 1 = omega arith in
-    let piece = one_piece (rw one at c.requires) in
-    (piece.piece, piece.no_sign)
+pub returns-in-Some : goal.returns-in-Some
+unfolding found
+returns-in-Some c =
+    let small : c.in-Some.v < 4294967296 = omega arith in
+    rw c.from.ensures (rw (value_given c.in-Some.v small) c.in-Some.ensures, omega arith)
 
-pub returns-then-pieces-eq1 : goal.returns-then-pieces-eq1
-returns-then-pieces-eq1 c =
-    let one : c.args.pieces ≡ 1 = omega arith in
-    let small : c.operand.result < 4294967296 = omega arith in
-    (rw (one, value_given c.operand.result small) (one_value c.operand.ensures), omega arith)
-
-pub joined-requires : goal.joined-requires
-joined-requires c =
-    let three : c.args.pieces ≡ 3 = omega arith in
-    rw three at c.requires
-
-pub returns-then-pieces-eq3 : goal.returns-then-pieces-eq3
-returns-then-pieces-eq3 c =
-    let three : c.args.pieces ≡ 3 = omega arith in
-    rw three c.joined.ensures
+pub returns-in-None : goal.returns-in-None
+unfolding found
+returns-in-None c = (rw (none_given 4294967296 (omega arith)) c.in-None.ensures, omega arith)

@@ -27,6 +27,4 @@ pub sign-requires : goal.sign-requires
 sign-requires c = (three_pieces c.requires).third
 
 pub returns : goal.returns
-returns c =
-    let asked = c.requires in
-    (rw c.sign.ensures.value (three_value c.operand-left.ensures c.operand-right.ensures (three_pieces asked).third), c.sign.ensures.most)
+returns c = rw c.sign.ensures (three_value c.operand-left.ensures c.operand-right.ensures (three_pieces c.requires).third)

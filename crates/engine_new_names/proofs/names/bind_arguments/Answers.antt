@@ -38,9 +38,6 @@ put_word-requires c =
 pub overflow_add-own : goal.overflow_add-own
 overflow_add-own c = omega (arith, c.requires.few, c.loop-j.invariant.few, c.loop-j-test.true)
 
-pub overflow_add-j-in-loop-j : goal.overflow_add-j-in-loop-j
-overflow_add-j-in-loop-j c = omega (arith, c.requires.few, c.loop-j-test.true)
-
 pub loop-j-preserved : goal.loop-j-preserved
 loop-j-preserved c =
     let p = c.requires in

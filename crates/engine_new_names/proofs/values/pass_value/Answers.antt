@@ -7,4 +7,4 @@ pub returns-then-bit-eq1 : goal.returns-then-bit-eq1
 returns-then-bit-eq1 c = reference_passed c.args.m.now c.if-bit-eq1.true
 
 pub returns : goal.returns
-returns c = value_passed c.if-bit-eq1.false c.named_value-v.ensures c.put_word.ensures
+returns c = value_passed c.if-bit-eq1.false c.value_of-v.ensures c.put_word.ensures

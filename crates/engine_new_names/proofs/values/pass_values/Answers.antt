@@ -24,9 +24,6 @@ pass_value-own-requires c =
     let there = value_there p v.invariant c.loop-j-test.true in
     (omega (arith, p.binds.size, v.invariant.in_block.size), p.binds.caller, p.binds.slot, rw c.name_at.ensures there, omega (arith, v.invariant.few, p.binds.few, c.loop-j-test.true))
 
-pub overflow_add-j : goal.overflow_add-j
-overflow_add-j c = omega (arith, c.requires.binds.few, c.loop-j-test.true)
-
 pub loop-j-preserved : goal.loop-j-preserved
 loop-j-preserved c =
     let p = c.requires in

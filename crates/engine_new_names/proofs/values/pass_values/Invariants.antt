@@ -6,6 +6,3 @@ use Rattle.engine_new_names.proofs.values.pass_values.Given as goal
 
 abbrev pub invariant-loop-j : goal.invariant-loop-j
 invariant-loop-j l = Values l.t l.initial.m l.me l.s l.at l.count l.bits l.m l.j l.rest l.own
-
-abbrev pub decreases-loop-j : goal.decreases-loop-j
-decreases-loop-j l = l.count - l.j

@@ -13,9 +13,8 @@ use Rattle.listing.specs.Listing.{literal, value_of, written_mark}
 use Rattle.listing.specs.Expressions.{bind, Effect, adds, joins, effect_of, may_come, held_with, leaves_one_from}
 use Rattle.listing.specs.Questions.{piece_is_there}
 use Rattle.table.specs.Decode.{word, no_piece, piece_of, is_sign, piece_at, cells_at, pieces_at}
-use Rattle.walk.specs.State.{Variable}
 use Rattle.walk.specs.Memory.{top, evaluate_pieces, evaluate_by}
-use Rattle.engine_evaluate.specs.Bound.{bindings_of, FromNames, variable_named}
+use Rattle.engine_evaluate.specs.Bound.{bindings_of, variable_named}
 use Rattle.engine_values.specs.Values.{sign_of, joined}
 use Rattle.engine_evaluate.specs.Evaluable.{Evaluable, PieceStands, Adds, Evaluates}
 use Rattle.engine_evaluate.proofs.Pieces.{both, by_kind, other_than_sign, joins_by}

@@ -1,9 +1,9 @@
 -- The search for the lowest free slot, one slot up.
-use mathlib.Core.Path.{◌≡◌, refl, ap, ◌∙◌}
+use mathlib.Core.Path.{◌≡◌, ap, ◌∙◌}
 use mathlib.Core.Bool.{true, false}
 use Prim.Native.Nat.{ℕ, suc, ◌-◌, ◌<◌}
 use native.Mathlib.Omega.{arith}
-use Rattle.engine_rows.specs.Rows.{Row, Rows}
+use Rattle.engine_rows.specs.Rows.{Rows}
 use Rattle.engine_rows.specs.Engine.{free_else, free_slot}
 
 module _ (rows : Rows) (n : ℕ) (h : n < 64) where

@@ -1,6 +1,6 @@
 -- The trigger lists that words stand for. Trigger suc n is slot n / 4 with name n % 4 of its wait; its word at 160 + n % 4 is the next trigger in the
 -- list of that variable, whose word at 144 + i is the first. Numbers fall along a list; 0 is none.
-use Rattle.std.specs.Prelude.{Bool, true, false, List, [], ◌∷◌, ◌≡◌, ℕ, zero, suc, ◌+◌, ◌*◌, ◌/◌, ◌%◌, ◌≤◌, ◌<◌, eqb}
+use Rattle.std.specs.Prelude.{Bool, true, false, List, [], ◌∷◌, ◌≡◌, ℕ, zero, suc, ◌+◌, ◌/◌, ◌%◌, ◌≤◌, ◌<◌, eqb}
 use Rattle.engine_rows.specs.Rows.{Owner}
 use Rattle.engine_blocks.specs.Blocks.{block, owner_at}
 use Rattle.engine_blocks.specs.Changes.{SameOutside, SameRows}

@@ -10,6 +10,7 @@ use Rattle.walk.specs.State.{Variable}
 use Rattle.std.specs.Prelude.{Some, None}
 use Rattle.std.specs.declared.option.Option.{Option}
 use Rattle.words.specs.declared.moment.Moment.{Moment}
+use Rattle.machine.specs.Layout.{waiting_moment}
 use Rattle.machine.specs.Words.{waiting_of}
 use Rattle.engine_rows.specs.Rows.{variable_of, owner_of}
 use Rattle.engine_blocks.proofs.RowChanges.{row_of}
@@ -18,6 +19,12 @@ use Rattle.engine_variables.proofs.VariableChanges.{variable_listed}
 use Rattle.engine_variables.specs.Bindings.{variables_beside, ReadOf, due_moment}
 use Rattle.engine_blocks.specs.Blocks.{Block, block, variable_in, variables_in, owner_at, owner_in, bindings_in, row_at, rows_of, environment_of}
 use Rattle.engine_blocks.specs.Store.{store_of, variable_from}
+
+-- The moment of a waiting write, 0 without one.
+pub moment_of_lem : (d v : ℕ) → waiting_moment (waiting_of d v) ≡ d
+unfolding waiting_moment waiting_of
+moment_of_lem zero v = refl
+moment_of_lem (suc d) v = refl
 
 -- The moment of a waiting write that two words tell.
 pub due_none : (d v : ℕ) → d ≡ 0 → None ≡ due_moment (waiting_of d v)

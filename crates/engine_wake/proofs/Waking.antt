@@ -1,14 +1,14 @@
 -- The pass of a write over a trigger list.
 use mathlib.Core.Bool.{Bool, true, false, ◌&&◌}
 use mathlib.Core.List.{List, [], ◌∷◌}
-use mathlib.Core.Path.{◌≡◌, refl, sym, ap, ap₂, ◌∙◌}
-use Prim.Native.Nat.{ℕ, zero, suc, ◌/◌, ◌≤◌, ◌<◌}
+use mathlib.Core.Path.{◌≡◌, refl, sym, ap, ◌∙◌}
+use Prim.Native.Nat.{ℕ, suc, ◌/◌, ◌≤◌, ◌<◌}
 use native.Mathlib.Omega.{arith}
 use lib.Dec.{leb}
 use lib.ListN.{length}
 use borrow.Author.Tests.{lt-leb, le-leb}
 use Rattle.engine_rows.specs.Ready.{insert, insert_all_lem, insert_if}
-use Rattle.engine_rows.specs.Rows.{Row, Rows}
+use Rattle.engine_rows.specs.Rows.{Rows}
 use Rattle.engine_rows.specs.Triggers.{cons_if, triggered}
 use Rattle.engine_blocks.specs.Blocks.{rows_of}
 use Rattle.engine_rows.proofs.Sorted.{In, here, there, Either, this, that}

@@ -1,20 +1,18 @@
 -- `engine_triggers::list_names` meets its contract.
-use mathlib.Core.List.{List}
 use mathlib.Core.Path.{◌≡◌, sym, ap, ◌∙◌}
-use Prim.Native.Nat.{ℕ, suc, ◌+◌, ◌*◌, ◌-◌, ◌≤◌, ◌<◌}
+use Prim.Native.Nat.{suc, ◌+◌, ◌*◌, ◌<◌}
 use native.Mathlib.Numerals.{add-one}
 use native.Mathlib.Omega.{arith}
 use lib.ListN.{length}
 use borrow.Author.Rules.{rules}
 use Rattle.table.specs.Decode.{name_at, names_at}
 use Rattle.table.proofs.Reach.{cells_by_place}
-use Rattle.engine_rows.specs.Rows.{Owner, Row, Rows}
+use Rattle.engine_rows.specs.Rows.{Rows}
 use Rattle.engine_blocks.proofs.Staying.{rows_of_same}
 use Rattle.engine_blocks.specs.Blocks.{rows_of}
 use Rattle.engine_triggers.proofs.Chaining.{only_start, only_then}
 use Rattle.engine_triggers.proofs.Listing.{length_names, bindings_few, lists_none, lists_next}
 use Rattle.engine_triggers.specs.Awaited.{FewNames, lists_with}
-use Rattle.engine_triggers.specs.Chains.{Chains, OnlyTriggers}
 use Rattle.engine_triggers.proofs.list_names.Goals as goal
 
 pub loop-j-init : goal.loop-j-init

@@ -1,14 +1,7 @@
-use mathlib.Core.Path.{◌≡◌}
-use Prim.Native.Nat.{◌*◌, ◌-◌, ◌≤◌}
-use native.Mathlib.Numerals.{add-one}
-use native.Mathlib.Omega.{arith}
+use Prim.Native.Nat.{◌*◌, ◌≤◌}
 use lib.ListN.{length}
-use borrow.Author.Rules.{rules}
-use Rattle.engine_blocks.proofs.Staying.{rows_of_same}
 use Rattle.engine_blocks.specs.Blocks.{rows_of}
-use Rattle.engine_triggers.proofs.Chaining.{only_start, only_then}
-use Rattle.engine_triggers.proofs.Slots.{slots_start, slots_next, slots_end}
-use Rattle.engine_triggers.specs.Awaited.{Sleepers, listed_below_lem}
+use Rattle.engine_triggers.specs.Awaited.{listed_below_lem}
 use Rattle.engine_triggers.specs.Chains.{Chains, OnlyTriggers}
 use Rattle.engine_triggers.proofs.list_sleepers.Given as goal
 

@@ -5,7 +5,6 @@ use mathlib.Core.Path.{◌≡◌, sym, ap, ap₂, subst, ◌∙◌}
 use Prim.Native.Nat.{ℕ, ◌≤◌}
 use native.Mathlib.Omega.{arith}
 use borrow.Author.Rules.{rules}
-use borrow.Author.Tests.{not-true, not-false}
 use Rattle.table_read.specs.Opened.{entry_at}
 use Rattle.table_read.specs.declared.Entry.{Entry}
 use Rattle.engine_rows.specs.Rows.{Row}

@@ -1,8 +1,7 @@
 -- `operate` meets its contract: the two on top are joined, the first one pushed on the left; nothing is held where no value comes of it.
-use mathlib.Core.Path.{◌≡◌, refl, sym, ap, ◌∙◌}
+use mathlib.Core.Path.{sym, ap, ◌∙◌}
 use mathlib.Core.Option.{Option, some}
-use Prim.Native.Nat.{ℕ, ◌-◌, ◌≤◌}
-use native.Mathlib.Omega.{arith}
+use Prim.Native.Nat.{ℕ, ◌-◌}
 use borrow.Author.Rules.{rules}
 use Rattle.listing.specs.Expressions.{bind}
 use Rattle.engine_values.specs.Values.{found, sign_of, held, left_by}

@@ -3,7 +3,6 @@ use Prim.Native.Nat.{suc, ◌+◌, ◌<◌}
 use mathlib.Core.Path.{◌≡◌}
 use native.Mathlib.Omega.{arith}
 use lib.ListN.{length, length-set}
-use borrow.Author.Rules.{rules}
 use Rattle.engine_values.proofs.Values.{one_more}
 use Rattle.engine_values.proofs.push.Goals as goal
 

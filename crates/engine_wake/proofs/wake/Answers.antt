@@ -3,7 +3,6 @@ use mathlib.Core.List.{List}
 use mathlib.Core.Path.{◌≡◌, ap, ◌∙◌}
 use Prim.Native.Nat.{ℕ, suc, ◌+◌}
 use native.Mathlib.Omega.{arith}
-use borrow.Author.Rules.{rules}
 use Rattle.engine_rows.specs.Ready.{insert_all_lem}
 use Rattle.engine_blocks.specs.Blocks.{rows_of}
 use Rattle.engine_ready.specs.Slots.{slots_of}

@@ -1,14 +1,11 @@
-use mathlib.Core.Path.{◌≡◌, sym, ◌∙◌}
-use Prim.Native.Nat.{suc, ◌-◌, ◌/◌, ◌≤◌, ◌<◌}
-use native.Mathlib.Omega.{arith}
-use borrow.Author.Rules.{rules}
+use mathlib.Core.Path.{◌≡◌}
+use Prim.Native.Nat.{◌≤◌}
 use Rattle.engine_rows.specs.Ready.{insert_all_lem}
 use Rattle.engine_blocks.specs.Blocks.{rows_of}
 use Rattle.engine_ready.specs.Ordered.{Ordered}
 use Rattle.engine_ready.specs.Slots.{slots_of}
-use Rattle.engine_wake.proofs.Waking.{ordered_insert_if, rest_start, rest_past, rest_next, rest_last, rest_end}
-use Rattle.engine_triggers.specs.Chains.{first_trigger, next_trigger, chained, triggers_at}
-use Rattle.engine_wake.specs.Wakes.{wakes, triggered_from}
+use Rattle.engine_triggers.specs.Chains.{chained, triggers_at}
+use Rattle.engine_wake.specs.Wakes.{triggered_from}
 use Rattle.engine_wake.proofs.wake_from.Given as goal
 
 -- `engine_wake::wake_from` meets its contract.

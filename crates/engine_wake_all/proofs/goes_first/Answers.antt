@@ -2,8 +2,6 @@
 use mathlib.Core.Path.{sym, ap, ◌∙◌}
 use Prim.Native.Nat.{ℕ, ◌-◌, ◌/◌}
 use lib.Dec.{ltb}
-use borrow.Author.Rules.{rules}
-use borrow.Author.Tests.{not-true, not-false}
 use Rattle.engine_blocks.specs.Blocks.{rows_of}
 use Rattle.engine_ready.specs.Ordered.{comes_first}
 use Rattle.engine_wake_all.proofs.Putting.{no_trigger, too_far, not_asleep, by_priority}

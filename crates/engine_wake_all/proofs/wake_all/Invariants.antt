@@ -1,17 +1,11 @@
-use mathlib.Core.Path.{◌≡◌, refl, sym, ◌∙◌}
+use mathlib.Core.Path.{◌≡◌}
 use Prim.Native.Nat.{◌≤◌}
-use native.Mathlib.Numerals.{add-one}
-use native.Mathlib.Omega.{arith}
 use lib.ListN.{length}
-use borrow.Author.Rules.{rules}
 use Rattle.engine_rows.specs.Ready.{insert_all_lem}
 use Rattle.engine_blocks.specs.Blocks.{rows_of}
-use Rattle.engine_ready.proofs.Distinct.{ordered_few}
-use Rattle.engine_ready.proofs.Falling.{length_slots}
-use Rattle.engine_ready.specs.Ordered.{Ordered}
-use Rattle.engine_ready.specs.Slots.{falling, slots_of}
-use Rattle.engine_wake_all.proofs.Putting.{first_goes, Putting, putting_room, putting_next, putting_few, putting_end}
-use Rattle.engine_triggers.specs.Chains.{first_trigger, triggers_at}
+use Rattle.engine_ready.specs.Slots.{slots_of}
+use Rattle.engine_wake_all.proofs.Putting.{Putting}
+use Rattle.engine_triggers.specs.Chains.{triggers_at}
 use Rattle.engine_wake.specs.Wakes.{triggered_from}
 use Rattle.engine_wake_all.proofs.wake_all.Given as goal
 

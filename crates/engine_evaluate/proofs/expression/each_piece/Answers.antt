@@ -1,10 +1,10 @@
 -- `each_piece` meets its contract.
 use mathlib.Core.Path.{◌≡◌}
-use Prim.Native.Nat.{◌+◌, ◌*◌, ◌-◌, ◌≤◌, ◌<◌}
+use Prim.Native.Nat.{◌+◌, ◌*◌, ◌-◌, ◌<◌}
 use native.Mathlib.Omega.{arith}
 use borrow.Author.Rules.{rules}
 use Rattle.engine_values.specs.Values.{found}
-use Rattle.engine_evaluate.proofs.Turns.{Before, first_turn, may_come_lem, next_turn, fails_now, last_turn}
+use Rattle.engine_evaluate.proofs.Turns.{first_turn, may_come_lem, next_turn, fails_now, last_turn}
 use Rattle.engine_evaluate.proofs.expression.each_piece.Goals as goal
 
 pub loop-k-init : goal.loop-k-init

@@ -1,8 +1,6 @@
 -- `evaluate` meets its contract: the number of a value or of none.
-use mathlib.Core.Path.{◌≡◌}
 use Prim.Native.Nat.{◌<◌}
 use native.Mathlib.Omega.{arith}
-use borrow.Author.Rules.{rules}
 use Rattle.engine_values.specs.Values.{found}
 use Rattle.engine_values.proofs.Values.{value_given, none_given}
 use Rattle.engine_evaluate.proofs.expression.evaluate.Goals as goal

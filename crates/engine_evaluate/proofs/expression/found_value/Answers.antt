@@ -1,7 +1,6 @@
 -- `found_value` meets its contract: one piece and three by their form, others piece by piece.
 use mathlib.Core.Path.{◌≡◌}
 use native.Mathlib.Omega.{arith}
-use borrow.Author.Rules.{rules}
 use Rattle.engine_values.specs.Values.{found}
 use Rattle.engine_evaluate.proofs.Short.{one_piece, one_value}
 use Rattle.engine_evaluate.proofs.expression.found_value.Goals as goal

@@ -1,6 +1,5 @@
 -- `joined` meets its contract: by the form two pieces add a value and the third is a sign.
 use native.Mathlib.Omega.{arith}
-use borrow.Author.Rules.{rules}
 use Rattle.engine_evaluate.proofs.Short.{three_pieces, three_value}
 use Rattle.engine_evaluate.proofs.expression.joined.Goals as goal
 

@@ -1,6 +1,5 @@
 -- `operand` meets its contract: each arm has the value that a piece of its kind adds.
 use native.Mathlib.Omega.{arith}
-use borrow.Author.Rules.{rules}
 use Rattle.engine_evaluate.proofs.Pieces as pieces
 use Rattle.engine_evaluate.proofs.expression.operand.Goals as goal
 

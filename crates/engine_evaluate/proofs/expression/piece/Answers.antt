@@ -1,7 +1,6 @@
 -- `piece` meets its contract: a sign joins the two values on top, any other piece adds one.
 use mathlib.Core.Path.{sym, ◌∙◌}
 use native.Mathlib.Omega.{arith}
-use borrow.Author.Rules.{rules}
 use Rattle.engine_evaluate.proofs.Pieces as pieces
 use Rattle.engine_evaluate.proofs.expression.piece.Goals as goal
 

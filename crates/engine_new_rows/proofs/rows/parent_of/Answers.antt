@@ -2,7 +2,6 @@
 use mathlib.Core.Path.{refl}
 use native.Mathlib.Omega.{arith}
 use Rattle.engine_new_rows.proofs.Priorities.{own_length}
-use borrow.Author.Rules.{rules}
 use Rattle.engine_new_rows.proofs.rows.parent_of.Goals as goal
 
 pub overflow_sub-bits : goal.overflow_sub-bits

@@ -1,7 +1,6 @@
 -- `engine_new_rows::rows::put_kept` meets its contract.
 use Rattle.engine_blocks.proofs.InBlocks.{in_block_put_then}
 use Rattle.engine_new_rows.specs.NewRow.{kept_block}
-use borrow.Author.Rules.{rules}
 use Rattle.engine_new_rows.proofs.rows.put_kept.Goals as goal
 
 pub returns : goal.returns

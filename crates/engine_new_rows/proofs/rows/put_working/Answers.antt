@@ -3,7 +3,6 @@ use Prim.Native.Nat.{◌+◌, ◌*◌, ◌^◌}
 use native.Mathlib.Omega.{arith}
 use Rattle.engine_blocks.proofs.InBlocks.{in_block_put_then}
 use Rattle.engine_new_rows.specs.NewRow.{working_block}
-use borrow.Author.Rules.{rules}
 use Rattle.engine_new_rows.proofs.rows.put_working.Goals as goal
 
 pub overflow_cast-p : goal.overflow_cast-p

@@ -1,8 +1,7 @@
 -- `engine_new_rows::slots::free_slot` meets its contract.
 use mathlib.Core.Path.{◌≡◌, sym, ap, ◌∙◌}
-use Prim.Native.Nat.{ℕ, ◌-◌, ◌+◌, ◌<◌}
+use Prim.Native.Nat.{◌-◌, ◌+◌, ◌<◌}
 use native.Mathlib.Omega.{arith}
-use borrow.Author.Rules.{rules}
 use Rattle.std.proofs.Common.{below_more}
 use Rattle.engine_rows.specs.Engine.{free_slot}
 use Rattle.engine_blocks.specs.Blocks.{rows_of}

@@ -7,7 +7,7 @@ use lib.ListN.{length}
 use Rattle.walk.specs.State.{Variable}
 use Rattle.walk.specs.Memory.{variable_at}
 use Rattle.engine_rows.specs.Rows.{Owner, in_environment, in_slot, Row, Rows, variable_of, owner_of, named}
-use Rattle.engine_blocks.specs.Blocks.{Block, block, row_at, rows_of, environment_of}
+use Rattle.engine_blocks.specs.Blocks.{Block, row_at, rows_of, environment_of}
 use Rattle.engine_blocks.specs.Store.{store_of}
 use Rattle.engine_blocks.specs.Changes.{InBlock}
 use Rattle.engine_variables.specs.Bindings.{variables_beside}

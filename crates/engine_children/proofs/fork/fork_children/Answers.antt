@@ -1,9 +1,8 @@
 -- `engine_children::fork::fork_children` meets its contract.
 use mathlib.Core.Path.{◌≡◌, refl}
-use Prim.Native.Nat.{◌-◌}
 use native.Mathlib.Omega.{arith}
 use Rattle.engine_children.proofs.ChildSteps.{table_size_lem, head_inside}
-use Rattle.engine_children.proofs.Forking.{Forking, fork_start, may_make, some_free, slot_found, fork_next, fork_end}
+use Rattle.engine_children.proofs.Forking.{fork_start, may_make, some_free, slot_found, fork_next, fork_end}
 use borrow.Author.Rules.{rules}
 use Rattle.engine_rows.specs.Engine.{free_slot}
 use Rattle.engine_blocks.specs.Blocks.{rows_of}

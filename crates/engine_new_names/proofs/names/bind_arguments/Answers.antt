@@ -1,9 +1,7 @@
 -- `engine_new_names::names::bind_arguments` meets its contract.
-use Prim.Native.Nat.{◌-◌}
 use native.Mathlib.Omega.{arith}
 use Rattle.engine_evaluate.proofs.Names.{names_few}
-use Rattle.engine_new_names.proofs.Naming.{Arguments, arguments_start, argument_there, arguments_next, arguments_end}
-use borrow.Author.Rules.{rules}
+use Rattle.engine_new_names.proofs.Naming.{arguments_start, argument_there, arguments_next, arguments_end}
 use Rattle.engine_new_names.proofs.names.bind_arguments.Goals as goal
 
 pub loop-j-init : goal.loop-j-init

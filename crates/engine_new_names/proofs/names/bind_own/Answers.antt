@@ -1,7 +1,6 @@
 -- `engine_new_names::names::bind_own` meets its contract.
 use mathlib.Core.Path.{refl}
-use Prim.Native.Nat.{◌-◌}
-use Rattle.engine_new_names.proofs.OwnNames.{OwnNames, own_start, own_next, own_end}
+use Rattle.engine_new_names.proofs.OwnNames.{own_start, own_next, own_end}
 use borrow.Author.Rules.{rules}
 use Rattle.engine_new_names.proofs.names.bind_own.Goals as goal
 

@@ -1,7 +1,4 @@
-use mathlib.Core.Path.{refl}
-use Prim.Native.Nat.{◌-◌}
-use Rattle.engine_new_names.proofs.OwnNames.{OwnNames, own_start, own_next, own_end}
-use borrow.Author.Rules.{rules}
+use Rattle.engine_new_names.proofs.OwnNames.{OwnNames}
 use Rattle.engine_new_names.proofs.names.bind_own.Given as goal
 
 abbrev pub invariant-loop-j : goal.invariant-loop-j

@@ -1,6 +1,5 @@
 -- `engine_new_names::values::pass_value` meets its contract.
 use Rattle.engine_new_names.proofs.Passing.{reference_passed, value_passed}
-use borrow.Author.Rules.{rules}
 use Rattle.engine_new_names.proofs.values.pass_value.Goals as goal
 
 pub returns-then-bit-eq1 : goal.returns-then-bit-eq1

@@ -1,8 +1,6 @@
 -- `engine_new_names::values::pass_values` meets its contract.
-use Prim.Native.Nat.{◌-◌}
 use native.Mathlib.Omega.{arith}
-use Rattle.engine_new_names.proofs.Passing.{Values, values_start, value_there, values_next, values_end}
-use borrow.Author.Rules.{rules}
+use Rattle.engine_new_names.proofs.Passing.{values_start, value_there, values_next, values_end}
 use Rattle.engine_new_names.proofs.values.pass_values.Goals as goal
 
 pub loop-j-init : goal.loop-j-init

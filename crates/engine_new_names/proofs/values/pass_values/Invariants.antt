@@ -1,7 +1,4 @@
-use Prim.Native.Nat.{◌-◌}
-use native.Mathlib.Omega.{arith}
-use Rattle.engine_new_names.proofs.Passing.{Values, values_start, value_there, values_next, values_end}
-use borrow.Author.Rules.{rules}
+use Rattle.engine_new_names.proofs.Passing.{Values}
 use Rattle.engine_new_names.proofs.values.pass_values.Given as goal
 
 abbrev pub invariant-loop-j : goal.invariant-loop-j

@@ -1,11 +1,12 @@
 // Question 5. Document 01: "Has every routine a line (place: its `R`), the last being `E` or `G`?"
 ghost use Rattle.std.specs.Prelude.{◌≡◌};
 ghost use Rattle.listing.specs.Questions.{place2, place5};
+ghost use Rattle.text_records.specs.Lines.{some_place};
 ghost use Rattle.text_endings.specs.Endings.{ends_badly, may_end_with};
 
-use text_jumps::{Record, Scope};
+use text_jumps::{NO_SCOPE, Record};
 use text_place::Place;
-use text_records::{Line, read_line};
+use text_records::read_line;
 
 // Whether a routine ends before this record, and may not.
 fn ends_badly(allowed: bool, r: Record) -> bool
@@ -29,41 +30,23 @@ fn may_end_with(r: Record) -> bool
     }
 }
 
-// The first line that a routine ends with and may not, or 0. A line is judged when the next one is known.
-pub fn ending_place(s: &[u8]) -> usize
+// The first line that a routine ends with and may not, if there is one. A line is judged when the next one is known.
+pub fn ending_place(s: &[u8]) -> Option<usize>
     requires { place2 s.now ≡ 0 }
-    ensures { result ≡ place5 s.now }
+    ensures { result ≡ some_place (place5 s.now) }
 {
-    let nothing = Scope {
-        names: 0,
-        size: 0,
-        routines: 0,
-    };
-    let none = [0u8; 64];
     let mut may_end = true;
-    let mut at = 0;
-    let mut line = 1;
-    while at < s.len() {
-        let Line::Is(r, _, next) = read_line(
-            s,
-            Place {
-                offset: at,
-                line: line,
-            },
-            nothing,
-            &none,
-        ) else {
-            return 0;
-        };
-        if ends_badly(may_end, r) {
-            return line - 1;
+    let mut at = Place { offset: 0, line: 1 };
+    while at.offset < s.len() {
+        let read = read_line(s, at, NO_SCOPE, &[])?;
+        if ends_badly(may_end, read.value) {
+            return Some(at.line - 1);
         }
-        may_end = may_end_with(r);
-        at = next.offset;
-        line = next.line;
+        may_end = may_end_with(read.value);
+        at = read.next;
     }
     if may_end {
-        return 0;
+        return None;
     }
-    line - 1
+    Some(at.line - 1)
 }

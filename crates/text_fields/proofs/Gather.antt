@@ -1,4 +1,6 @@
 -- What is gathered from a field's pieces, as an expression and as a row of figures.
+use Rattle.std.specs.Prelude as P
+use Rattle.std.specs.Prelude.{Some, None}
 use mathlib.Core.Path.{◌≡◌, refl, sym, ap, ◌∙◌}
 use mathlib.Core.Bool.{Bool, true, false, cond, ◌&&◌}
 use mathlib.Core.List.{List, [], ◌∷◌}
@@ -25,9 +27,7 @@ use Rattle.text_place.specs.declared.place.Place.{Place}
 use Rattle.text_piece.specs.declared.piece.Piece.{Piece}
 use Rattle.text_fields.specs.declared.gathering.Gathering.{Gathering}
 use Rattle.text_fields.specs.declared.field.Expression.{Expression}
-use Rattle.text_fields.specs.declared.field.Expression.TheVariants as EV
-use Rattle.text_fields.specs.declared.field.Pieces.{Pieces}
-use Rattle.text_fields.specs.declared.field.Pieces.TheVariants as SV
+use Rattle.text_fields.specs.declared.field.Read.{Read}
 use Rattle.text_place.specs.declared.place.Taken.{Taken}
 use Rattle.text_place.proofs.Places.{left_open}
 use Rattle.text_fields.proofs.OnField.{OnField, begun, more_pieces, moved_on, still_on, last_piece, stop_at_end, next_at_end}
@@ -103,6 +103,10 @@ and_assoc : (a b c : Bool) → ((a && b) && c) ≡ (a && (b && c))
 and_assoc true b c = refl
 and_assoc false b c = refl
 
+-- an expression that was read
+abbrev pub expression_with : ℕ → Bool → ℕ → Place → P.Option (Read Expression)
+expression_with pieces there stop next = Some (record { value = record { pieces = pieces; there = there }; stop = stop; next = next })
+
 -- ── a field's pieces as an expression ────────────────────────────────────────────
 held_nine : (names : ℕ) (g : Gathering) (ws : List (List ℕ)) → g.held ≡ 9 → (gather_all names g ws).held ≡ 9
 unfolding gather_all
@@ -146,11 +150,11 @@ module _ (names : ℕ) where
 
     said_of : (ws : List (List ℕ)) (o : Option L.Expression) (stop : ℕ) (next : Place) → Run nothing ws o
         → as_expression names (bind o (λ e. when (leaves_one e) e)) stop next
-        ≡ cond (eqb (gather_all names nothing ws).held 1) (EV.Read (gather_all names nothing ws).count (gather_all names nothing ws).there stop next) EV.Bad
+        ≡ cond (eqb (gather_all names nothing ws).held 1) (expression_with (gather_all names nothing ws).count (gather_all names nothing ws).there stop next) None
     said_of ws none stop next (out e) = rw e
     said_of ws (some x) stop next (ran e l t) = rw (e, l, t, ← leaves_held x 0 (omega arith)) (go (leaves_one_from 0 x))
       where
-        go : (u : Bool) → as_expression names (when u x) stop next ≡ cond u (EV.Read (0 + length x) (all (piece_is_there names) x) stop next) EV.Bad
+        go : (u : Bool) → as_expression names (when u x) stop next ≡ cond u (expression_with (0 + length x) (all (piece_is_there names) x) stop next) None
         go true = let z : 0 + length x ≡ length x = omega arith in rw z
         go false = refl
 
@@ -160,41 +164,30 @@ module _ (names : ℕ) where
 
     pub expression_open : (s : List ℕ) (p : Place) (stop : ℕ) → stop ≡ 9
         → expression_answer names s p stop ≡ cond (eqb (gather_all names nothing (field_pieces s p.offset)).held 1)
-        (EV.Read (gather_all names nothing (field_pieces s p.offset)).count (gather_all names nothing (field_pieces s p.offset)).there
-        (get_or s (field_end s p.offset) 0) (passed s p.line (field_end s p.offset))) EV.Bad
+        (expression_with (gather_all names nothing (field_pieces s p.offset)).count (gather_all names nothing (field_pieces s p.offset)).there
+        (get_or s (field_end s p.offset) 0) (passed s p.line (field_end s p.offset))) None
     unfolding next_field_lem read_expression
     expression_open s p stop e =
         rw (e, left_open s p.offset, bind_some (bind (each read_piece (field_pieces s p.offset)) (λ x. when (leaves_one x) x)))
         (said_of (field_pieces s p.offset) (each read_piece (field_pieces s p.offset)) _ _ (run_of nothing (field_pieces s p.offset)))
 
-  pub expression_shut : (s : List ℕ) (p : Place) (stop : ℕ) → (stop ≡ 9 → ⊥) → expression_answer names s p stop ≡ EV.Bad
+  pub expression_shut : (s : List ℕ) (p : Place) (stop : ℕ) → (stop ≡ 9 → ⊥) → expression_answer names s p stop ≡ None
   unfolding fields_left next_field_lem
   expression_shut s p stop n = rw (ne_eqb stop 9 n)
 
 -- by the field's pieces
-abbrev pub expression_by : Pieces → Expression
-expression_by SV.Bad = EV.Bad
-expression_by (SV.Read g stop next) = cond (eqb g.held 1) (EV.Read g.count g.there stop next) EV.Bad
+abbrev pub expression_by : P.Option (Read Gathering) → P.Option (Read Expression)
+expression_by None = None
+expression_by (Some f) = cond (eqb f.value.held 1) (expression_with f.value.count f.value.there f.stop f.next) None
 
-pub expression_by_lem : (names : ℕ) → names ≤ cap → (s : List ℕ) (p : Place) (stop : ℕ) (r : Pieces) → r ≡ pieces_answer names s p stop → expression_by r ≡ expression_answer names s p stop
+pub expression_by_lem : (names : ℕ) → names ≤ cap → (s : List ℕ) (p : Place) (stop : ℕ) (r : P.Option (Read Gathering)) → r ≡ pieces_answer names s p stop → expression_by r ≡ expression_answer names s p stop
 expression_by_lem names h s p stop r e = ap expression_by e ∙ go (eqb stop 9) refl
   where
     go : (t : Bool) → eqb stop 9 ≡ t
-        → expression_by (cond t (SV.Read (gather_all names nothing (field_pieces s p.offset)) (get_or s (field_end s p.offset) 0) (passed s p.line (field_end s p.offset))) SV.Bad)
+        → expression_by (cond t (Some (record { value = gather_all names nothing (field_pieces s p.offset); stop = get_or s (field_end s p.offset) 0; next = passed s p.line (field_end s p.offset) })) None)
         ≡ expression_answer names s p stop
     go true i = sym (expression_open names h s p stop (eqb-true stop 9 i))
     go false i = sym (expression_shut names s p stop (eqb-false stop 9 i))
-
--- ── one piece more ───────────────────────────────────────────────────────────────
-module _ (names : ℕ) (g : Gathering) (p : Piece) (held : ℕ) (value figures known there : Bool) (h : held ≡ held_after g.held (effect_in p)) (v : value ≡ is_value p)
-    (f : figures ≡ (g.figures && value)) (k : known ≡ is_there_by names p) (t : there ≡ (g.there && known)) where
-  pub gather_first : (first : ℕ) → first ≡ value_in p → g.count ≡ 0
-      → record { count = 1; held = held; figures = figures; first = first; others = g.others; there = there } ≡ gather_one names g p
-  gather_first first i z = rw (h, f, v, t, k, i, z)
-
-  pub gather_next : (others : Bool) → others ≡ (g.others && known) → (g.count ≡ 0 → ⊥)
-      → record { count = g.count + 1; held = held; figures = figures; first = g.first; others = others; there = there } ≡ gather_one names g p
-  gather_next others i n = rw (h, f, v, t, i, k, ne_eqb g.count 0 n)
 
 -- ── the loop over a field ────────────────────────────────────────────────────────
 -- what is gathered up to an offset and then from there on is what the whole field gives
@@ -223,7 +216,7 @@ module _ (names : ℕ) (s : List ℕ) (at₀ line : ℕ) where
     unfolding gather_all
     gathering_done n = sym v.same ∙ ap (gather_all names g) (last_piece s at₀ line at v.place r ens n) ∙ sym one
 
-    pub gathering_read : (place : Place) → place.offset ≡ at₀ → place.line ≡ line → (stop : ℕ) → stop ≡ 9 → (r.stop ≡ 32 → ⊥) → SV.Read g' r.stop r.next ≡ pieces_answer names s place stop
+    pub gathering_read : (place : Place) → place.offset ≡ at₀ → place.line ≡ line → (stop : ℕ) → stop ≡ 9 → (r.stop ≡ 32 → ⊥) → ◌≡◌ {A = P.Option (Read Gathering)} (Some (record { value = g'; stop = r.stop; next = r.next })) (pieces_answer names s place stop)
     gathering_read place i j stop e n =
         let a = gathering_done n in
         let b = stop_at_end s at₀ line at v.place r ens n in

@@ -1,4 +1,7 @@
 -- The kinds of a routine's arguments, letter by letter.
+use Rattle.std.specs.Prelude as P
+use Rattle.std.specs.Prelude.{Some, None}
+use Rattle.std.specs.List.{list_all}
 use mathlib.Core.Path.{◌≡◌, refl, sym, ap, ◌∙◌}
 use mathlib.Core.Bool.{Bool, true, false, cond, ◌&&◌}
 use mathlib.Core.List.{List, [], ◌∷◌}
@@ -9,7 +12,7 @@ use native.Mathlib.Numerals.{add-one}
 use lib.Dec.{eqb}
 use lib.ListN.{length, get_or, drop}
 use lib.Seq.{length-slice, slice, slice-cons, slice_empty}
-use borrow.Author.Tests.{ne_eqb}
+use borrow.Author.Tests.{ne_eqb, eqb-true}
 use Rattle.listing.specs.Lists.{all}
 use Rattle.listing.specs.Expressions.{bind, each, alone}
 use Rattle.listing.specs.Form.{next_field_lem, one_piece_lem, read_kind, read_kinds}
@@ -18,14 +21,11 @@ use Rattle.listing.specs.Listing as L
 use Rattle.listing.proofs.Splits.{split_has_part}
 use Rattle.text_place.specs.Texts.{first_piece_lem, first_field, fields_left, piece_end, field_end, field_pieces}
 use Rattle.text_place.specs.Places.{passed}
-use Rattle.text_fields.specs.Fields.{is_kind, as_kinds, kinds_answer, as_kinds_field, kinds_field_answer, kinding}
+use Rattle.text_fields.specs.Fields.{is_kind, is_reference, as_kinds, kinds_answer, as_kinds_field, kinds_field_answer, kinding}
 use Rattle.text_place.specs.declared.place.Place.{Place}
-use Rattle.text_fields.specs.declared.kinds.Kinds.TheVariants as KV
-use Rattle.text_fields.specs.declared.kinds.KindsField.TheVariants as KFV
+use Rattle.text_fields.specs.declared.kinds.Kinds.{Kinds}
+use Rattle.text_fields.specs.declared.field.Read.{Read}
 use Rattle.text_place.proofs.Places.{left_open, pieces_turn, pieces_last, field_last}
-
-abbrev pub is_reference : ℕ → Bool
-is_reference byte = eqb byte 114
 
 -- ── letters and kinds ────────────────────────────────────────────────────────────
 data Letter (byte : ℕ) : Option L.Kind → Type 0 where
@@ -62,88 +62,51 @@ unfolding all each
 letters_of [] = are_kinds {kinds = []} refl refl refl
 letters_of (byte ∷ bytes) = letters_step byte bytes (read_kind byte) (letter_of byte) (letters_of bytes)
 
-kinds_said : (bytes : List ℕ) (o : Option (List L.Kind)) → Letters bytes o → as_kinds o ≡ cond (all is_kind bytes) (KV.Read (length bytes) (all is_reference bytes)) KV.Bad
+abbrev pub kinds_with : ℕ → Bool → P.Option Kinds
+kinds_with n by_reference = Some (record { count = n; by_reference = by_reference })
+
+kinds_said : (bytes : List ℕ) (o : Option (List L.Kind)) → Letters bytes o → as_kinds o ≡ cond (all is_kind bytes) (kinds_with (length bytes) (all is_reference bytes)) None
 kinds_said bytes none (no_kinds e) = rw e
 kinds_said bytes (some kinds) (are_kinds e l a) = rw (e, l, a)
 
--- ── from one offset up to another ────────────────────────────────────────────────
-pub kinds_none : (s : List ℕ) (i to : ℕ) → i ≡ to → kinds_answer (slice i to s) ≡ KV.Bad
+-- the test of every letter, as a chain over them gives it
+all_is : (test : ℕ → Bool) (bytes : List ℕ) → list_all test bytes ≡ all test bytes
+unfolding all
+all_is test [] = refl
+all_is test (byte ∷ bytes) = ap (λ (t : Bool). test byte && t) (all_is test bytes)
+
+-- ── the letters of a piece ───────────────────────────────────────────────────────
+pub kinds_none : (bytes : List ℕ) → length bytes ≡ 0 → kinds_answer bytes ≡ None
 unfolding read_kinds
-kinds_none s i to e = rw (e, slice_empty to s)
+kinds_none [] e = refl
+kinds_none (byte ∷ bytes) e = absurd (let z : ⊥ = omega arith in z)
 
-module _ (s : List ℕ) (from to : ℕ) (h : from < to) (k : to ≤ length s) where
-  first : slice from to s ≡ get_or s from 0 ∷ slice (from + 1) to s
-  first = simp add-one (slice-cons from to s 0 h k)
+pub kinds_dash : (bytes : List ℕ) → bytes ≡ 45 ∷ [] → kinds_answer bytes ≡ kinds_with 0 true
+unfolding read_kinds alone all
+kinds_dash bytes e = rw e
 
-  pub kinds_dash : get_or s from 0 ≡ 45 → from + 1 ≡ to → kinds_answer (slice from to s) ≡ KV.Read 0 true
-  unfolding read_kinds alone all
-  kinds_dash e f = rw (first, e, f, slice_empty to s)
+read_each : (bytes : List ℕ) → (length bytes ≡ 0 → ⊥) → (bytes ≡ 45 ∷ [] → ⊥) → as_kinds (read_kinds bytes) ≡ cond (all is_kind bytes) (kinds_with (length bytes) (all is_reference bytes)) None
+unfolding read_kinds alone all
+read_each [] n d = absurd (n refl)
+read_each (byte ∷ bytes) n d = go (eqb byte 45) refl
+  where
+    dashed : (rest : List ℕ) → (byte ∷ rest ≡ 45 ∷ [] → ⊥) → byte ≡ 45 → as_kinds (alone rest []) ≡ None
+    dashed [] d e = absurd (d (rw e))
+    dashed (b ∷ rest) d e = refl
 
-  pub kinds_dashed : get_or s from 0 ≡ 45 → (from + 1 ≡ to → ⊥) → kinds_answer (slice from to s) ≡ KV.Bad
-  unfolding read_kinds alone
-  kinds_dashed e n = let l : from + 1 < to = omega arith in rw (first, e, slice-cons (from + 1) to s 0 l k)
+    go : (t : Bool) → eqb byte 45 ≡ t → as_kinds (cond t (alone bytes []) (each read_kind (byte ∷ bytes))) ≡ cond (is_kind byte && all is_kind bytes) (kinds_with (length (byte ∷ bytes)) (is_reference byte && all is_reference bytes)) None
+    go true e = let b : byte ≡ 45 = eqb-true byte 45 e in dashed bytes d b ∙ rw b
+    go false e = kinds_said (byte ∷ bytes) _ (letters_of (byte ∷ bytes))
 
-  pub kinds_some : (get_or s from 0 ≡ 45 → ⊥)
-      → kinds_answer (slice from to s) ≡ cond (all is_kind (slice from to s)) (KV.Read (to - from) (all is_reference (slice from to s))) KV.Bad
-  unfolding read_kinds
-  kinds_some n =
-      let e = kinds_said (slice from to s) _ (letters_of (slice from to s)) in
-      let g : read_kinds (slice from to s) ≡ each read_kind (slice from to s) = rw (first, ne_eqb (get_or s from 0) 45 n) in
-      ap as_kinds g ∙ e ∙ rw (length-slice from to s k)
+module _ (bytes : List ℕ) (n : length bytes ≡ 0 → ⊥) (d : bytes ≡ 45 ∷ [] → ⊥) where
+  pub kinds_other : list_all is_kind bytes ≡ false → kinds_answer bytes ≡ None
+  kinds_other e = read_each bytes n d ∙ rw (sym (all_is is_kind bytes) ∙ e)
 
--- a turn of the loop over the letters
-module _ (test : ℕ → Bool) (s : List ℕ) (i to : ℕ) where
-  pub letters_turn : i < to → to ≤ length s → all test (slice i to s) ≡ (test (get_or s i 0) && all test (slice (suc i) to s))
-  unfolding all
-  letters_turn h k = rw (slice-cons i to s 0 h k)
-
-  pub letters_end : i ≡ to → all test (slice i to s) ≡ true
-  unfolding all
-  letters_end e = rw (e, slice_empty to s)
-
--- the letters from an offset on, after n letters
-pub record LettersLeft (s : List ℕ) (from to i n : ℕ) (references : Bool) : Type 0 where
-  pub after : from ≤ i
-  pub up_to : i ≤ to
-  pub counted : n + from ≡ i
-  pub kinds : all is_kind (slice i to s) ≡ all is_kind (slice from to s)
-  pub same : (references && all is_reference (slice i to s)) ≡ all is_reference (slice from to s)
-
-pub letters_begun : (s : List ℕ) (from to : ℕ) → from ≤ to → LettersLeft s from to from 0 true
-letters_begun s from to h = record { after = omega arith; up_to = h; counted = omega arith; kinds = refl; same = refl }
-
-and_assoc : (a b c : Bool) → ((a && b) && c) ≡ (a && (b && c))
-and_assoc true b c = refl
-and_assoc false b c = refl
-
-and_yes : (a : Bool) → (a && true) ≡ a
-and_yes true = refl
-and_yes false = refl
-
-module _ (s : List ℕ) (from to i n : ℕ) (references : Bool) (v : LettersLeft s from to i n references) where
-  pub letters_on : i < to → to ≤ length s → is_kind (get_or s i 0) ≡ true → (r : Bool) → r ≡ (references && is_reference (get_or s i 0)) → LettersLeft s from to (i + 1) (n + 1) r
-  letters_on h k e r is =
-      record {
-        after = omega (arith, v.after);
-        up_to = omega arith;
-        counted = omega (arith, v.counted);
-        kinds = simp add-one (sym (letters_turn is_kind s i to h k ∙ rw e) ∙ v.kinds);
-        same = rw is (and_assoc references (is_reference (get_or s i 0)) (all is_reference (slice (i + 1) to s))
-            ∙ simp add-one (sym (ap (λ (b : Bool). references && b) (letters_turn is_reference s i to h k)) ∙ v.same));
-      }
-
-  pub letters_out : i < to → to ≤ length s → is_kind (get_or s i 0) ≡ false → all is_kind (slice from to s) ≡ false
-  letters_out h k e = sym v.kinds ∙ letters_turn is_kind s i to h k ∙ rw e
-
-  pub letters_done : i ≡ to → (all is_kind (slice from to s) ≡ true) × (all is_reference (slice from to s) ≡ references) × (to - from ≡ n)
-  letters_done e = (
-    sym v.kinds ∙ letters_end is_kind s i to e,
-    sym v.same ∙ ap (λ (b : Bool). references && b) (letters_end is_reference s i to e) ∙ and_yes references,
-    omega (arith, v.counted),
-  )
+  pub kinds_some : list_all is_kind bytes ≡ true → kinds_answer bytes ≡ kinds_with (length bytes) (list_all is_reference bytes)
+  kinds_some e = read_each bytes n d ∙ rw (sym (all_is is_kind bytes) ∙ e, all_is is_reference bytes)
 
 -- ── a field of kinds ─────────────────────────────────────────────────────────────
-pub kinds_shut : (s : List ℕ) (p : Place) (stop : ℕ) → (stop ≡ 9 → ⊥) → kinds_field_answer s p stop ≡ KFV.Bad
+pub kinds_shut : (s : List ℕ) (p : Place) (stop : ℕ) → (stop ≡ 9 → ⊥) → kinds_field_answer s p stop ≡ None
 unfolding fields_left next_field_lem
 kinds_shut s p stop n = rw (ne_eqb stop 9 n)
 
@@ -156,7 +119,7 @@ kinds_open : (s : List ℕ) (p : Place) (stop : ℕ) → stop ≡ 9
 unfolding next_field_lem
 kinds_open s p stop e = rw (e, left_open s p.offset)
 
-pub kinds_space : (s : List ℕ) (p : Place) (stop : ℕ) → stop ≡ 9 → get_or s (piece_end s p.offset) 0 ≡ 32 → kinds_field_answer s p stop ≡ KFV.Bad
+pub kinds_space : (s : List ℕ) (p : Place) (stop : ℕ) → stop ≡ 9 → get_or s (piece_end s p.offset) 0 ≡ 32 → kinds_field_answer s p stop ≡ None
 unfolding one_piece_lem
 kinds_space s p stop e g =
     let part = split_has_part 32 (first_field (drop (piece_end s p.offset + 1) s)) in

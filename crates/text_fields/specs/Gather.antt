@@ -1,5 +1,6 @@
 -- What is gathered from a field's pieces, and the fields that are read so: expressions and rows of figures.
-use Rattle.std.specs.Prelude.{Bool, true, false, cond, ◌&&◌, List, [], ◌∷◌, ℕ, ◌+◌, eqb, ltb, length, get_or, drop}
+use Rattle.std.specs.Prelude as P
+use Rattle.std.specs.Prelude.{Some, None, Bool, true, false, cond, ◌&&◌, List, [], ◌∷◌, ℕ, ◌+◌, eqb, ltb, length, get_or, drop}
 use Rattle.std.proofs.Math.Option.{Option, none, some}
 use Rattle.listing.specs.Lists.{all}
 use Rattle.listing.specs.Bytes.{Bytes, tab}
@@ -15,12 +16,8 @@ use Rattle.text_place.specs.declared.place.Place.{Place}
 use Rattle.text_piece.specs.declared.piece.Piece.{Piece}
 use Rattle.text_piece.specs.declared.piece.Piece.TheVariants as PV
 use Rattle.text_fields.specs.declared.gathering.Gathering.{Gathering}
-use Rattle.text_fields.specs.declared.field.Pieces.{Pieces}
-use Rattle.text_fields.specs.declared.field.Pieces.TheVariants as SV
+use Rattle.text_fields.specs.declared.field.Read.{Read}
 use Rattle.text_fields.specs.declared.field.Expression.{Expression}
-use Rattle.text_fields.specs.declared.field.Expression.TheVariants as EV
-use Rattle.text_fields.specs.declared.field.Figures.{Figures}
-use Rattle.text_fields.specs.declared.field.Figures.TheVariants as GV
 
 -- whether a piece's name is one of so many
 abbrev pub is_there_by : ℕ → Piece → Bool
@@ -80,26 +77,26 @@ gather_all names g [] = g
 gather_all names g (piece ∷ pieces) = gather_all names (gather_one names g (piece_answer piece)) pieces
 
 -- the pieces of the field at a place
-abbrev pub pieces_answer : ℕ → Bytes → Place → ℕ → Pieces
+abbrev pub pieces_answer : ℕ → Bytes → Place → ℕ → P.Option (Read Gathering)
 pieces_answer names s p stop =
     let end = field_end s p.offset in
-    cond (eqb stop tab) (SV.Read (gather_all names nothing (field_pieces s p.offset)) (get_or s end 0) (passed s p.line end)) SV.Bad
+    cond (eqb stop tab) (Some (record { value = gather_all names nothing (field_pieces s p.offset); stop = get_or s end 0; next = passed s p.line end })) None
 
 -- ── expressions ──────────────────────────────────────────────────────────────────
-abbrev pub as_expression : ℕ → Option L.Expression → ℕ → Place → Expression
-as_expression names none stop next = EV.Bad
-as_expression names (some e) stop next = EV.Read (length e) (all (piece_is_there names) e) stop next
+abbrev pub as_expression : ℕ → Option L.Expression → ℕ → Place → P.Option (Read Expression)
+as_expression names none stop next = None
+as_expression names (some e) stop next = Some (record { value = record { pieces = length e; there = all (piece_is_there names) e }; stop = stop; next = next })
 
-abbrev pub expression_answer : ℕ → Bytes → Place → ℕ → Expression
+abbrev pub expression_answer : ℕ → Bytes → Place → ℕ → P.Option (Read Expression)
 expression_answer names s p stop =
     let end = field_end s p.offset in
     as_expression names (next_field_lem read_expression (fields_left stop (drop p.offset s)) (λ e fields. some e)) (get_or s end 0) (passed s p.line end)
 
 -- ── rows of figures ──────────────────────────────────────────────────────────────
 -- a field's pieces, if each is a figure
-abbrev pub figures_by : Pieces → Figures
-figures_by SV.Bad = GV.Bad
-figures_by (SV.Read g stop next) = cond g.figures (GV.Read g stop next) GV.Bad
+abbrev pub figures_by : P.Option (Read Gathering) → P.Option (Read Gathering)
+figures_by None = None
+figures_by (Some f) = cond f.value.figures (Some f) None
 
-abbrev pub figures_answer : ℕ → Bytes → Place → ℕ → Figures
+abbrev pub figures_answer : ℕ → Bytes → Place → ℕ → P.Option (Read Gathering)
 figures_answer names s p stop = figures_by (pieces_answer names s p stop)

@@ -15,25 +15,19 @@ pub enum Number {
     Bad,
 }
 
-// A field's pieces, gathered.
+// A field that was read: what it says, the byte that closes it, and the place past it.
 #[derive(Clone, Copy)]
-pub enum Pieces {
-    Read(Gathering, u8, Place),
-    Bad,
+pub struct Read<T> {
+    pub value: T,
+    pub stop: u8,
+    pub next: Place,
 }
 
 // An expression: how many pieces, and whether its names are there.
 #[derive(Clone, Copy)]
-pub enum Expression {
-    Read(u64, bool, u8, Place),
-    Bad,
-}
-
-// A row of figures, gathered.
-#[derive(Clone, Copy)]
-pub enum Figures {
-    Read(Gathering, u8, Place),
-    Bad,
+pub struct Expression {
+    pub pieces: u64,
+    pub there: bool,
 }
 
 // The next field, if the byte before it was a tab: one figure.
@@ -59,12 +53,12 @@ pub fn number_field(s: &[u8], place: Place, stop: u8) -> Number
 }
 
 // The next field's pieces, in a routine of so many names.
-pub fn pieces_field(s: &[u8], place: Place, stop: u8, names: u8) -> Pieces
+pub fn pieces_field(s: &[u8], place: Place, stop: u8, names: u8) -> Option<Read<Gathering>>
     requires { Within s.now place.offset place.line }
     ensures { result ≡ pieces_answer names s.now place stop }
 {
     if stop != b'\t' {
-        return Pieces::Bad;
+        return None;
     }
     let mut at = place.offset;
     let line = place.line;
@@ -77,13 +71,7 @@ pub fn pieces_field(s: &[u8], place: Place, stop: u8, names: u8) -> Pieces
         there: true,
     };
     loop {
-        let t = take_piece(
-            s,
-            Place {
-                offset: at,
-                line: line,
-            },
-        );
+        let t = take_piece(s, Place { offset: at, line });
         let from = t.from;
         let to = t.to;
         let p = piece_of(s, from, to);
@@ -91,36 +79,44 @@ pub fn pieces_field(s: &[u8], place: Place, stop: u8, names: u8) -> Pieces
         let b = t.stop;
         let next = t.next;
         if b != b' ' {
-            return Pieces::Read(g, b, next);
+            return Some(Read {
+                value: g,
+                stop: b,
+                next,
+            });
         }
         at = next.offset;
     }
 }
 
 // The next field: an expression.
-pub fn expression_field(s: &[u8], place: Place, stop: u8, names: u8) -> Expression
+pub fn expression_field(s: &[u8], place: Place, stop: u8, names: u8) -> Option<Read<Expression>>
     requires { Within s.now place.offset place.line }
     ensures { result ≡ expression_answer names s.now place stop }
 {
-    let Pieces::Read(g, b, next) = pieces_field(s, place, stop, names) else {
-        return Expression::Bad;
-    };
-    if g.held == 1 {
-        return Expression::Read(g.count, g.there, b, next);
+    let field = pieces_field(s, place, stop, names)?;
+    let g = field.value;
+    if g.held != 1 {
+        return None;
     }
-    Expression::Bad
+    Some(Read {
+        value: Expression {
+            pieces: g.count,
+            there: g.there,
+        },
+        stop: field.stop,
+        next: field.next,
+    })
 }
 
 // The next field: figures.
-pub fn figures_field(s: &[u8], place: Place, stop: u8, names: u8) -> Figures
+pub fn figures_field(s: &[u8], place: Place, stop: u8, names: u8) -> Option<Read<Gathering>>
     requires { Within s.now place.offset place.line }
     ensures { result ≡ figures_answer names s.now place stop }
 {
-    let Pieces::Read(g, b, next) = pieces_field(s, place, stop, names) else {
-        return Figures::Bad;
-    };
-    if g.figures {
-        return Figures::Read(g, b, next);
+    let field = pieces_field(s, place, stop, names)?;
+    if field.value.figures {
+        return Some(field);
     }
-    Figures::Bad
+    None
 }

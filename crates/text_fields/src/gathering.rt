@@ -2,7 +2,6 @@
 ghost use Rattle.std.specs.Prelude.{◌≡◌, ◌<◌};
 ghost use Rattle.text_fields.specs.Gather.{is_there_by, is_value, value_in, gather_one};
 
-use crate::answers::both;
 use listing_effect::held_after;
 use text_piece::{Piece, effect_of};
 
@@ -27,50 +26,24 @@ pub fn is_there(p: Piece, names: u8) -> bool
     ensures { result ≡ is_there_by names p }
 {
     match p {
-        Piece::Literal(_) => true,
-        Piece::Value(n) => n < names as u64,
-        Piece::Mark(n) => n < names as u64,
-        Piece::Plus => true,
-        Piece::Minus => true,
-        Piece::Times => true,
-        Piece::Less => true,
-        Piece::Divide => true,
-        Piece::Remainder => true,
-        Piece::Bad => true,
+        Piece::Value(n) => n < u64::from(names),
+        Piece::Mark(n) => n < u64::from(names),
+        _ => true,
     }
 }
 
 fn is_value(p: Piece) -> bool
     ensures { result ≡ is_value p }
 {
-    match p {
-        Piece::Literal(_) => false,
-        Piece::Value(_) => true,
-        Piece::Mark(_) => false,
-        Piece::Plus => false,
-        Piece::Minus => false,
-        Piece::Times => false,
-        Piece::Less => false,
-        Piece::Divide => false,
-        Piece::Remainder => false,
-        Piece::Bad => false,
-    }
+    matches!(p, Piece::Value(_))
 }
 
 fn value_in(p: Piece) -> u64
     ensures { result ≡ value_in p }
 {
     match p {
-        Piece::Literal(_) => 0,
         Piece::Value(n) => n,
-        Piece::Mark(_) => 0,
-        Piece::Plus => 0,
-        Piece::Minus => 0,
-        Piece::Times => 0,
-        Piece::Less => 0,
-        Piece::Divide => 0,
-        Piece::Remainder => 0,
-        Piece::Bad => 0,
+        _ => 0,
     }
 }
 
@@ -80,26 +53,25 @@ pub fn gathered(g: Gathering, p: Piece, names: u8) -> Gathering
     ensures { result ≡ gather_one names g p }
 {
     let held = held_after(g.held, effect_of(p));
-    let figures = both(g.figures, is_value(p));
+    let figures = g.figures & is_value(p);
     let known = is_there(p, names);
-    let there = both(g.there, known);
+    let there = g.there & known;
     if g.count == 0 {
         return Gathering {
             count: 1,
-            held: held,
-            figures: figures,
+            held,
+            figures,
             first: value_in(p),
             others: g.others,
-            there: there,
+            there,
         };
     }
-    let others = both(g.others, known);
     Gathering {
         count: g.count + 1,
-        held: held,
-        figures: figures,
+        held,
+        figures,
         first: g.first,
-        others: others,
-        there: there,
+        others: g.others & known,
+        there,
     }
 }

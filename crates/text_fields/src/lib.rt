@@ -3,15 +3,12 @@
 // Any bytes may come; a text out of form is an answer. It writes nothing.
 #![tactic(auto)]
 
-pub mod answers;
 pub mod field;
 pub mod gathering;
 pub mod kinds;
 
-pub use answers::both;
 pub use field::{
-    Expression, Figures, Number, Pieces, expression_field, figures_field, number_field,
-    pieces_field,
+    Expression, Number, Read, expression_field, figures_field, number_field, pieces_field,
 };
 pub use gathering::{Gathering, gathered, is_there};
-pub use kinds::{Kinds, KindsField, kinds_field};
+pub use kinds::{Kinds, kinds_field};

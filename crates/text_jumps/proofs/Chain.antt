@@ -1,4 +1,6 @@
 -- One field after another: what a field that was read tells whoever reads on.
+use Rattle.std.specs.Prelude as P
+use Rattle.std.specs.Prelude.{Some, None}
 use mathlib.Core.Path.{◌≡◌, refl, sym, ap, ◌∙◌}
 use mathlib.Core.Bool.{Bool, true, false, cond, ◌&&◌}
 use mathlib.Core.List.{List, [], ◌∷◌}
@@ -24,17 +26,15 @@ use Rattle.text_fields.specs.Gather.{nothing, gather_all, as_expression, express
 use Rattle.text_place.specs.declared.place.Place.{Place}
 use Rattle.text_fields.specs.declared.gathering.Gathering.{Gathering}
 use Rattle.text_fields.specs.declared.field.Number.TheVariants as NV
-use Rattle.text_fields.specs.declared.field.Expression.TheVariants as EV
-use Rattle.text_fields.specs.declared.field.Pieces.TheVariants as SV
-use Rattle.text_fields.specs.declared.field.Figures.TheVariants as GV
-use Rattle.text_fields.specs.declared.kinds.KindsField.TheVariants as KFV
+use Rattle.text_fields.specs.declared.field.Read.{Read}
+use Rattle.text_fields.specs.declared.field.Expression.{Expression}
+use Rattle.text_fields.specs.declared.kinds.Kinds.{Kinds}
 use Rattle.text_place.proofs.Texts.{line_tab, line_field}
 use Rattle.text_place.proofs.Places.{left_open, past_in, passed_in, end_in, drop_past}
 use Rattle.text_fields.proofs.Rows.{Figures, unread, read, figures_of_lem}
 use Rattle.text_jumps.specs.Records.{end_stop, end_next, as_record, as_rest}
 use Rattle.text_jumps.specs.declared.scope.Scope.{Scope}
 use Rattle.text_jumps.specs.declared.record.Record.{Record}
-use Rattle.text_jumps.specs.declared.record.Rest.TheVariants as RV
 
 -- what is gathered from a row of figures, the first n
 pub record Row (names : ℕ) (g : Gathering) (n : ℕ) (ns : List ℕ) : Type 0 where
@@ -193,35 +193,39 @@ module _ (s : List ℕ) (c : Place) (b : ℕ) (w : Within s c.offset c.line) whe
       go none i e = none_of read_number s c b i
       go (some n) i e = absurd (let z : ◌≡◌ {A = ℕ} 0 1 = cc in omega arith)
 
-  pub expression_got : (names v : ℕ) (t : Bool) (b' : ℕ) (c' : Place) → EV.Read v t b' c' ≡ expression_answer names s c b
-      → (a : L.Expression) × Got read_expression s c b a b' c' × (v ≡ length a) × (t ≡ all (piece_is_there names) a)
-  expression_got names v t b' c' e = go (first read_expression s c b) refl e
+  pub expression_got : (names : ℕ) (r : Read Expression) → Some r ≡ expression_answer names s c b
+      → (a : L.Expression) × Got read_expression s c b a r.stop r.next × (r.value.pieces ≡ length a) × (r.value.there ≡ all (piece_is_there names) a)
+  expression_got names r e = go (first read_expression s c b) refl e
     where
-      go : (o : Option L.Expression) → first read_expression s c b ≡ o → EV.Read v t b' c' ≡ as_expression names o (the_stop s c) (the_next s c)
-          → (a : L.Expression) × Got read_expression s c b a b' c' × (v ≡ length a) × (t ≡ all (piece_is_there names) a)
+      go : (o : Option L.Expression) → first read_expression s c b ≡ o → Some r ≡ as_expression names o (the_stop s c) (the_next s c)
+          → (a : L.Expression) × Got read_expression s c b a r.stop r.next × (r.value.pieces ≡ length a) × (r.value.there ≡ all (piece_is_there names) a)
       go none i e = absurd (let z : ◌≡◌ {A = ℕ} 0 1 = cc in omega arith)
-      go (some x) i e = (x, got_of read_expression s c b x b' c' w i (cc) (cc), (cc), cc)
+      go (some x) i e =
+          let k : r ≡ record { value = record { pieces = length x; there = all (piece_is_there names) x }; stop = the_stop s c; next = the_next s c } = cc in
+          rw k (x, got_of read_expression s c b x (the_stop s c) (the_next s c) w i refl refl, refl, refl)
 
-  pub expression_none : (names : ℕ) → EV.Bad ≡ expression_answer names s c b → (k : L.Expression → List Field → Option L.Line) → next_field_lem read_expression (fields_left b (drop c.offset s)) k ≡ none
+  pub expression_none : (names : ℕ) → None ≡ expression_answer names s c b → (k : L.Expression → List Field → Option L.Line) → next_field_lem read_expression (fields_left b (drop c.offset s)) k ≡ none
   expression_none names e = go (first read_expression s c b) refl e
     where
-      go : (o : Option L.Expression) → first read_expression s c b ≡ o → EV.Bad ≡ as_expression names o (the_stop s c) (the_next s c) → (k : L.Expression → List Field → Option L.Line) → next_field_lem read_expression (fields_left b (drop c.offset s)) k ≡ none
+      go : (o : Option L.Expression) → first read_expression s c b ≡ o → None ≡ as_expression names o (the_stop s c) (the_next s c) → (k : L.Expression → List Field → Option L.Line) → next_field_lem read_expression (fields_left b (drop c.offset s)) k ≡ none
       go none i e = none_of read_expression s c b i
       go (some n) i e = absurd (let z : ◌≡◌ {A = ℕ} 0 1 = cc in omega arith)
 
-  pub kinds_got : (v : ℕ) (t : Bool) (b' : ℕ) (c' : Place) → KFV.Read v t b' c' ≡ kinds_field_answer s c b
-      → (a : List L.Kind) × Got (one_piece_lem read_kinds) s c b a b' c' × (v ≡ length a) × (t ≡ all is_by_reference a)
-  kinds_got v t b' c' e = go (first (one_piece_lem read_kinds) s c b) refl e
+  pub kinds_got : (r : Read Kinds) → Some r ≡ kinds_field_answer s c b
+      → (a : List L.Kind) × Got (one_piece_lem read_kinds) s c b a r.stop r.next × (r.value.count ≡ length a) × (r.value.by_reference ≡ all is_by_reference a)
+  kinds_got r e = go (first (one_piece_lem read_kinds) s c b) refl e
     where
-      go : (o : Option (List L.Kind)) → first (one_piece_lem read_kinds) s c b ≡ o → KFV.Read v t b' c' ≡ as_kinds_field o (the_stop s c) (the_next s c)
-          → (a : List L.Kind) × Got (one_piece_lem read_kinds) s c b a b' c' × (v ≡ length a) × (t ≡ all is_by_reference a)
+      go : (o : Option (List L.Kind)) → first (one_piece_lem read_kinds) s c b ≡ o → Some r ≡ as_kinds_field o (the_stop s c) (the_next s c)
+          → (a : List L.Kind) × Got (one_piece_lem read_kinds) s c b a r.stop r.next × (r.value.count ≡ length a) × (r.value.by_reference ≡ all is_by_reference a)
       go none i e = absurd (let z : ◌≡◌ {A = ℕ} 0 1 = cc in omega arith)
-      go (some x) i e = (x, got_of (one_piece_lem read_kinds) s c b x b' c' w i (cc) (cc), (cc), cc)
+      go (some x) i e =
+          let k : r ≡ record { value = record { count = length x; by_reference = all is_by_reference x }; stop = the_stop s c; next = the_next s c } = cc in
+          rw k (x, got_of (one_piece_lem read_kinds) s c b x (the_stop s c) (the_next s c) w i refl refl, refl, refl)
 
-  pub kinds_none : KFV.Bad ≡ kinds_field_answer s c b → (k : List L.Kind → List Field → Option L.Line) → next_field_lem (one_piece_lem read_kinds) (fields_left b (drop c.offset s)) k ≡ none
+  pub kinds_none : None ≡ kinds_field_answer s c b → (k : List L.Kind → List Field → Option L.Line) → next_field_lem (one_piece_lem read_kinds) (fields_left b (drop c.offset s)) k ≡ none
   kinds_none e = go (first (one_piece_lem read_kinds) s c b) refl e
     where
-      go : (o : Option (List L.Kind)) → first (one_piece_lem read_kinds) s c b ≡ o → KFV.Bad ≡ as_kinds_field o (the_stop s c) (the_next s c) → (k : List L.Kind → List Field → Option L.Line) → next_field_lem (one_piece_lem read_kinds) (fields_left b (drop c.offset s)) k ≡ none
+      go : (o : Option (List L.Kind)) → first (one_piece_lem read_kinds) s c b ≡ o → None ≡ as_kinds_field o (the_stop s c) (the_next s c) → (k : List L.Kind → List Field → Option L.Line) → next_field_lem (one_piece_lem read_kinds) (fields_left b (drop c.offset s)) k ≡ none
       go none i e = none_of (one_piece_lem read_kinds) s c b i
       go (some n) i e = absurd (let z : ◌≡◌ {A = ℕ} 0 1 = cc in omega arith)
 
@@ -235,34 +239,37 @@ module _ (s : List ℕ) (c : Place) (b names : ℕ) (h : names ≤ cap) where
       let part = split_has_part 32 (first_field (drop c.offset s)) in
       rw part.is (figures_of_lem names h part.head part.rest)
 
-  row_got : (g : Gathering) (b' : ℕ) (c' : Place) (o : Option (List ℕ)) → Within s c.offset c.line → Figures names h (field_pieces s c.offset) o
-      → each read_figure (field_pieces s c.offset) ≡ o → b ≡ 9
-      → GV.Read g b' c' ≡ cond gathered_here.figures (GV.Read gathered_here (the_stop s c) (the_next s c)) GV.Bad
-      → (n : ℕ) × (ns : List ℕ) × Got (each read_figure) s c b (n ∷ ns) b' c' × (g ≡ gathered_here) × Row names g n ns
-  unfolding next_field_lem
-  row_got g b' c' _ w (unread f) i j e = absurd (let x : GV.Read g b' c' ≡ GV.Bad = e ∙ rw f in let z : ◌≡◌ {A = ℕ} 0 1 = cc in omega arith)
-  row_got g b' c' _ w (read {n = n} {ns = ns} f l m o t) i j e =
-      let x : GV.Read g b' c' ≡ GV.Read gathered_here (the_stop s c) (the_next s c) = e ∙ ap (λ (u : Bool). cond u (GV.Read gathered_here (the_stop s c) (the_next s c)) GV.Bad) f in
-      let y : g ≡ gathered_here = cc in
-      (n, ns, got_of (each read_figure) s c b (n ∷ ns) b' c' w (rw (j, left_open s c.offset, i)) (cc) (cc), y, rw y (record { count = l; first = m; others = o; there = t }))
+  abbrev read_here : Read Gathering
+  read_here = record { value = gathered_here; stop = the_stop s c; next = the_next s c }
 
-  pub figures_got : Within s c.offset c.line → (g : Gathering) (b' : ℕ) (c' : Place) → GV.Read g b' c' ≡ figures_answer names s c b
-      → (n : ℕ) × (ns : List ℕ) × Got (each read_figure) s c b (n ∷ ns) b' c' × (g ≡ gathered_here) × Row names g n ns
-  figures_got w g b' c' e = by_stop (eqb b 9) refl e
+  row_got : (r : Read Gathering) (o : Option (List ℕ)) → Within s c.offset c.line → Figures names h (field_pieces s c.offset) o
+      → each read_figure (field_pieces s c.offset) ≡ o → b ≡ 9
+      → Some r ≡ cond gathered_here.figures (Some read_here) None
+      → (n : ℕ) × (ns : List ℕ) × Got (each read_figure) s c b (n ∷ ns) r.stop r.next × (r.value ≡ gathered_here) × Row names r.value n ns
+  unfolding next_field_lem
+  row_got r _ w (unread f) i j e = absurd (let x : Some r ≡ None = e ∙ rw f in let z : ◌≡◌ {A = ℕ} 0 1 = cc in omega arith)
+  row_got r _ w (read {n = n} {ns = ns} f l m o t) i j e =
+      let x : Some r ≡ Some read_here = e ∙ ap (λ (u : Bool). cond u (Some read_here) None) f in
+      let y : r ≡ read_here = cc in
+      rw y (n, ns, got_of (each read_figure) s c b (n ∷ ns) (the_stop s c) (the_next s c) w (rw (j, left_open s c.offset, i)) refl refl, refl, record { count = l; first = m; others = o; there = t })
+
+  pub figures_got : Within s c.offset c.line → (r : Read Gathering) → Some r ≡ figures_answer names s c b
+      → (n : ℕ) × (ns : List ℕ) × Got (each read_figure) s c b (n ∷ ns) r.stop r.next × (r.value ≡ gathered_here) × Row names r.value n ns
+  figures_got w r e = by_stop (eqb b 9) refl e
     where
-      by_stop : (t : Bool) → eqb b 9 ≡ t → GV.Read g b' c' ≡ figures_by (cond t (SV.Read gathered_here (the_stop s c) (the_next s c)) SV.Bad)
-          → (n : ℕ) × (ns : List ℕ) × Got (each read_figure) s c b (n ∷ ns) b' c' × (g ≡ gathered_here) × Row names g n ns
+      by_stop : (t : Bool) → eqb b 9 ≡ t → Some r ≡ figures_by (cond t (Some read_here) None)
+          → (n : ℕ) × (ns : List ℕ) × Got (each read_figure) s c b (n ∷ ns) r.stop r.next × (r.value ≡ gathered_here) × Row names r.value n ns
       by_stop false i e = absurd (let z : ◌≡◌ {A = ℕ} 0 1 = cc in omega arith)
-      by_stop true i e = row_got g b' c' (each read_figure (field_pieces s c.offset)) w figures_here refl (eqb-true b 9 i) e
+      by_stop true i e = row_got r (each read_figure (field_pieces s c.offset)) w figures_here refl (eqb-true b 9 i) e
 
   row_none : (o : Option (List ℕ)) → Figures names h (field_pieces s c.offset) o → each read_figure (field_pieces s c.offset) ≡ o
-      → GV.Bad ≡ cond gathered_here.figures (GV.Read gathered_here (the_stop s c) (the_next s c)) GV.Bad → each read_figure (field_pieces s c.offset) ≡ none
+      → None ≡ cond gathered_here.figures (Some read_here) None → each read_figure (field_pieces s c.offset) ≡ none
   row_none _ (unread f) i e = i
   row_none _ (read f l m o t) i e =
-      absurd (let x : GV.Bad ≡ GV.Read gathered_here (the_stop s c) (the_next s c) = e ∙ ap (λ (u : Bool). cond u (GV.Read gathered_here (the_stop s c) (the_next s c)) GV.Bad) f in
+      absurd (let x : None ≡ Some read_here = e ∙ ap (λ (u : Bool). cond u (Some read_here) None) f in
       let z : ◌≡◌ {A = ℕ} 0 1 = cc in omega arith)
 
-  pub figures_unread : b ≡ 9 → GV.Bad ≡ figures_answer names s c b → each read_figure (field_pieces s c.offset) ≡ none
+  pub figures_unread : b ≡ 9 → None ≡ figures_answer names s c b → each read_figure (field_pieces s c.offset) ≡ none
   figures_unread j e = row_none (each read_figure (field_pieces s c.offset)) figures_here refl (e ∙ rw (eq-eqb b 9 j))
 
 -- no field is left unless the last byte was a tab
@@ -285,10 +292,10 @@ next_shut s c b n = rw (ne_eqb b 9 n)
 -- ── a whole record ───────────────────────────────────────────────────────────────
 module _ (routines : List L.Routine) (scope : Scope) where
   pub rest_is_lem : (s : List ℕ) (c : Place) (b : ℕ) (o : Option L.Line) (x : L.Line) (m : Record) (b' : ℕ) (c' : Place) → o ≡ some x → end_stop s c b ≡ b' → end_next s c b ≡ c' → m ≡ as_record routines scope x
-      → RV.Is m b' c' ≡ as_rest routines scope o (end_stop s c b) (end_next s c b)
+      → ◌≡◌ {A = P.Option (Read Record)} (Some (record { value = m; stop = b'; next = c' })) (as_rest routines scope o (end_stop s c b) (end_next s c b))
   rest_is_lem s c b o x m b' c' e f g h = rw (e, f, g, h)
 
-  pub rest_bad : (b : ℕ) (c : Place) (o : Option L.Line) → o ≡ none → RV.Bad ≡ as_rest routines scope o b c
+  pub rest_bad : (b : ℕ) (c : Place) (o : Option L.Line) → o ≡ none → None ≡ as_rest routines scope o b c
   rest_bad b c o e = rw e
 
 -- an expression has fewer pieces than the text has bytes and one

@@ -1,4 +1,5 @@
 -- The child fields of a fork, one after another.
+use Rattle.std.specs.Prelude.{None}
 use mathlib.Core.Path.{◌≡◌, refl, sym, ap, ◌∙◌}
 use mathlib.Core.Bool.{Bool, true, false, ◌&&◌}
 use mathlib.Core.List.{List, [], ◌∷◌, ◌++◌, map}
@@ -22,7 +23,6 @@ use Rattle.text_piece.specs.Pieces.{cap}
 use Rattle.text_fields.specs.Gather.{figures_answer}
 use Rattle.text_place.specs.declared.place.Place.{Place}
 use Rattle.text_fields.specs.declared.gathering.Gathering.{Gathering}
-use Rattle.text_fields.specs.declared.field.Figures.TheVariants as GV
 use Rattle.text_fields.proofs.Gather.{capped_below}
 use Rattle.text_place.proofs.Places.{left_open}
 use Rattle.text_jumps.specs.Records.{stand_in, stand_ins, call_by, end_stop, end_next, as_record}
@@ -190,7 +190,7 @@ module _ (rs : List L.Routine) (names : ℕ) (s : List ℕ) (at₀ line₀ b₀ 
             rw (le-leb 1 (length (f.calls ++ (c ∷ cs))) (omega (arith, l)), lt-leb (length (f.calls ++ (c ∷ cs))) 8 (omega (arith, l, f.number)))
 
     -- a field that is no child
-    pub fork_unread : names ≤ cap → b ≡ 9 → GV.Bad ≡ figures_answer names s (record { offset = at; line = line }) b → the_fork ≡ none
+    pub fork_unread : names ≤ cap → b ≡ 9 → None ≡ figures_answer names s (record { offset = at; line = line }) b → the_fork ≡ none
     unfolding forked onto each as_call
     fork_unread h e r =
         let c : read_call (field_pieces s at) ≡ none = call_by_row (field_pieces s at) ∙ ap as_call (figures_unread s (record { offset = at; line = line }) b names h e r) in

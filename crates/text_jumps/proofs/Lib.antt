@@ -1,4 +1,3 @@
-pub mod Calls
 pub mod Chain
 pub mod Forks
 pub mod Summaries

@@ -1,5 +1,6 @@
 -- What the reader gives for a record.
-use Rattle.std.specs.Prelude.{Bool, cond, ◌&&◌, List, [], map, ℕ, ◌+◌, min, eqb, ltb, length, get_or, drop, replicate}
+use Rattle.std.specs.Prelude as P
+use Rattle.std.specs.Prelude.{Some, None, Bool, cond, ◌&&◌, List, [], map, ℕ, ◌+◌, min, eqb, ltb, length, get_or, drop, replicate}
 use Rattle.std.proofs.Math.Option.{Option, none, some}
 use Rattle.listing.specs.Lists.{all}
 use Rattle.listing.specs.Bytes.{Bytes, tab}
@@ -12,11 +13,10 @@ use Rattle.text_place.specs.Places.{passed}
 use Rattle.text_piece.specs.Pieces.{cap}
 use Rattle.text_place.specs.declared.place.Place.{Place}
 use Rattle.text_fields.specs.declared.gathering.Gathering.{Gathering}
+use Rattle.text_fields.specs.declared.field.Read.{Read}
 use Rattle.text_jumps.specs.declared.scope.Scope.{Scope}
 use Rattle.text_jumps.specs.declared.record.Record.{Record}
 use Rattle.text_jumps.specs.declared.record.Record.TheVariants as CV
-use Rattle.text_jumps.specs.declared.record.Rest.{Rest}
-use Rattle.text_jumps.specs.declared.record.Rest.TheVariants as RV
 
 -- ── routines by their argument counts ────────────────────────────────────────────
 abbrev pub stand_in : ℕ → L.Routine
@@ -44,9 +44,9 @@ end_stop s p stop = cond (eqb stop tab) (get_or s (line_end s p.offset) 0) stop
 unfoldable pub end_next : Bytes → Place → ℕ → Place
 end_next s p stop = cond (eqb stop tab) (passed s p.line (line_end s p.offset)) p
 
-abbrev pub as_rest : List L.Routine → Scope → Option L.Line → ℕ → Place → Rest
-as_rest routines scope none stop next = RV.Bad
-as_rest routines scope (some line) stop next = RV.Is (as_record routines scope line) stop next
+abbrev pub as_rest : List L.Routine → Scope → Option L.Line → ℕ → Place → P.Option (Read Record)
+as_rest routines scope none stop next = None
+as_rest routines scope (some line) stop next = Some (record { value = as_record routines scope line; stop = stop; next = next })
 
-abbrev pub rest_answer : List L.Routine → Scope → Bytes → Place → ℕ → (List Field → Option L.Line) → Rest
+abbrev pub rest_answer : List L.Routine → Scope → Bytes → Place → ℕ → (List Field → Option L.Line) → P.Option (Read Record)
 rest_answer routines scope s p stop read = as_rest routines scope (read (fields_left stop (drop p.offset s))) (end_stop s p stop) (end_next s p stop)

@@ -1,55 +1,50 @@
 // The record that leads to other routines: `F`.
-ghost use Rattle.std.specs.Prelude.{◌≡◌, ◌≤◌, length, take};
+ghost use Rattle.std.specs.Prelude.{◌≡◌, ◌≤◌, length};
 ghost use Rattle.text_place.specs.Texts.{Within};
 ghost use Rattle.listing.specs.Form.{read_fork};
 ghost use Rattle.text_jumps.specs.Records.{rest_answer, stand_ins};
 
-use crate::record::{Record, Rest};
+use crate::record::Record;
 use crate::scope::{Scope, call_is_there};
-use text_fields::{Figures, both, figures_field};
+use text_fields::{Read, figures_field};
 use text_place::Place;
 
-pub fn read_fork(s: &[u8], place: Place, stop: u8, scope: Scope, arguments: &[u8; 64]) -> Rest
-    requires { Within s.now place.offset place.line × (scope.routines ≤ 64) × (length arguments.now ≡ 64) }
-    ensures { result ≡ rest_answer (stand_ins (take scope.routines arguments.now)) scope s.now place stop read_fork }
+// Document 01: "forks 1 to 8 children".
+const MOST_CHILDREN: u64 = 8;
+
+// `arguments` has the number of arguments of each routine.
+pub fn read_fork(
+    s: &[u8],
+    place: Place,
+    stop: u8,
+    scope: Scope,
+    arguments: &[u8],
+) -> Option<Read<Record>>
+    requires { Within s.now place.offset place.line × (length arguments.now ≤ 64) }
+    ensures { result ≡ rest_answer (stand_ins arguments.now) scope s.now place stop read_fork }
 {
-    let mut at = place.offset;
-    let mut line = place.line;
-    let mut b = stop;
+    let mut at = place;
+    let mut stop = stop;
     let mut count: u64 = 0;
-    let mut sum: u64 = 0;
+    let mut pieces: u64 = 0;
     let mut there = true;
-    while b == b'\t' {
-        if 8 <= count {
-            return Rest::Bad;
+    while stop == b'\t' {
+        if MOST_CHILDREN <= count {
+            return None;
         }
-        let Figures::Read(g, b1, p1) = figures_field(
-            s,
-            Place {
-                offset: at,
-                line: line,
-            },
-            b,
-            scope.names,
-        ) else {
-            return Rest::Bad;
-        };
-        there = both(there, call_is_there(g, scope, arguments));
+        let call = figures_field(s, at, stop, scope.names)?;
+        there &= call_is_there(call.value, arguments);
         count += 1;
-        sum += g.count;
-        b = b1;
-        at = p1.offset;
-        line = p1.line;
+        pieces += call.value.count;
+        stop = call.stop;
+        at = call.next;
     }
     if count == 0 {
-        return Rest::Bad;
+        return None;
     }
-    Rest::Is(
-        Record::Instruction(sum, there, false),
-        b,
-        Place {
-            offset: at,
-            line: line,
-        },
-    )
+    Some(Read {
+        value: Record::Instruction(pieces, there, false),
+        stop,
+        next: at,
+    })
 }

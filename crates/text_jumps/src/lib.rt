@@ -8,5 +8,5 @@ pub mod scope;
 
 pub use fork::read_fork;
 pub use jump::{read_branch, read_jump};
-pub use record::{Record, Rest};
-pub use scope::Scope;
+pub use record::Record;
+pub use scope::{NO_SCOPE, Scope};

@@ -1,5 +1,4 @@
 // What is told of a line's record.
-use text_place::Place;
 
 // What questions 3 to 5 ask of a record.
 #[derive(Clone, Copy)]
@@ -10,11 +9,4 @@ pub enum Record {
     Opens(u64, u64, bool),
     // the pieces after the letter, whether all that it points to is there, and whether it may be a routine's last
     Instruction(u64, bool, bool),
-}
-
-// A record, the byte that closes its line, and the place past it.
-#[derive(Clone, Copy)]
-pub enum Rest {
-    Is(Record, u8, Place),
-    Bad,
 }

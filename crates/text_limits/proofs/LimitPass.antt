@@ -1,4 +1,6 @@
 -- Question 3, line by line.
+use Rattle.std.specs.Prelude as P
+use Rattle.std.specs.Prelude.{Some, None}
 use mathlib.Core.Path.{◌≡◌, refl, sym, ap, ◌∙◌}
 use mathlib.Core.Bool.{Bool, true, false, cond, ◌&&◌}
 use mathlib.Core.List.{List, [], ◌∷◌, map}
@@ -22,8 +24,6 @@ use Rattle.text_records.proofs.Lines.{formed_whole, NextLine, records_whole, tex
 use Rattle.text_records.specs.Onward.{Formed, records_from}
 use Rattle.text_limits.specs.Counting.{WithinLimits, count_line}
 use Rattle.text_limits.specs.declared.counts.Counts.{Counts}
-use Rattle.text_limits.specs.declared.counts.Counting.{Counting}
-use Rattle.text_limits.specs.declared.counts.Counting.TheVariants as NV
 
 -- ── question 3, line by line ─────────────────────────────────────────────────────
 unfoldable pub within_from : ℕ → ℕ → List ℕ → List Bool
@@ -60,9 +60,9 @@ unfolding answers_from within_from both running_totals
 answers_more bytes held text texts l lines = refl
 
 -- ── one line ─────────────────────────────────────────────────────────────────────
-pub data Judged (held : Counts) (l : L.Line) (bytes : ℕ) : Counting → Type 0 where
-  past : answer held l bytes ≡ false → Judged held l bytes NV.Past
-  fits : {more : Counts} → answer held l bytes ≡ true → more ≡ also held l → WithinLimits more → Judged held l bytes (NV.Within more)
+pub data Judged (held : Counts) (l : L.Line) (bytes : ℕ) : P.Option Counts → Type 0 where
+  past : answer held l bytes ≡ false → Judged held l bytes None
+  fits : {more : Counts} → answer held l bytes ≡ true → more ≡ also held l → WithinLimits more → Judged held l bytes (Some more)
 
 clash : {A : Type 0} → ◌≡◌ {A = Bool} false true → A
 clash e = absurd (let z : ◌≡◌ {A = ℕ} 0 1 = cc in omega arith)
@@ -75,7 +75,7 @@ module _ (held : Counts) (bytes : ℕ) (w : WithinLimits held) where
   zero_more : (n : ℕ) → n + 0 ≡ n
   zero_more n = omega arith
 
-  judge_ports : (i o : ℕ) (t : Bool) → leb bytes byte_limit ≡ t → Judged held (L.Line.ports i o) bytes (cond t (NV.Within held) NV.Past)
+  judge_ports : (i o : ℕ) (t : Bool) → leb bytes byte_limit ≡ t → Judged held (L.Line.ports i o) bytes (cond t (Some held) None)
   unfolding routines_on instructions_on pieces_on names_on
   judge_ports i o false e = past (rw e)
   judge_ports i o true e =
@@ -84,7 +84,7 @@ module _ (held : Counts) (bytes : ℕ) (w : WithinLimits held) where
       (rw (zero_more held.routines, zero_more held.instructions, zero_more held.pieces)) w
 
   judge_opens : (kinds : List L.Kind) (locals : ℕ) (t u v : Bool) → leb bytes byte_limit ≡ t → leb (held.routines + 1) routine_limit ≡ u → leb (length kinds + min locals cap) name_limit ≡ v
-      → Judged held (L.Line.opens kinds locals) bytes (cond t (cond (u && v) (NV.Within (record { routines = held.routines + 1; instructions = held.instructions; pieces = held.pieces })) NV.Past) NV.Past)
+      → Judged held (L.Line.opens kinds locals) bytes (cond t (cond (u && v) (Some (record { routines = held.routines + 1; instructions = held.instructions; pieces = held.pieces })) None) None)
   unfolding routines_on instructions_on pieces_on names_on
   judge_opens kinds locals false u v a b c = past (rw a)
   judge_opens kinds locals true false v a b c = past (rw (a, b))
@@ -97,7 +97,7 @@ module _ (held : Counts) (bytes : ℕ) (w : WithinLimits held) where
       (record { routines = leb-true (held.routines + 1) routine_limit b; instructions = w.instructions; pieces = w.pieces })
 
   judge_instruction : (i : L.Instruction) (t u v : Bool) → leb bytes byte_limit ≡ t → leb (held.instructions + 1) instruction_limit ≡ u → leb (held.pieces + pieces_on (L.Line.instruction i)) piece_limit ≡ v
-      → Judged held (L.Line.instruction i) bytes (cond t (cond (u && v) (NV.Within (record { routines = held.routines; instructions = held.instructions + 1; pieces = held.pieces + pieces_on (L.Line.instruction i) })) NV.Past) NV.Past)
+      → Judged held (L.Line.instruction i) bytes (cond t (cond (u && v) (Some (record { routines = held.routines; instructions = held.instructions + 1; pieces = held.pieces + pieces_on (L.Line.instruction i) })) None) None)
   unfolding routines_on instructions_on names_on
   judge_instruction i false u v a b c = past (rw a)
   judge_instruction i true false v a b c = past (rw (a, le-leb (held.routines + 0) routine_limit (omega (arith, w.routines)), b))
@@ -137,7 +137,7 @@ module _ (s : List ℕ) (at line : ℕ) (held : Counts) (v : Limiting s at line 
   limiting_done h = sym v.same ∙ rw (texts_end s at h)
 
   module _ (n : NextLine s at line) (rs : List L.Routine) (scope : Scope) (r : Record) (bytes : ℕ) (i : r ≡ as_record rs scope n.line) (j : bytes ≡ line_end s at + 1)
-      (o : Counting) (counted : o ≡ count_line held r bytes) where
+      (o : P.Option Counts) (counted : o ≡ count_line held r bytes) where
     e : o ≡ count_line held (as_record rs scope n.line) (line_end s at + 1)
     e = counted ∙ ap (λ (q : Record). count_line held q bytes) i ∙ ap (count_line held (as_record rs scope n.line)) j
 
@@ -151,15 +151,15 @@ module _ (s : List ℕ) (at line : ℕ) (held : Counts) (v : Limiting s at line 
         ap (first_no_from line) (sym (a ∙ rw bytes_are)) ∙ ap (λ (ts : List Bytes). first_no_from line (answers_from at held ts (n.line ∷ records_from (line + 1) (drop (line_end s at + 1) s)))) (sym n.texts)
         ∙ ap (λ (ls : List L.Line). first_no_from line (answers_from at held (closed_lines (drop at s)) ls)) (sym n.records) ∙ v.same
 
-    by_past : (p : Counting) → Judged held n.line (line_end s at + 1) p → p ≡ NV.Past → line ≡ place3 s
+    by_past : (p : P.Option Counts) → Judged held n.line (line_end s at + 1) p → p ≡ None → line ≡ place3 s
     unfolding first_no_from
     by_past _ (past f) i = (rw f at unrolled)
     by_past _ (fits t m w) i = absurd (let z : ◌≡◌ {A = ℕ} 0 1 = cc in omega arith)
 
-    pub limit_passed : o ≡ NV.Past → line ≡ place3 s
+    pub limit_passed : o ≡ None → line ≡ place3 s
     limit_passed i = by_past (count_line held (as_record rs scope n.line) (line_end s at + 1)) (judged held (line_end s at + 1) v.limits rs scope n.line) (sym e ∙ i)
 
-    by_fit : (p : Counting) → Judged held n.line (line_end s at + 1) p → (more : Counts) → p ≡ NV.Within more → Limiting s (line_end s at + 1) (line + 1) more
+    by_fit : (p : P.Option Counts) → Judged held n.line (line_end s at + 1) p → (more : Counts) → p ≡ Some more → Limiting s (line_end s at + 1) (line + 1) more
     unfolding first_no_from
     by_fit _ (past f) more i = absurd (let z : ◌≡◌ {A = ℕ} 0 1 = cc in omega arith)
     by_fit _ (fits {more = m} t q w) more i =
@@ -171,25 +171,25 @@ module _ (s : List ℕ) (at line : ℕ) (held : Counts) (v : Limiting s at line 
               ∙ ap (λ (h : Counts). first_no_from (suc line) (answers_from (line_end s at + 1) h (closed_lines (drop (line_end s at + 1) s)) (records_from (line + 1) (drop (line_end s at + 1) s)))) q ∙ (rw t at unrolled);
         })
 
-    pub limit_met : (more : Counts) → o ≡ NV.Within more → Limiting s (line_end s at + 1) (line + 1) more
+    pub limit_met : (more : Counts) → o ≡ Some more → Limiting s (line_end s at + 1) (line + 1) more
     limit_met more i = by_fit (count_line held (as_record rs scope n.line) (line_end s at + 1)) (judged held (line_end s at + 1) v.limits rs scope n.line) more (sym e ∙ i)
 
 -- ── a text that passes no limit ──────────────────────────────────────────────────
 module _ (s : List ℕ) (at line : ℕ) (held : Counts) (v : Limiting s at line held) (n : NextLine s at line) (met : place3 s ≡ 0) where
   no_scope : Scope
-  no_scope = record { names = 0; size = 0; routines = 0 }
+  no_scope = record { names = 0; size = 0 }
 
-  here : Counting
+  here : P.Option Counts
   here = count_line held (as_record [] no_scope n.line) (line_end s at + 1)
 
-  hold : (p : Counting) → Judged held n.line (line_end s at + 1) p → p ≡ here
+  hold : (p : P.Option Counts) → Judged held n.line (line_end s at + 1) p → p ≡ here
       → ((also held n.line).routines ≤ 64) × (names_on n.line ≤ 16) × Limiting s (line_end s at + 1) (line + 1) (also held n.line)
   unfolding here
   hold _ (past f) i =
-      absurd (let z : line ≡ place3 s = limit_passed s at line held v n [] no_scope (as_record [] no_scope n.line) (line_end s at + 1) refl refl NV.Past i refl in
+      absurd (let z : line ≡ place3 s = limit_passed s at line held v n [] no_scope (as_record [] no_scope n.line) (line_end s at + 1) refl refl None i refl in
       let y : ⊥ = omega (arith, z, met, v.formed.some_line) in y)
   hold _ (fits {more = m} t q w) i =
-      let l = limit_met s at line held v n [] no_scope (as_record [] no_scope n.line) (line_end s at + 1) refl refl (NV.Within m) i m refl in
+      let l = limit_met s at line held v n [] no_scope (as_record [] no_scope n.line) (line_end s at + 1) refl refl (Some m) i m refl in
       (rw q at w.routines, leb-true (names_on n.line) 16 (fifth (leb (line_end s at + 1) byte_limit) (leb (held.routines + routines_on n.line) routine_limit) (leb (held.instructions + instructions_on n.line) instruction_limit) (leb (held.pieces + pieces_on n.line) piece_limit) (leb (names_on n.line) 16) t), rw q at l)
     where
       fifth : (a b c d e : Bool) → (a && (b && (c && (d && e)))) ≡ true → e ≡ true

@@ -1,4 +1,6 @@
 -- What reading the next line of a text in form gives.
+use Rattle.std.specs.Prelude as P
+use Rattle.std.specs.Prelude.{Some, None}
 use mathlib.Core.Path.{◌≡◌, ap, ◌∙◌}
 use mathlib.Core.List.{List}
 use Prim.Native.Nat.{ℕ, ◌+◌}
@@ -6,33 +8,37 @@ use native.Mathlib.Omega.{arith}
 use Rattle.listing.specs.Listing as L
 use Rattle.text_place.specs.Texts.{line_end}
 use Rattle.text_place.specs.declared.place.Place.{Place}
+use Rattle.text_fields.specs.declared.field.Read.{Read}
 use Rattle.text_jumps.specs.Records.{as_record}
 use Rattle.text_records.specs.Lines.{line_answer}
 use Rattle.text_jumps.specs.declared.scope.Scope.{Scope}
 use Rattle.text_jumps.specs.declared.record.Record.{Record}
-use Rattle.text_records.specs.declared.line.Line.TheVariants as LV
 use Rattle.text_records.proofs.Lines.{NextLine}
+
+-- where there is nothing to point to
+abbrev pub nothing : Scope
+nothing = record { names = 0; size = 0 }
 
 module _ (s : List ℕ) (at k : ℕ) (n : NextLine s at k) (rs : List L.Routine) (scope : Scope) where
   abbrev here : Place
   here = record { offset = at; line = k }
 
-  pub never_bad : LV.Bad ≡ line_answer rs scope s here → ⊥
-  never_bad e = let f : LV.Bad ≡ LV.Is (as_record rs scope n.line) 10 (record { offset = line_end s at + 1; line = k + 1 }) = e ∙ n.answer rs scope in
+  abbrev line_read : Read Record
+  line_read = record { value = as_record rs scope n.line; stop = 10; next = record { offset = line_end s at + 1; line = k + 1 } }
+
+  pub never_bad : None ≡ line_answer rs scope s here → ⊥
+  never_bad e = let f : None ≡ Some line_read = e ∙ n.answer rs scope in
       let z : ◌≡◌ {A = ℕ} 0 1 = cc in omega arith
 
-  module _ (r : Record) (stop : ℕ) (next : Place) (e : LV.Is r stop next ≡ line_answer rs scope s here) where
-    whole : LV.Is r stop next ≡ LV.Is (as_record rs scope n.line) 10 (record { offset = line_end s at + 1; line = k + 1 })
-    whole = e ∙ n.answer rs scope
+  module _ (r : Read Record) (e : Some r ≡ line_answer rs scope s here) where
+    whole : r ≡ line_read
+    whole = let f : Some r ≡ Some line_read = e ∙ n.answer rs scope in cc
 
-    pub record_is : r ≡ as_record rs scope n.line
-    record_is = cc whole
+    pub record_is : r.value ≡ as_record rs scope n.line
+    record_is = ap (λ (r : Read Record). r.value) whole
 
-    next_is_lem : next ≡ record { offset = line_end s at + 1; line = k + 1 }
-    next_is_lem = cc whole
+    pub offset_is : r.next.offset ≡ line_end s at + 1
+    offset_is = ap (λ (r : Read Record). r.next.offset) whole
 
-    pub offset_is : next.offset ≡ line_end s at + 1
-    offset_is = ap (λ (p : Place). p.offset) next_is_lem
-
-    pub line_is_lem : next.line ≡ k + 1
-    line_is_lem = ap (λ (p : Place). p.line) next_is_lem
+    pub line_is_lem : r.next.line ≡ k + 1
+    line_is_lem = ap (λ (r : Read Record). r.next.line) whole

@@ -13,59 +13,55 @@ pub struct Counts {
     pub pieces: u64,
 }
 
-// The counts with one line more, unless it passes a limit.
-#[derive(Clone, Copy)]
-pub enum Counting {
-    Within(Counts),
-    Past,
-}
-
-fn count_opens(held: Counts, arguments: u64, locals: u64) -> Counting
+// The counts with a routine more, unless it passes a limit.
+fn count_opens(held: Counts, arguments: u64, locals: u64) -> Option<Counts>
     requires { WithinLimits held }
     ensures { result ≡ count_opens held arguments locals }
 {
     if MOST_ROUTINES <= held.routines {
-        return Counting::Past;
+        return None;
     }
     if MOST_NAMES < arguments {
-        return Counting::Past;
+        return None;
     }
     if MOST_NAMES - arguments < locals {
-        return Counting::Past;
+        return None;
     }
-    Counting::Within(Counts {
+    Some(Counts {
         routines: held.routines + 1,
         instructions: held.instructions,
         pieces: held.pieces,
     })
 }
 
-fn count_instruction(held: Counts, pieces: u64) -> Counting
+// The counts with an instruction more, unless it passes a limit.
+fn count_instruction(held: Counts, pieces: u64) -> Option<Counts>
     requires { WithinLimits held }
     ensures { result ≡ count_instruction held pieces }
 {
     if MOST_INSTRUCTIONS <= held.instructions {
-        return Counting::Past;
+        return None;
     }
     if MOST_PIECES - held.pieces < pieces {
-        return Counting::Past;
+        return None;
     }
-    Counting::Within(Counts {
+    Some(Counts {
         routines: held.routines,
         instructions: held.instructions + 1,
         pieces: held.pieces + pieces,
     })
 }
 
-pub fn count_line(held: Counts, r: Record, bytes: usize) -> Counting
+// The counts with one line more, after which so many bytes are read, unless it passes a limit.
+pub fn count_line(held: Counts, r: Record, bytes: usize) -> Option<Counts>
     requires { WithinLimits held }
     ensures { result ≡ count_line held r bytes }
 {
     if MOST_BYTES < bytes {
-        return Counting::Past;
+        return None;
     }
     match r {
-        Record::Ports(_, _) => Counting::Within(held),
+        Record::Ports(_, _) => Some(held),
         Record::Opens(arguments, locals, _) => count_opens(held, arguments, locals),
         Record::Instruction(pieces, _, _) => count_instruction(held, pieces),
     }

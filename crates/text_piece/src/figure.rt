@@ -6,7 +6,7 @@ ghost use Rattle.listing.specs.Bytes.{is_digit};
 ghost use Rattle.text_piece.specs.Pieces.{cap, figure_answer};
 
 // 2 to the 40.
-const CAP: u64 = 1099511627776;
+const CAP: u64 = 1 << 40;
 
 #[derive(Clone, Copy)]
 pub enum Figure {
@@ -20,22 +20,19 @@ fn append_digit(n: u64, d: u64) -> u64
     ensures { result ≡ min (n * 10 + d) cap }
 {
     let v = n * 10 + d;
-    if v <= CAP { v } else { CAP }
+    v.min(CAP)
 }
 
 pub fn wide(b: u8) -> u64
     ensures { result ≡ b }
 {
-    b as u64
+    u64::from(b)
 }
 
 pub fn is_digit(b: u8) -> bool
     ensures { result ≡ is_digit b }
 {
-    if b < b'0' {
-        return false;
-    }
-    b <= b'9'
+    b.is_ascii_digit()
 }
 
 // The figure from one offset up to another.
@@ -53,15 +50,12 @@ pub fn figure_of(s: &[u8], from: usize, to: usize) -> Figure
         return Figure::Bad;
     }
     let mut n: u64 = 0;
-    let mut i = from;
-    while i < to {
+    for i in from..to {
         let b = s[i];
-        if is_digit(b) {
-            n = append_digit(n, wide(b - b'0'));
-            i += 1;
-        } else {
+        if !is_digit(b) {
             return Figure::Bad;
         }
+        n = append_digit(n, wide(b - b'0'));
     }
     Figure::Value(n)
 }

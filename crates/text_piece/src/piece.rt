@@ -27,15 +27,13 @@ pub fn effect_of(p: Piece) -> Effect
     ensures { result ≡ effect_in p }
 {
     match p {
-        Piece::Literal(_) => Effect::Adds,
-        Piece::Value(_) => Effect::Adds,
-        Piece::Mark(_) => Effect::Adds,
-        Piece::Plus => Effect::Joins,
-        Piece::Minus => Effect::Joins,
-        Piece::Times => Effect::Joins,
-        Piece::Less => Effect::Joins,
-        Piece::Divide => Effect::Joins,
-        Piece::Remainder => Effect::Joins,
+        Piece::Literal(_) | Piece::Value(_) | Piece::Mark(_) => Effect::Adds,
+        Piece::Plus
+        | Piece::Minus
+        | Piece::Times
+        | Piece::Less
+        | Piece::Divide
+        | Piece::Remainder => Effect::Joins,
         Piece::Bad => Effect::Unknown,
     }
 }
@@ -44,10 +42,7 @@ pub fn effect_of(p: Piece) -> Effect
 fn may_be_negative(n: u64) -> bool
     ensures { result ≡ (leb 1 n && leb n half_range) }
 {
-    if n < 1 {
-        return false;
-    }
-    n <= 2147483648
+    1 <= n && n <= 2147483648
 }
 
 // A literal by its figure, after a minus.

@@ -25,13 +25,7 @@ pub struct Taken {
 pub fn ends_piece(b: u8) -> bool
     ensures { result ≡ ends_piece b }
 {
-    if b == b'\t' {
-        return true;
-    }
-    if b == b'\n' {
-        return true;
-    }
-    b == b' '
+    matches!(b, b'\t' | b'\n' | b' ')
 }
 
 // Where the piece at an offset ends.
@@ -39,14 +33,12 @@ pub fn piece_end(s: &[u8], at: usize) -> usize
     requires { at ≤ length s.now }
     ensures { result ≡ at + length (first_piece_lem (drop at s.now)) }
 {
-    let mut i = at;
-    while i < s.len() {
+    for i in at..s.len() {
         if ends_piece(s[i]) {
             return i;
         }
-        i += 1;
     }
-    i
+    s.len()
 }
 
 // The piece at a place.
@@ -60,16 +52,16 @@ pub fn take_piece(s: &[u8], place: Place) -> Taken
     let stop = closing_byte(s, from, past);
     if stop == 0 {
         return Taken {
-            from: from,
+            from,
             to: past,
             stop: 0,
-            next: next,
+            next,
         };
     }
     Taken {
-        from: from,
+        from,
         to: past - 1,
-        stop: stop,
-        next: next,
+        stop,
+        next,
     }
 }

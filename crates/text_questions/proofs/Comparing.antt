@@ -1,4 +1,6 @@
 -- Opening bytes: compared one after the other, and what a text without them is.
+use Rattle.std.specs.Prelude.{Some}
+use Rattle.std.specs.List.{starts_with}
 use mathlib.Core.Path.{◌≡◌, refl, sym, ap, ◌∙◌}
 use mathlib.Core.Bool.{Bool, true, false, cond, ◌&&◌}
 use mathlib.Core.List.{List, [], ◌∷◌}
@@ -18,39 +20,17 @@ use Rattle.listing.specs.Questions.{place2}
 use Rattle.listing.proofs.Tests.{no_test, and_left, and_right}
 use Rattle.listing.proofs.LinesBack.{line_back}
 use Rattle.text_place.specs.Texts.{before, first_line, ends_line}
+use Rattle.text_records.specs.Lines.{some_place}
 use Rattle.text_records.specs.Onward.{place_from}
-use Rattle.text_records.proofs.Lines.{place_whole, place_end, place_unread}
+use Rattle.text_records.proofs.Lines.{place_some, place_whole, place_end, place_unread}
 use Rattle.text_questions.specs.Opening.{begins_with}
 
 -- ── byte by byte ─────────────────────────────────────────────────────────────────
-pub record Comparing (opening s : List ℕ) (i : ℕ) : Type 0 where
-  pub within : i ≤ length opening
-  pub same : begins_with (drop i opening) (drop i s) ≡ begins_with opening s
-
-pub comparing_begun : (opening s : List ℕ) → Comparing opening s 0
-comparing_begun opening s = record { within = omega arith; same = refl }
-
-module _ (opening s : List ℕ) (i : ℕ) (v : Comparing opening s i) where
-  pub all_compared : length opening ≤ i → true ≡ begins_with opening s
-  unfolding begins_with
-  all_compared h = (rw (drop_of_length-le opening h) at v.same)
-
-  module _ (inside : i < length opening) where
-    pub too_short : length s ≤ i → false ≡ begins_with opening s
-    unfolding begins_with
-    too_short h = (rw (drop_of_length-le s h, drop-cons opening i 0 inside) at v.same)
-
-    module _ (there : i < length s) where
-      both : (eqb (get_or opening i 0) (get_or s i 0) && begins_with (drop (suc i) opening) (drop (suc i) s)) ≡ begins_with opening s
-      unfolding begins_with
-      both = (rw (drop-cons s i 0 there, drop-cons opening i 0 inside) at v.same)
-
-      pub another : (get_or opening i 0 ≡ get_or s i 0 → ⊥) → false ≡ begins_with opening s
-      another n = (rw (ne_eqb (get_or opening i 0) (get_or s i 0) n) at both)
-
-      pub comparing_on : get_or opening i 0 ≡ get_or s i 0 → Comparing opening s (i + 1)
-      comparing_on e =
-          record { within = omega arith; same = rw (add-one i) (rw (eq-eqb (get_or opening i 0) (get_or s i 0) e) at both) }
+pub begins_by : (opening s : List ℕ) → starts_with eqb s opening ≡ begins_with opening s
+unfolding begins_with
+begins_by [] s = refl
+begins_by (byte ∷ opening) [] = refl
+begins_by (byte ∷ opening) (first ∷ s) = ap (λ (t : Bool). eqb byte first && t) (begins_by opening s)
 
 -- ── a text that opens otherwise ──────────────────────────────────────────────────
 -- what the bytes before some byte begin with, the whole begins with
@@ -85,5 +65,5 @@ module _ (s : List ℕ) (otherwise : begins_with (80 ∷ (9 ∷ [])) s ≡ false
   by_length [] e = place_end s 0 1 (omega (arith, ap length e))
   by_length (b ∷ l) e = place_unread s 0 1 (omega (arith, ap length e)) (unread (read_line 1 (first_line s)) refl)
 
-  pub out_of_form_lem : 1 ≡ place2 s
-  out_of_form_lem = sym (by_length s refl) ∙ place_whole s
+  pub out_of_form_lem : Some 1 ≡ some_place (place2 s)
+  out_of_form_lem = place_some 1 (place2 s) (omega arith) (sym (by_length s refl) ∙ place_whole s)

@@ -22,21 +22,17 @@ pub fn put_questions(long_enough: bool, s: &[u8]) -> Loaded
     if !long_enough {
         return Loaded::Refused(1, 0);
     }
-    let form = form_question(s);
-    if form != 0 {
-        return Loaded::Refused(2, form);
+    if let Some(place) = form_question(s) {
+        return Loaded::Refused(2, place);
     }
-    let limit = limit_place(s);
-    if limit != 0 {
-        return Loaded::Refused(3, limit);
+    if let Some(place) = limit_place(s) {
+        return Loaded::Refused(3, place);
     }
-    let there = there_place(s);
-    if there != 0 {
-        return Loaded::Refused(4, there);
+    if let Some(place) = there_place(s) {
+        return Loaded::Refused(4, place);
     }
-    let ending = ending_place(s);
-    if ending != 0 {
-        return Loaded::Refused(5, ending);
+    if let Some(place) = ending_place(s) {
+        return Loaded::Refused(5, place);
     }
     Loaded::Done
 }

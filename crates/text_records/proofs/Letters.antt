@@ -1,4 +1,5 @@
 -- A line by its letter.
+use Rattle.std.specs.Prelude.{None}
 use mathlib.Core.Path.{◌≡◌, refl, sym, ap, ◌∙◌}
 use mathlib.Core.List.{List, [], ◌∷◌}
 use mathlib.Core.Option.{Option, none, some}
@@ -16,11 +17,9 @@ use Rattle.text_place.specs.Places.{passed}
 use Rattle.text_place.specs.declared.place.Place.{Place}
 use Rattle.text_place.proofs.Places.{left_open, pieces_turn, pieces_last, field_last, before_slice, end_in}
 use Rattle.text_jumps.specs.Records.{end_stop, end_next, as_rest, rest_answer}
-use Rattle.text_records.specs.Lines.{as_line, line_answer}
+use Rattle.text_records.specs.Lines.{line_answer}
 use Rattle.text_jumps.specs.declared.scope.Scope.{Scope}
 use Rattle.text_jumps.specs.declared.record.Record.{Record}
-use Rattle.text_jumps.specs.declared.record.Rest.TheVariants as RV
-use Rattle.text_records.specs.declared.line.Line.TheVariants as LV
 use Rattle.text_jumps.proofs.Chain.{Got, got_of}
 
 letter_none : (w : Bytes) → (length w ≡ 1 → ⊥) → read_letter w ≡ none
@@ -30,17 +29,17 @@ letter_none (b ∷ []) n = absurd (n refl)
 letter_none (b ∷ (d ∷ w)) n = refl
 
 module _ (rs : List L.Routine) (scope : Scope) (s : List ℕ) (c : Place) where
-  line_said : line_answer rs scope s c ≡ as_line rs scope (read_record (fields_left 9 (drop c.offset s))) (end_stop s c 9) (end_next s c 9)
+  line_said : line_answer rs scope s c ≡ as_rest rs scope (read_record (fields_left 9 (drop c.offset s))) (end_stop s c 9) (end_next s c 9)
   unfolding fields_left end_stop end_next
   line_said = refl
 
-  pub line_space : get_or s (piece_end s c.offset) 0 ≡ 32 → LV.Bad ≡ line_answer rs scope s c
+  pub line_space : get_or s (piece_end s c.offset) 0 ≡ 32 → None ≡ line_answer rs scope s c
   unfolding read_record next_field_lem one_piece_lem
   line_space e =
       let p = split_has_part 32 (first_field (drop (piece_end s c.offset + 1) s)) in
       sym (line_said ∙ rw (left_open s c.offset, pieces_turn s c.offset e, p.is))
 
-  pub line_short : (get_or s (piece_end s c.offset) 0 ≡ 32 → ⊥) → (c.offset + 1 ≡ piece_end s c.offset → ⊥) → LV.Bad ≡ line_answer rs scope s c
+  pub line_short : (get_or s (piece_end s c.offset) 0 ≡ 32 → ⊥) → (c.offset + 1 ≡ piece_end s c.offset → ⊥) → None ≡ line_answer rs scope s c
   unfolding read_record next_field_lem one_piece_lem
   line_short n m =
       sym (line_said ∙ rw (left_open s c.offset, pieces_last s c.offset n, letter_none (first_piece_lem (drop c.offset s)) (λ (e : length (first_piece_lem (drop c.offset s)) ≡ 1). m (omega arith))))
@@ -75,16 +74,5 @@ module _ (rs : List L.Routine) (scope : Scope) (s : List ℕ) (c : Place) where
     rest_said : rest_answer rs scope s next_here stop_here (read_by_letter (get_or s c.offset 0)) ≡ as_rest rs scope (read_record (fields_left 9 (drop c.offset s))) (end_stop s c 9) (end_next s c 9)
     rest_said = rw (by_letter_lem, letter_got.stops, letter_got.nexts)
 
-    said : (o : Option L.Line) (r : Record) (e : ℕ) (d : Place) → RV.Is r e d ≡ as_rest rs scope o (end_stop s c 9) (end_next s c 9) → LV.Is r e d ≡ as_line rs scope o (end_stop s c 9) (end_next s c 9)
-    said none r e d h = absurd (let z : ◌≡◌ {A = ℕ} 0 1 = cc in omega arith)
-    said (some x) r e d h = cc
-
-    unsaid : (o : Option L.Line) → RV.Bad ≡ as_rest rs scope o (end_stop s c 9) (end_next s c 9) → LV.Bad ≡ as_line rs scope o (end_stop s c 9) (end_next s c 9)
-    unsaid none h = refl
-    unsaid (some x) h = absurd (let z : ◌≡◌ {A = ℕ} 0 1 = cc in omega arith)
-
-    pub line_is_lem : (r : Record) (e : ℕ) (d : Place) → RV.Is r e d ≡ rest_answer rs scope s next_here stop_here (read_by_letter (get_or s c.offset 0)) → LV.Is r e d ≡ line_answer rs scope s c
-    line_is_lem r e d h = said (read_record (fields_left 9 (drop c.offset s))) r e d (h ∙ rest_said) ∙ sym line_said
-
-    pub line_bad : RV.Bad ≡ rest_answer rs scope s next_here stop_here (read_by_letter (get_or s c.offset 0)) → LV.Bad ≡ line_answer rs scope s c
-    line_bad h = unsaid (read_record (fields_left 9 (drop c.offset s))) (h ∙ rest_said) ∙ sym line_said
+    pub line_is_lem : rest_answer rs scope s next_here stop_here (read_by_letter (get_or s c.offset 0)) ≡ line_answer rs scope s c
+    line_is_lem = rest_said ∙ sym line_said

@@ -1,4 +1,6 @@
 -- Lines, one after another: question 2, and what a text that it lets through gives to a pass over its lines.
+use Rattle.std.specs.Prelude as P
+use Rattle.std.specs.Prelude.{Some, None}
 use mathlib.Core.Path.{◌≡◌, refl, sym, ap, ◌∙◌}
 use mathlib.Core.Bool.{Bool, true, false, cond, ◌&&◌, ◌||◌}
 use mathlib.Core.List.{List, [], ◌∷◌, ◌++◌}
@@ -9,7 +11,7 @@ use native.Mathlib.Numerals.{add-one}
 use lib.Dec.{eqb, ltb}
 use lib.ListN.{length, get_or, drop, drop_of_length-le}
 use lib.Seq.{drop-cons, get_or-drop}
-use borrow.Author.Tests.{lt-ltb, eqb-false, eqb-true}
+use borrow.Author.Tests.{lt-ltb, ne_eqb, eqb-false, eqb-true}
 use Rattle.listing.specs.Lists.{is_empty, all_but_last, last_or, present, first_no_from}
 use Rattle.listing.specs.Bytes.{split}
 use Rattle.listing.specs.Expressions.{when}
@@ -22,12 +24,12 @@ use Rattle.text_place.specs.Places.{passed}
 use Rattle.text_place.specs.declared.place.Place.{Place}
 use Rattle.text_place.proofs.Texts.{cut_at, no_cut, before_free}
 use Rattle.text_place.proofs.Places.{drop_past, past_in}
-use Rattle.text_jumps.specs.Records.{as_record}
-use Rattle.text_records.specs.Lines.{as_line, line_answer, stands_on}
+use Rattle.text_jumps.specs.Records.{as_record, as_rest}
+use Rattle.text_records.specs.Lines.{line_answer, stands_on, some_place}
 use Rattle.text_records.specs.Onward.{closed_from, place_from, records_from, Formed}
 use Rattle.text_jumps.specs.declared.scope.Scope.{Scope}
 use Rattle.text_jumps.specs.declared.record.Record.{Record}
-use Rattle.text_records.specs.declared.line.Line.TheVariants as LV
+use Rattle.text_fields.specs.declared.field.Read.{Read}
 
 -- ── the first line of a text, and those after it ─────────────────────────────────
 nowhere : ℕ → Bool
@@ -118,6 +120,13 @@ module _ (s : List ℕ) (at k : ℕ) where
       go true e = place_out (eqb-true _ 10 e) r
       go false e = place_open h (eqb-false _ 10 e)
 
+-- ── the place of a question ──────────────────────────────────────────────────────
+pub place_some : (k p : ℕ) → 1 ≤ k → k ≡ p → Some k ≡ some_place p
+place_some k p h e = let n : k ≡ 0 → ⊥ = λ z. omega arith in rw (← e, ne_eqb k 0 n)
+
+pub place_none : (p : ℕ) → p ≡ 0 → None ≡ some_place p
+place_none p e = rw e
+
 -- ── a line read at a place ───────────────────────────────────────────────────────
 stands_by : (rs : List L.Routine) (scope : Scope) (k : ℕ) (x : L.Line) → stands_on k (as_record rs scope x) ≡ may_stand_on k x
 unfolding may_stand_on
@@ -138,27 +147,27 @@ module _ (rs : List L.Routine) (scope : Scope) (s : List ℕ) (at k : ℕ) where
   abbrev here : Place
   here = record { offset = at; line = k }
 
-  pub line_read : (r : Record) (stop : ℕ) (next : Place) → LV.Is r stop next ≡ line_answer rs scope s here → LineRead s at k r stop next
+  pub line_read : (l : Read Record) → Some l ≡ line_answer rs scope s here → LineRead s at k l.value l.stop l.next
   unfolding read_line
-  line_read r stop next e = go (read_record (fields_of (first_line (drop at s)))) refl e
+  line_read l e = go (read_record (fields_of (first_line (drop at s)))) refl e
     where
-      go : (o : Option L.Line) → read_record (fields_of (first_line (drop at s))) ≡ o → LV.Is r stop next ≡ as_line rs scope o (get_or s (line_end s at) 0) (passed s k (line_end s at)) → LineRead s at k r stop next
+      go : (o : Option L.Line) → read_record (fields_of (first_line (drop at s))) ≡ o → Some l ≡ as_rest rs scope o (get_or s (line_end s at) 0) (passed s k (line_end s at)) → LineRead s at k l.value l.stop l.next
       go none i e = absurd (let z : ◌≡◌ {A = ℕ} 0 1 = cc in omega arith)
       go (some x) i e =
-          let m : r ≡ as_record rs scope x = cc in
-          let st : may_stand_on k x ≡ stands_on k r = sym (ap (stands_on k) m ∙ stands_by rs scope k x) in
+          let m : l ≡ record { value = as_record rs scope x; stop = get_or s (line_end s at) 0; next = passed s k (line_end s at) } = cc in
+          let st : may_stand_on k x ≡ stands_on k l.value = sym (ap (λ (l : Read Record). stands_on k l.value) m ∙ stands_by rs scope k x) in
           record {
-            stop_is = cc;
-            next_is_lem = cc;
-            refused = λ (f : stands_on k r ≡ false). rw (i, st, f);
-            taken = λ (f : stands_on k r ≡ true). (x, rw (i, st, f));
+            stop_is = ap (λ (l : Read Record). l.stop) (sym m);
+            next_is_lem = ap (λ (l : Read Record). l.next) (sym m);
+            refused = λ (f : stands_on k l.value ≡ false). rw (i, st, f);
+            taken = λ (f : stands_on k l.value ≡ true). (x, rw (i, st, f));
           }
 
-  pub line_unread : LV.Bad ≡ line_answer rs scope s here → read_line k (first_line (drop at s)) ≡ none
+  pub line_unread : None ≡ line_answer rs scope s here → read_line k (first_line (drop at s)) ≡ none
   unfolding read_line
   line_unread e = go (read_record (fields_of (first_line (drop at s)))) refl e
     where
-      go : (o : Option L.Line) → read_record (fields_of (first_line (drop at s))) ≡ o → LV.Bad ≡ as_line rs scope o (get_or s (line_end s at) 0) (passed s k (line_end s at)) → read_line k (first_line (drop at s)) ≡ none
+      go : (o : Option L.Line) → read_record (fields_of (first_line (drop at s))) ≡ o → None ≡ as_rest rs scope o (get_or s (line_end s at) 0) (passed s k (line_end s at)) → read_line k (first_line (drop at s)) ≡ none
       go none i e = rw i
       go (some x) i e = absurd (let z : ◌≡◌ {A = ℕ} 0 1 = cc in omega arith)
 
@@ -196,7 +205,7 @@ pub record NextLine (s : List ℕ) (at k : ℕ) : Type 0 where
   pub line : L.Line
   pub stands : may_stand_on k line ≡ true
   pub answer : (rs : List L.Routine) (scope : Scope)
-      → line_answer rs scope s (record { offset = at; line = k }) ≡ LV.Is (as_record rs scope line) 10 (record { offset = line_end s at + 1; line = k + 1 })
+      → line_answer rs scope s (record { offset = at; line = k }) ≡ Some (record { value = as_record rs scope line; stop = 10; next = record { offset = line_end s at + 1; line = k + 1 } })
   pub read : read_record (fields_of (first_line (drop at s))) ≡ some line
   pub records : records_from k (drop at s) ≡ line ∷ records_from (k + 1) (drop (line_end s at + 1) s)
   pub texts : closed_lines (drop at s) ≡ first_line (drop at s) ∷ closed_lines (drop (line_end s at + 1) s)

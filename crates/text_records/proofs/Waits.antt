@@ -1,4 +1,5 @@
 -- The names of a wait.
+use Rattle.std.specs.Prelude.{None}
 use mathlib.Core.Path.{◌≡◌, refl, ◌∙◌}
 use mathlib.Core.Bool.{Bool, true, false}
 use mathlib.Core.List.{List, [], ◌∷◌}
@@ -16,7 +17,6 @@ use Rattle.text_place.specs.Texts.{fields_left}
 use Rattle.text_piece.specs.Pieces.{cap}
 use Rattle.text_fields.specs.Gather.{figures_answer}
 use Rattle.text_place.specs.declared.place.Place.{Place}
-use Rattle.text_fields.specs.declared.field.Figures.TheVariants as GV
 use Rattle.text_place.proofs.Places.{left_open}
 use Rattle.text_jumps.proofs.Chain.{Got, figures_unread, left_none}
 
@@ -38,7 +38,7 @@ module _ (s : List ℕ) (c : Place) (b b' : ℕ) (c' : Place) (n : ℕ) (ns : Li
   unfolding one_to
   names_many h = names_next (fields_left b (drop c.offset s)) k ∙ g.on _ ∙ rw (le-leb 1 (suc (length ns)) (omega arith), lt-leb (suc (length ns)) 4 h)
 
-pub names_none : (s : List ℕ) (c : Place) (b names : ℕ) → names ≤ cap → GV.Bad ≡ figures_answer names s c b → (k : List ℕ → List Field → Option L.Line) → next_field_lem read_names (fields_left b (drop c.offset s)) k ≡ none
+pub names_none : (s : List ℕ) (c : Place) (b names : ℕ) → names ≤ cap → None ≡ figures_answer names s c b → (k : List ℕ → List Field → Option L.Line) → next_field_lem read_names (fields_left b (drop c.offset s)) k ≡ none
 unfolding next_field_lem read_names
 names_none s c b names h e k = go (eqb b 9) refl
   where

@@ -7,4 +7,4 @@ pub mod line;
 pub mod record;
 
 pub use form::form_place;
-pub use line::{Line, read_line};
+pub use line::read_line;

@@ -1,4 +1,5 @@
 -- Question 4, line by line.
+use Rattle.std.specs.Prelude.{Some, None}
 use mathlib.Core.Path.{◌≡◌, refl, sym, ap, ◌∙◌}
 use mathlib.Core.Bool.{Bool, true, false, ◌&&◌}
 use mathlib.Core.List.{List, [], ◌∷◌, ◌++◌, map}
@@ -20,7 +21,8 @@ use Rattle.text_place.specs.Texts.{line_end}
 use Rattle.text_piece.specs.Pieces.{cap}
 use Rattle.text_jumps.specs.Records.{as_record, stand_ins}
 use Rattle.text_jumps.specs.declared.scope.Scope.{Scope}
-use Rattle.text_records.proofs.Lines.{NextLine, next_line, records_whole, records_end}
+use Rattle.text_records.specs.Lines.{some_place}
+use Rattle.text_records.proofs.Lines.{place_some, place_none, NextLine, next_line, records_whole, records_end}
 use Rattle.text_records.specs.Onward.{records_from}
 use Rattle.text_main.specs.Stated.{stated_if}
 use Rattle.text_survey.specs.Surveys.{arity, survey_of, answers_here, moved_here_lem}
@@ -145,7 +147,7 @@ module _ (listing : L.Listing) (survey : Survey) (e : survey ≡ survey_of listi
   pub all_counted : survey.routines ≡ length listing.routines
   all_counted = ap (λ (r : Survey). r.routines) e
 
-  counts_are : take survey.routines survey.counts ≡ map arity listing.routines
+  pub counts_are : take survey.routines survey.counts ≡ map arity listing.routines
   counts_are = rw e (take_at (map arity listing.routines) _ (length listing.routines) (length-map listing.routines arity))
 
   pub few_routines : length survey.counts ≡ 64 → survey.routines ≤ 64
@@ -176,18 +178,18 @@ module _ (s : List ℕ) (two : place2 s ≡ 0) (met : place3 s ≡ 0) where
             ∙ ap (first_no_from 1) (there_whole (records_of s) (rw (records_whole s) at (body_of s two)) n);
       }
 
-  pub main_missing : length (listing_in s).routines ≡ 0 → 1 ≡ place4 s
+  pub main_missing : length (listing_in s).routines ≡ 0 → Some 1 ≡ some_place (place4 s)
   unfolding place4 listing_in
-  main_missing e = sym (no_main (records_of s) (rw (records_whole s) at (body_of s two)) e)
+  main_missing e = place_some 1 (place4 s) (omega arith) (sym (no_main (records_of s) (rw (records_whole s) at (body_of s two)) e))
 
   module _ (at line : ℕ) (here : Here) (v : There s at line here) where
-    pub there_done : length s ≤ at → 0 ≡ place4 s
+    pub there_done : length s ≤ at → None ≡ some_place (place4 s)
     unfolding there_from first_no_from
-    there_done h = sym (ap (λ (ls : List L.Line). first_no_from line (there_from (listing_in s) here.unopened here.names here.size ls)) (records_end s at line h)) ∙ v.same
+    there_done h = place_none (place4 s) (sym v.same ∙ ap (λ (ls : List L.Line). first_no_from line (there_from (listing_in s) here.unopened here.names here.size ls)) (records_end s at line h))
 
-    module _ (n : NextLine s at line) (survey : Survey) (y : survey ≡ survey_of (listing_in s)) (scope : Scope) (names_are : scope.names ≡ here.names) (size_is : scope.size ≡ here.size) where
+    module _ (n : NextLine s at line) (counts : List ℕ) (counted : counts ≡ map arity (listing_in s).routines) (scope : Scope) (names_are : scope.names ≡ here.names) (size_is : scope.size ≡ here.size) where
       abbrev rs : List L.Routine
-      rs = stand_ins (take survey.routines survey.counts)
+      rs = stand_ins counts
 
       abbrev rest : List L.Line
       rest = records_from (line + 1) (drop (line_end s at + 1) s)
@@ -202,7 +204,7 @@ module _ (s : List ℕ) (two : place2 s ≡ 0) (met : place3 s ≡ 0) where
       short = omega (arith, few_code (length s) s (line_end s at + 1) (line + 1) (also v.held n.line) limited.2 met (omega arith))
 
       same_arity : map arity rs ≡ map arity (listing_in s).routines
-      same_arity = stand_in_arity (take survey.routines survey.counts) ∙ counts_are (listing_in s) survey y
+      same_arity = stand_in_arity counts ∙ counted
 
       stated_capped : (main : Bool) (k i o a b : ℕ) (t : Bool) → k ≤ 16 → a ≡ min i cap → b ≡ min o cap → stated_if main k (a + b) t ≡ stated_if main k (i + o) t
       stated_capped false k i o a b t h p q = refl
@@ -232,9 +234,9 @@ module _ (s : List ℕ) (two : place2 s ≡ 0) (met : place3 s ≡ 0) where
           ap (first_no_from line) (sym (agrees n.line n.stands limited.1))
           ∙ ap (λ (ls : List L.Line). first_no_from line (there_from (listing_in s) here.unopened here.names here.size ls)) (sym n.records) ∙ v.same
 
-      pub there_no : answers_here here (as_record rs scope n.line) ≡ false → line ≡ place4 s
+      pub there_no : answers_here here (as_record rs scope n.line) ≡ false → Some line ≡ some_place (place4 s)
       unfolding first_no_from
-      there_no e = rw e at unrolled
+      there_no e = place_some line (place4 s) v.limiting.formed.some_line (rw e at unrolled)
 
       ports_on : (l : L.Line) → may_stand_on line l ≡ true → (line ≡ 1 → listing_in s ≡ listing_of (l ∷ rest))
           → ((moved_here_lem followed here (as_record rs scope l)).inputs ≡ min (listing_in s).inputs cap) × ((moved_here_lem followed here (as_record rs scope l)).outputs ≡ min (listing_in s).outputs cap)

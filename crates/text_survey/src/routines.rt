@@ -5,9 +5,9 @@ ghost use Rattle.listing.specs.Questions.{place2, place3, listing_in};
 ghost use Rattle.text_records.specs.Onward.{Formed, records_from};
 ghost use Rattle.text_survey.specs.Surveys.{SurveyFits, survey_of, survey_opens, survey_one, is_instruction};
 
-use text_jumps::{Record, Scope};
+use text_jumps::{NO_SCOPE, Record};
 use text_place::Place;
-use text_records::{Line, read_line};
+use text_records::read_line;
 
 // How many arguments each routine takes, 0 behind the last, and the number of routines.
 #[derive(Clone, Copy)]
@@ -20,10 +20,7 @@ pub struct Survey {
 pub fn few(n: u64) -> u8
     ensures { result ≡ min n 100 }
 {
-    if n < 100 {
-        return n as u8;
-    }
-    100
+    n.min(100) as u8
 }
 
 // The survey with one routine more, while there is room.
@@ -34,11 +31,11 @@ fn with_routine(survey: Survey, arguments: u64) -> Survey
     if 64 <= survey.routines {
         return survey;
     }
-    let at = survey.routines as usize;
+    let at = usize::from(survey.routines);
     let mut counts = survey.counts;
     counts[at] = few(arguments);
     Survey {
-        counts: counts,
+        counts,
         routines: survey.routines + 1,
     }
 }
@@ -60,33 +57,17 @@ pub fn survey_routines(s: &[u8]) -> Survey
     requires { (place2 s.now ≡ 0) × (place3 s.now ≡ 0) }
     ensures { result ≡ survey_of (listing_in s.now) }
 {
-    let nothing = Scope {
-        names: 0,
-        size: 0,
-        routines: 0,
-    };
-    let none = [0u8; 64];
     let mut survey = Survey {
         counts: [0u8; 64],
         routines: 0,
     };
-    let mut at = 0;
-    let mut line = 1;
-    while at < s.len() {
-        let Line::Is(r, _, next) = read_line(
-            s,
-            Place {
-                offset: at,
-                line: line,
-            },
-            nothing,
-            &none,
-        ) else {
+    let mut at = Place { offset: 0, line: 1 };
+    while at.offset < s.len() {
+        let Some(read) = read_line(s, at, NO_SCOPE, &[]) else {
             return survey;
         };
-        survey = with_line(survey, r);
-        at = next.offset;
-        line = next.line;
+        survey = with_line(survey, read.value);
+        at = read.next;
     }
     survey
 }
@@ -95,11 +76,7 @@ pub fn survey_routines(s: &[u8]) -> Survey
 fn is_instruction(r: Record) -> bool
     ensures { result ≡ is_instruction r }
 {
-    match r {
-        Record::Ports(_, _) => false,
-        Record::Opens(_, _, _) => false,
-        Record::Instruction(_, _, _) => true,
-    }
+    matches!(r, Record::Instruction(_, _, _))
 }
 
 // The instructions from a line on, up to the next `R`.
@@ -107,34 +84,17 @@ pub fn code_length(s: &[u8], place: Place) -> usize
     requires { Formed s.now place.offset place.line }
     ensures { result ≡ length (code_of (records_from place.line (drop place.offset s.now))) }
 {
-    let nothing = Scope {
-        names: 0,
-        size: 0,
-        routines: 0,
-    };
-    let none = [0u8; 64];
-    let mut at = place.offset;
-    let mut line = place.line;
+    let mut at = place;
     let mut count: usize = 0;
-    while at < s.len() {
-        let Line::Is(r, _, next) = read_line(
-            s,
-            Place {
-                offset: at,
-                line: line,
-            },
-            nothing,
-            &none,
-        ) else {
+    while at.offset < s.len() {
+        let Some(read) = read_line(s, at, NO_SCOPE, &[]) else {
             return count;
         };
-        if is_instruction(r) {
-            count += 1;
-            at = next.offset;
-            line = next.line;
-        } else {
+        if !is_instruction(read.value) {
             return count;
         }
+        count += 1;
+        at = read.next;
     }
     count
 }

@@ -3,6 +3,7 @@
 ghost use Rattle.std.specs.Prelude.{◌≡◌, ◌+◌, min, length, drop};
 ghost use Rattle.listing.specs.Listing.{code_of};
 ghost use Rattle.listing.specs.Questions.{place2, place3, place4};
+ghost use Rattle.text_records.specs.Lines.{some_place};
 ghost use Rattle.text_records.specs.Onward.{Formed, records_from};
 ghost use Rattle.text_survey.specs.Surveys.{answers_here, moved_here_lem};
 
@@ -10,7 +11,7 @@ use crate::routines::{code_length, few, survey_routines};
 use text_jumps::{Record, Scope};
 use text_main::{Here, is_stated};
 use text_place::Place;
-use text_records::{Line, read_line};
+use text_records::read_line;
 
 fn answers(here: Here, r: Record) -> bool
     ensures { result ≡ answers_here here r }
@@ -25,10 +26,7 @@ fn answers(here: Here, r: Record) -> bool
 fn small(n: usize) -> u16
     ensures { result ≡ min n 1000 }
 {
-    if n < 1000 {
-        return n as u16;
-    }
-    1000
+    n.min(1000) as u16
 }
 
 // Past a record, the next line at a place.
@@ -51,23 +49,23 @@ fn moved(s: &[u8], here: Here, r: Record, next: Place) -> Here
                 outputs: here.outputs,
                 unopened: false,
                 names: few(arguments) + few(locals),
-                size: size,
+                size,
             }
         }
         Record::Instruction(_, _, _) => here,
     }
 }
 
-// The first line that points to nothing, or 0.
-pub fn there_place(s: &[u8]) -> usize
+// The first line that points to nothing, if there is one.
+pub fn there_place(s: &[u8]) -> Option<usize>
     requires { (place2 s.now ≡ 0) × (place3 s.now ≡ 0) }
-    ensures { result ≡ place4 s.now }
+    ensures { result ≡ some_place (place4 s.now) }
 {
     let survey = survey_routines(s);
-    let routines = survey.routines;
+    let routines = usize::from(survey.routines);
     let counts = survey.counts;
     if routines == 0 {
-        return 1;
+        return Some(1);
     }
     let mut here = Here {
         inputs: 0,
@@ -76,32 +74,18 @@ pub fn there_place(s: &[u8]) -> usize
         names: 0,
         size: 0,
     };
-    let mut at = 0;
-    let mut line = 1;
-    while at < s.len() {
+    let mut at = Place { offset: 0, line: 1 };
+    while at.offset < s.len() {
         let scope = Scope {
             names: here.names,
             size: here.size,
-            routines: routines,
         };
-        let Line::Is(r, _, next) = read_line(
-            s,
-            Place {
-                offset: at,
-                line: line,
-            },
-            scope,
-            &counts,
-        ) else {
-            return 0;
-        };
-        if answers(here, r) {
-            here = moved(s, here, r, next);
-            at = next.offset;
-            line = next.line;
-        } else {
-            return line;
+        let read = read_line(s, at, scope, &counts[..routines])?;
+        if !answers(here, read.value) {
+            return Some(at.line);
         }
+        here = moved(s, here, read.value, read.next);
+        at = read.next;
     }
-    0
+    None
 }

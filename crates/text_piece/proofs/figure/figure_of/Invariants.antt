@@ -17,8 +17,5 @@ use Rattle.text_piece.proofs.figure.figure_of.Given as goal
 
 abbrev pub invariant-loop-i : goal.invariant-loop-i
 invariant-loop-i l =
-    (l.from ≤ l.i) × (l.i ≤ l.to) × (l.n ≤ cap) × (all is_digit (slice l.i l.to l.s) ≡ all is_digit (slice l.from l.to l.s))
+    (l.n ≤ cap) × (all is_digit (slice l.i l.to l.s) ≡ all is_digit (slice l.from l.to l.s))
     × (min (read_on l.n (slice l.i l.to l.s)) cap ≡ min (read_on 0 (slice l.from l.to l.s)) cap)
-
-abbrev pub decreases-loop-i : goal.decreases-loop-i
-decreases-loop-i l = l.to - l.i

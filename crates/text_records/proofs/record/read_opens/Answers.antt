@@ -5,42 +5,42 @@ use Rattle.text_jumps.proofs.Chain as chain
 use Rattle.text_jumps.proofs.Summaries as summaries
 use Rattle.text_records.proofs.record.read_opens.Goals as goal
 
-pub returns-in_default : goal.returns-in_default
-returns-in_default c =
+pub returns-in_err-kinds : goal.returns-in_err-kinds
+returns-in_err-kinds c =
     let a = c.args in
     let s = a.s.now in
-    λ routines. chain.rest_bad routines a.scope _ _ _ (chain.kinds_none s a.place a.stop c.requires (sym c.in_default.is ∙ c.kinds_field.ensures) _)
+    λ routines. c.from_residual.ensures ∙ chain.rest_bad routines a.scope _ _ _ (chain.kinds_none s a.place a.stop c.requires (sym c.in_err-kinds.was ∙ c.kinds_field.ensures) _)
 
 pub number_field-requires : goal.number_field-requires
 number_field-requires c =
     let a = c.args in
     let s = a.s.now in
-    let g1 = chain.kinds_got s a.place a.stop c.requires _ _ _ _ (sym c.in-Read.is ∙ c.kinds_field.ensures) in
+    let g1 = chain.kinds_got s a.place a.stop c.requires _ (sym c.in_ok-kinds.was ∙ c.kinds_field.ensures) in
     g1.1.within
 
-pub returns-in_default-number_field : goal.returns-in_default-number_field
-returns-in_default-number_field c =
+pub returns-in_default : goal.returns-in_default
+returns-in_default c =
     let a = c.args in
     let s = a.s.now in
-    let g1 = chain.kinds_got s a.place a.stop c.requires _ _ _ _ (sym c.in-Read.is ∙ c.kinds_field.ensures) in
-    λ routines. chain.rest_bad routines a.scope _ _ _ (g1.1.on _ ∙ chain.number_none s _ _ g1.1.within (sym c.in_default-number_field.is ∙ c.number_field.ensures) _)
+    let g1 = chain.kinds_got s a.place a.stop c.requires _ (sym c.in_ok-kinds.was ∙ c.kinds_field.ensures) in
+    λ routines. chain.rest_bad routines a.scope _ _ _ (g1.1.on _ ∙ chain.number_none s _ _ g1.1.within (sym c.in_default.is ∙ c.number_field.ensures) _)
 
-pub returns-then-b2-eq9 : goal.returns-then-b2-eq9
-returns-then-b2-eq9 c =
+pub returns-then-stop-eq9 : goal.returns-then-stop-eq9
+returns-then-stop-eq9 c =
     let a = c.args in
     let s = a.s.now in
-    let g1 = chain.kinds_got s a.place a.stop c.requires _ _ _ _ (sym c.in-Read.is ∙ c.kinds_field.ensures) in
-    let g2 = chain.number_got s _ _ g1.1.within _ _ _ (sym c.in-Read-number_field.is ∙ c.number_field.ensures) in
-    λ routines. chain.rest_bad routines a.scope _ _ _ (g1.1.on _ ∙ g2.1.on _ ∙ chain.end_open s c.in-Read-number_field.p2.offset _ (L.Line.opens g1.0 g2.0) c.if-b2-eq9.true)
+    let g1 = chain.kinds_got s a.place a.stop c.requires _ (sym c.in_ok-kinds.was ∙ c.kinds_field.ensures) in
+    let g2 = chain.number_got s _ _ g1.1.within _ _ _ (sym c.in-Read.is ∙ c.number_field.ensures) in
+    λ routines. chain.rest_bad routines a.scope _ _ _ (g1.1.on _ ∙ g2.1.on _ ∙ chain.end_open s c.in-Read.next.offset _ (L.Line.opens g1.0 g2.0) c.if-stop-eq9.true)
 
 pub returns : goal.returns
 returns c =
     let a = c.args in
     let s = a.s.now in
-    let g1 = chain.kinds_got s a.place a.stop c.requires _ _ _ _ (sym c.in-Read.is ∙ c.kinds_field.ensures) in
-    let g2 = chain.number_got s _ _ g1.1.within _ _ _ (sym c.in-Read-number_field.is ∙ c.number_field.ensures) in
+    let g1 = chain.kinds_got s a.place a.stop c.requires _ (sym c.in_ok-kinds.was ∙ c.kinds_field.ensures) in
+    let g2 = chain.number_got s _ _ g1.1.within _ _ _ (sym c.in-Read.is ∙ c.number_field.ensures) in
     λ routines. chain.rest_is_lem routines a.scope s a.place a.stop _ (L.Line.opens g1.0 g2.0) _ _ _
-    (g1.1.on _ ∙ g2.1.on _ ∙ chain.end_shut _ _ _ c.if-b2-eq9.false)
-    (sym g1.1.stops ∙ sym g2.1.stops ∙ chain.stop_shut s _ _ c.if-b2-eq9.false)
-    (sym g1.1.nexts ∙ sym g2.1.nexts ∙ chain.next_shut s _ _ c.if-b2-eq9.false)
+    (g1.1.on _ ∙ g2.1.on _ ∙ chain.end_shut _ _ _ c.if-stop-eq9.false)
+    (sym g1.1.stops ∙ sym g2.1.stops ∙ chain.stop_shut s _ _ c.if-stop-eq9.false)
+    (sym g1.1.nexts ∙ sym g2.1.nexts ∙ chain.next_shut s _ _ c.if-stop-eq9.false)
     (summaries.opens_is routines a.scope _ _ _ _ _ g1.2 g1.3 g2.2)

@@ -25,13 +25,13 @@ returns-in_default-number_field c =
     let g1 = chain.number_got s a.place a.stop c.requires _ _ _ (sym c.in-Read.is ∙ c.number_field.ensures) in
     λ routines. chain.rest_bad routines a.scope _ _ _ (g1.1.on _ ∙ chain.number_none s _ _ g1.1.within (sym c.in_default-number_field.is ∙ c.number_field-2.ensures) _)
 
-pub returns-then-b2-eq9 : goal.returns-then-b2-eq9
-returns-then-b2-eq9 c =
+pub returns-then-stop-eq9 : goal.returns-then-stop-eq9
+returns-then-stop-eq9 c =
     let a = c.args in
     let s = a.s.now in
     let g1 = chain.number_got s a.place a.stop c.requires _ _ _ (sym c.in-Read.is ∙ c.number_field.ensures) in
     let g2 = chain.number_got s _ _ g1.1.within _ _ _ (sym c.in-Read-number_field.is ∙ c.number_field-2.ensures) in
-    λ routines. chain.rest_bad routines a.scope _ _ _ (g1.1.on _ ∙ g2.1.on _ ∙ chain.end_open s c.in-Read-number_field.p2.offset _ (L.Line.ports g1.0 g2.0) c.if-b2-eq9.true)
+    λ routines. chain.rest_bad routines a.scope _ _ _ (g1.1.on _ ∙ g2.1.on _ ∙ chain.end_open s c.in-Read-number_field.next.offset _ (L.Line.ports g1.0 g2.0) c.if-stop-eq9.true)
 
 pub returns : goal.returns
 returns c =
@@ -40,7 +40,7 @@ returns c =
     let g1 = chain.number_got s a.place a.stop c.requires _ _ _ (sym c.in-Read.is ∙ c.number_field.ensures) in
     let g2 = chain.number_got s _ _ g1.1.within _ _ _ (sym c.in-Read-number_field.is ∙ c.number_field-2.ensures) in
     λ routines. chain.rest_is_lem routines a.scope s a.place a.stop _ (L.Line.ports g1.0 g2.0) _ _ _
-    (g1.1.on _ ∙ g2.1.on _ ∙ chain.end_shut _ _ _ c.if-b2-eq9.false)
-    (sym g1.1.stops ∙ sym g2.1.stops ∙ chain.stop_shut s _ _ c.if-b2-eq9.false)
-    (sym g1.1.nexts ∙ sym g2.1.nexts ∙ chain.next_shut s _ _ c.if-b2-eq9.false)
+    (g1.1.on _ ∙ g2.1.on _ ∙ chain.end_shut _ _ _ c.if-stop-eq9.false)
+    (sym g1.1.stops ∙ sym g2.1.stops ∙ chain.stop_shut s _ _ c.if-stop-eq9.false)
+    (sym g1.1.nexts ∙ sym g2.1.nexts ∙ chain.next_shut s _ _ c.if-stop-eq9.false)
     (summaries.ports_is routines a.scope _ _ _ _ g1.2 g2.2)

@@ -1,5 +1,5 @@
 -- `text_records::read_schedule` meets its contract.
-use mathlib.Core.Path.{sym, ◌∙◌}
+use mathlib.Core.Path.{refl, sym, ◌∙◌}
 use Prim.Native.Nat.{◌≤◌}
 use native.Mathlib.Omega.{arith}
 use Rattle.listing.specs.Listing as L
@@ -21,37 +21,37 @@ expression_field-requires c =
     let g1 = chain.number_got s a.place a.stop c.requires _ _ _ (sym c.in-Read.is ∙ c.number_field.ensures) in
     g1.1.within
 
-pub returns-in_default-expression_field : goal.returns-in_default-expression_field
-returns-in_default-expression_field c =
+pub returns-in_err-d : goal.returns-in_err-d
+returns-in_err-d c =
     let a = c.args in
     let s = a.s.now in
     let g1 = chain.number_got s a.place a.stop c.requires _ _ _ (sym c.in-Read.is ∙ c.number_field.ensures) in
-    λ routines. chain.rest_bad routines a.scope _ _ _ (g1.1.on _ ∙ chain.expression_none s _ _ g1.1.within a.scope.names (sym c.in_default-expression_field.is ∙ c.expression_field.ensures) _)
+    λ routines. c.from_residual.ensures ∙ chain.rest_bad routines a.scope _ _ _ (g1.1.on _ ∙ chain.expression_none s _ _ g1.1.within a.scope.names (sym c.in_err-d.was ∙ c.expression_field.ensures) _)
 
 pub expression_field-requires-2 : goal.expression_field-requires-2
 expression_field-requires-2 c =
     let a = c.args in
     let s = a.s.now in
     let g1 = chain.number_got s a.place a.stop c.requires _ _ _ (sym c.in-Read.is ∙ c.number_field.ensures) in
-    let g2 = chain.expression_got s _ _ g1.1.within a.scope.names _ _ _ _ (sym c.in-Read-expression_field.is ∙ c.expression_field.ensures) in
+    let g2 = chain.expression_got s _ _ g1.1.within a.scope.names _ (sym c.in_ok-d.was ∙ c.expression_field.ensures) in
     g2.1.within
 
-pub returns-in_default-expression_field-2 : goal.returns-in_default-expression_field-2
-returns-in_default-expression_field-2 c =
+pub returns-in_err-e : goal.returns-in_err-e
+returns-in_err-e c =
     let a = c.args in
     let s = a.s.now in
     let g1 = chain.number_got s a.place a.stop c.requires _ _ _ (sym c.in-Read.is ∙ c.number_field.ensures) in
-    let g2 = chain.expression_got s _ _ g1.1.within a.scope.names _ _ _ _ (sym c.in-Read-expression_field.is ∙ c.expression_field.ensures) in
-    λ routines. chain.rest_bad routines a.scope _ _ _ (g1.1.on _ ∙ g2.1.on _ ∙ chain.expression_none s _ _ g2.1.within a.scope.names (sym c.in_default-expression_field-2.is ∙ c.expression_field-2.ensures) _)
+    let g2 = chain.expression_got s _ _ g1.1.within a.scope.names _ (sym c.in_ok-d.was ∙ c.expression_field.ensures) in
+    λ routines. c.from_residual-in_err-e.ensures ∙ chain.rest_bad routines a.scope _ _ _ (g1.1.on _ ∙ g2.1.on _ ∙ chain.expression_none s _ _ g2.1.within a.scope.names (sym c.in_err-e.was ∙ c.expression_field-2.ensures) _)
 
-pub returns-then-b3-eq9 : goal.returns-then-b3-eq9
-returns-then-b3-eq9 c =
+pub returns-then-e-eq9 : goal.returns-then-e-eq9
+returns-then-e-eq9 c =
     let a = c.args in
     let s = a.s.now in
     let g1 = chain.number_got s a.place a.stop c.requires _ _ _ (sym c.in-Read.is ∙ c.number_field.ensures) in
-    let g2 = chain.expression_got s _ _ g1.1.within a.scope.names _ _ _ _ (sym c.in-Read-expression_field.is ∙ c.expression_field.ensures) in
-    let g3 = chain.expression_got s _ _ g2.1.within a.scope.names _ _ _ _ (sym c.in-Read-expression_field-2.is ∙ c.expression_field-2.ensures) in
-    λ routines. chain.rest_bad routines a.scope _ _ _ (g1.1.on _ ∙ g2.1.on _ ∙ g3.1.on _ ∙ chain.end_open s c.in-Read-expression_field-2.p3.offset _ (L.Line.instruction (L.Instruction.schedule g1.0 g2.0 g3.0)) c.if-b3-eq9.true)
+    let g2 = chain.expression_got s _ _ g1.1.within a.scope.names _ (sym c.in_ok-d.was ∙ c.expression_field.ensures) in
+    let g3 = chain.expression_got s _ _ g2.1.within a.scope.names _ (sym c.in_ok-e.was ∙ c.expression_field-2.ensures) in
+    λ routines. chain.rest_bad routines a.scope _ _ _ (g1.1.on _ ∙ g2.1.on _ ∙ g3.1.on _ ∙ chain.end_open s c.in_ok-e.e.next.offset _ (L.Line.instruction (L.Instruction.schedule g1.0 g2.0 g3.0)) c.if-e-eq9.true)
 
 pub overflow_add-result : goal.overflow_add-result
 overflow_add-result c =
@@ -59,8 +59,8 @@ overflow_add-result c =
     let s = a.s.now in
     let small : a.scope.names ≤ cap = omega (arith, c.well_formed) in
     let g1 = chain.number_got s a.place a.stop c.requires _ _ _ (sym c.in-Read.is ∙ c.number_field.ensures) in
-    let g2 = chain.expression_got s _ _ g1.1.within a.scope.names _ _ _ _ (sym c.in-Read-expression_field.is ∙ c.expression_field.ensures) in
-    let g3 = chain.expression_got s _ _ g2.1.within a.scope.names _ _ _ _ (sym c.in-Read-expression_field-2.is ∙ c.expression_field-2.ensures) in
+    let g2 = chain.expression_got s _ _ g1.1.within a.scope.names _ (sym c.in_ok-d.was ∙ c.expression_field.ensures) in
+    let g3 = chain.expression_got s _ _ g2.1.within a.scope.names _ (sym c.in_ok-e.was ∙ c.expression_field-2.ensures) in
     omega (arith, c.well_formed, chain.expression_length s _ _ _ _ g2.0 g2.1, g2.2, g2.1.moves, g2.1.within.inside)
 
 pub overflow_add-result-2 : goal.overflow_add-result-2
@@ -69,8 +69,8 @@ overflow_add-result-2 c =
     let s = a.s.now in
     let small : a.scope.names ≤ cap = omega (arith, c.well_formed) in
     let g1 = chain.number_got s a.place a.stop c.requires _ _ _ (sym c.in-Read.is ∙ c.number_field.ensures) in
-    let g2 = chain.expression_got s _ _ g1.1.within a.scope.names _ _ _ _ (sym c.in-Read-expression_field.is ∙ c.expression_field.ensures) in
-    let g3 = chain.expression_got s _ _ g2.1.within a.scope.names _ _ _ _ (sym c.in-Read-expression_field-2.is ∙ c.expression_field-2.ensures) in
+    let g2 = chain.expression_got s _ _ g1.1.within a.scope.names _ (sym c.in_ok-d.was ∙ c.expression_field.ensures) in
+    let g3 = chain.expression_got s _ _ g2.1.within a.scope.names _ (sym c.in_ok-e.was ∙ c.expression_field-2.ensures) in
     omega (arith, c.well_formed, chain.expression_length s _ _ _ _ g2.0 g2.1, g2.2, g2.1.moves, g2.1.within.inside, chain.expression_length s _ _ _ _ g3.0 g3.1, g3.2, g3.1.moves, g3.1.within.inside, g2.1.moved g3.1.opens, g1.1.after g2.1.opens)
 
 pub returns : goal.returns
@@ -79,10 +79,10 @@ returns c =
     let s = a.s.now in
     let small : a.scope.names ≤ cap = omega (arith, c.well_formed) in
     let g1 = chain.number_got s a.place a.stop c.requires _ _ _ (sym c.in-Read.is ∙ c.number_field.ensures) in
-    let g2 = chain.expression_got s _ _ g1.1.within a.scope.names _ _ _ _ (sym c.in-Read-expression_field.is ∙ c.expression_field.ensures) in
-    let g3 = chain.expression_got s _ _ g2.1.within a.scope.names _ _ _ _ (sym c.in-Read-expression_field-2.is ∙ c.expression_field-2.ensures) in
+    let g2 = chain.expression_got s _ _ g1.1.within a.scope.names _ (sym c.in_ok-d.was ∙ c.expression_field.ensures) in
+    let g3 = chain.expression_got s _ _ g2.1.within a.scope.names _ (sym c.in_ok-e.was ∙ c.expression_field-2.ensures) in
     λ routines. chain.rest_is_lem routines a.scope s a.place a.stop _ (L.Line.instruction (L.Instruction.schedule g1.0 g2.0 g3.0)) _ _ _
-    (g1.1.on _ ∙ g2.1.on _ ∙ g3.1.on _ ∙ chain.end_shut _ _ _ c.if-b3-eq9.false)
-    (sym g1.1.stops ∙ sym g2.1.stops ∙ sym g3.1.stops ∙ chain.stop_shut s _ _ c.if-b3-eq9.false)
-    (sym g1.1.nexts ∙ sym g2.1.nexts ∙ sym g3.1.nexts ∙ chain.next_shut s _ _ c.if-b3-eq9.false)
-    (summaries.schedule_is routines a.scope small _ _ _ _ _ _ _ _ g2.0 g3.0 g1.2 g2.2 g3.2 g2.3 g3.3 c.both.ensures c.both-known.ensures)
+    (g1.1.on _ ∙ g2.1.on _ ∙ g3.1.on _ ∙ chain.end_shut _ _ _ c.if-e-eq9.false)
+    (sym g1.1.stops ∙ sym g2.1.stops ∙ sym g3.1.stops ∙ chain.stop_shut s _ _ c.if-e-eq9.false)
+    (sym g1.1.nexts ∙ sym g2.1.nexts ∙ sym g3.1.nexts ∙ chain.next_shut s _ _ c.if-e-eq9.false)
+    (summaries.schedule_is routines a.scope small _ _ _ _ _ _ _ _ g2.0 g3.0 g1.2 g2.2 g3.2 g2.3 g3.3 (rw c.from.ensures) refl)

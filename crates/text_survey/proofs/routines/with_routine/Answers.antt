@@ -6,4 +6,4 @@ pub returns-then-survey-ge64 : goal.returns-then-survey-ge64
 returns-then-survey-ge64 c = rw (le-ltb c.args.survey.routines 64 c.if-survey-ge64.true)
 
 pub returns : goal.returns
-returns c = rw (lt-ltb c.args.survey.routines 64 c.if-survey-ge64.false, ← c.few.ensures)
+returns c = rw (lt-ltb c.args.survey.routines 64 c.if-survey-ge64.false, ← c.few.ensures, c.from-at.ensures)

@@ -45,7 +45,7 @@ module _ (s : List ℕ) (loads : Loads s (listing_in s)) where
 
   -- ── the first line ─────────────────────────────────────────────────────────────
   abbrev start : Progress
-  start = record { at = 0; line = 1; routines = 0; instructions = 0; cells = 0; code = 0 }
+  start = record { place = record { offset = 0; line = 1 }; routines = 0; instructions = 0; cells = 0; code = 0 }
 
   all_zero : (t t₀ : List ℕ) → length t₀ ≡ 12288 → t ≡ blank_words ++ drop 12288 t₀ → t ≡ replicate 12288 0
   unfolding blank_words
@@ -66,8 +66,8 @@ module _ (s : List ℕ) (loads : Loads s (listing_in s)) where
       }
 
   -- ── the end ────────────────────────────────────────────────────────────────────
-  pub writing_done : (t : List ℕ) (p : Progress) → Writing s t p → length s ≤ p.at → t ≡ table_words (listing_in s)
+  pub writing_done : (t : List ℕ) (p : Progress) → Writing s t p → length s ≤ p.place.offset → t ≡ table_words (listing_in s)
   unfolding with_lines
   writing_done t p v h =
-      let e : with_lines v.so_far [] ≡ listing_in s = rw (records_end s p.at p.line h) at v.left in
+      let e : with_lines v.so_far [] ≡ listing_in s = rw (records_end s p.place.offset p.place.line h) at v.left in
       v.words ∙ ap table_words e

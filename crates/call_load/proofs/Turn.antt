@@ -1,11 +1,12 @@
 -- One line of the loop that writes a table.
+use Rattle.std.specs.Prelude.{Some}
 use mathlib.Core.Path.{◌≡◌, refl, sym, ap, ◌∙◌}
 use mathlib.Core.Bool.{true}
 use mathlib.Core.List.{List, [], ◌∷◌, ◌++◌, append-nil}
 use mathlib.Core.Option.{Option, some}
 use Prim.Native.Nat.{ℕ, ◌+◌, ◌*◌, ◌≤◌, ◌<◌}
 use native.Mathlib.Omega.{arith}
-use lib.ListN.{length, drop, length-append}
+use lib.ListN.{length, get_or, drop, length-append}
 use borrow.Author.Tests.{eqb-true, leb-true}
 use Rattle.listing.specs.Listing as L
 use Rattle.listing.specs.Load.{Loads}
@@ -19,8 +20,10 @@ use Rattle.text_place.specs.Texts.{line_end}
 use Rattle.text_place.specs.Places.{passed}
 use Rattle.text_place.specs.declared.place.Place.{Place}
 use Rattle.text_records.specs.Onward.{records_from}
-use Rattle.text_records.specs.Lines.{as_line}
-use Rattle.text_records.specs.declared.line.Line.TheVariants as LV
+use Rattle.text_jumps.specs.Records.{as_record, as_rest}
+use Rattle.text_jumps.specs.declared.scope.Scope.{Scope}
+use Rattle.text_fields.specs.declared.field.Read.{Read}
+use Rattle.text_jumps.specs.declared.record.Record.{Record}
 use Rattle.text_records.proofs.Lines.{NextLine, next_line}
 use Rattle.call_load.specs.Growing.{opened_with, with_instruction, last_code_lem, with_line, with_lines}
 use Rattle.table_lines.specs.Lines.{holds_of, words_after, Fits, Good, line_of, WritesLine, line_at}
@@ -36,12 +39,12 @@ use Rattle.call_load.proofs.Words.{ports_written, opens_written, instruction_wri
 use Rattle.call_load.proofs.Beginning.{meets_all}
 
 -- ── what each kind of line changes ───────────────────────────────────────────────
-advanced_at : (p : Progress) (h : Holds) (next : Place) → (advanced p h next).at ≡ next.offset
+advanced_at : (p : Progress) (h : Holds) (next : Place) → (advanced p h next).place.offset ≡ next.offset
 advanced_at p (HV.Ports i o) next = refl
 advanced_at p (HV.Opens n b l) next = refl
 advanced_at p (HV.Instruction n) next = refl
 
-advanced_line : (p : Progress) (h : Holds) (next : Place) → (advanced p h next).line ≡ next.line
+advanced_line : (p : Progress) (h : Holds) (next : Place) → (advanced p h next).place.line ≡ next.line
 advanced_line p (HV.Ports i o) next = refl
 advanced_line p (HV.Opens n b l) next = refl
 advanced_line p (HV.Instruction n) next = refl
@@ -61,10 +64,10 @@ pub record Put (p : Progress) (l : L.Listing) (x : L.Line) (holds : Holds) (t : 
   pub words : entered p holds t ≡ table_words (with_line l x)
   pub counted : (next : Place) → Counted (advanced p holds next) (with_line l x).routines
   pub few : words_in holds ≤ 9400
-  pub opened : (next : Place) → 3 ≤ p.line + 1 → 1 ≤ (advanced p holds next).routines
+  pub opened : (next : Place) → 3 ≤ p.place.line + 1 → 1 ≤ (advanced p holds next).routines
 
 module _ (t t₁ : List ℕ) (p : Progress) (l : L.Listing) (words : t ≡ table_words l) (c : Counted p l.routines) (h : Holds) where
-  put_ports : (i o : ℕ) → h ≡ HV.Ports i o → t₁ ≡ t → p.line ≡ 1 → Put p l (L.Line.ports i o) h t₁
+  put_ports : (i o : ℕ) → h ≡ HV.Ports i o → t₁ ≡ t → p.place.line ≡ 1 → Put p l (L.Line.ports i o) h t₁
   unfolding with_line
   put_ports i o eh et first =
       rw (eh, et, words) (record {
@@ -117,12 +120,16 @@ module _ (t t₁ : List ℕ) (p : Progress) (l : L.Listing) (words : t ≡ table
         opened = λ next h. some';
       })
 
-  pub put_line : (x : L.Line) → h ≡ holds_of x → t₁ ≡ words_after x (328 + 5 * p.instructions) (2888 + p.cells) t → may_stand_on p.line x ≡ true → (3 ≤ p.line → 1 ≤ p.routines)
+  pub put_line : (x : L.Line) → h ≡ holds_of x → t₁ ≡ words_after x (328 + 5 * p.instructions) (2888 + p.cells) t → may_stand_on p.place.line x ≡ true → (3 ≤ p.place.line → 1 ≤ p.routines)
       → Ample (with_line l x).routines → Put p l x h t₁
   unfolding may_stand_on
-  put_line (L.Line.ports i o) eh et stands opened ample = put_ports i o eh et (eqb-true p.line 1 stands)
+  put_line (L.Line.ports i o) eh et stands opened ample = put_ports i o eh et (eqb-true p.place.line 1 stands)
   put_line (L.Line.opens kinds locals) eh et stands opened ample = put_opens kinds locals eh et ample
-  put_line (L.Line.instruction i) eh et stands opened ample = put_instruction i eh et (opened (leb-true 3 p.line stands)) ample
+  put_line (L.Line.instruction i) eh et stands opened ample = put_instruction i eh et (opened (leb-true 3 p.place.line stands)) ample
+
+-- of two records that were read
+next_read : (l m : Read Record) → Some l ≡ Some m → l.next ≡ m.next
+next_read l m e = let k : l ≡ m = cc in ap (λ (r : Read Record). r.next) k
 
 -- ── the turn ─────────────────────────────────────────────────────────────────────
 first_fits : {x : L.Line} {xs : List L.Line} → AllFit (x ∷ xs) → Fits x × AllFit xs
@@ -152,12 +159,12 @@ module _ (s : List ℕ) (loads : Loads s (listing_in s)) (t : List ℕ) (p : Pro
         omega (arith, a.code, c.code, last_code_few v.so_far.routines),
       )
 
-  module _ (inside : p.at < length s) where
-    abbrev n : NextLine s p.at p.line
-    n = next_line s p.at p.line v.formed inside
+  module _ (inside : p.place.offset < length s) where
+    abbrev n : NextLine s p.place.offset p.place.line
+    n = next_line s p.place.offset p.place.line v.formed inside
 
     abbrev rest : List L.Line
-    rest = records_from (p.line + 1) (drop (line_end s p.at + 1) s)
+    rest = records_from (p.place.line + 1) (drop (line_end s p.place.offset + 1) s)
 
     abbrev grown : L.Listing
     grown = with_line v.so_far n.line
@@ -188,19 +195,20 @@ module _ (s : List ℕ) (loads : Loads s (listing_in s)) (t : List ℕ) (p : Pro
           let b = bounded in
           record { routines = b.0; instructions = b.1; cells = omega (arith, b.2); code = b.3; more = put.few }
 
-      next_is_lem : w.next ≡ record { offset = line_end s p.at + 1; line = p.line + 1 }
+      next_is_lem : w.next ≡ record { offset = line_end s p.place.offset + 1; line = p.place.line + 1 }
       next_is_lem =
-          let a : as_line [] (record { names = 0; size = 0; routines = 0 }) (some n.line) _ (passed s p.line (line_end s p.at)) ≡ LV.Is _ 10 (record { offset = line_end s p.at + 1; line = p.line + 1 }) =
-          rw n.read at (n.answer [] (record { names = 0; size = 0; routines = 0 })) in
-          let e : passed s p.line (line_end s p.at) ≡ record { offset = line_end s p.at + 1; line = p.line + 1 } = cc a in
+          let scope : Scope = record { names = 0; size = 0 } in
+          let a : as_rest [] scope (some n.line) (get_or s (line_end s p.place.offset) 0) (passed s p.place.line (line_end s p.place.offset)) ≡ Some (record { value = as_record [] scope n.line; stop = 10; next = record { offset = line_end s p.place.offset + 1; line = p.place.line + 1 } }) =
+          rw n.read at (n.answer [] scope) in
+          let e : passed s p.place.line (line_end s p.place.offset) ≡ record { offset = line_end s p.place.offset + 1; line = p.place.line + 1 } = next_read _ _ a in
           ap (λ (r : WrittenLine). r.next) writes.answer ∙ e
 
       module _ (t₂ : List ℕ) (q : Progress) (enters : t₂ ≡ entered p w.holds t₁) (advances : q ≡ advanced p w.holds w.next) where
-        at_is : q.at ≡ line_end s p.at + 1
-        at_is = ap (λ (r : Progress). r.at) advances ∙ (advanced_at p w.holds w.next ∙ ap (λ (m : Place). m.offset) next_is_lem)
+        at_is : q.place.offset ≡ line_end s p.place.offset + 1
+        at_is = ap (λ (r : Progress). r.place.offset) advances ∙ (advanced_at p w.holds w.next ∙ ap (λ (m : Place). m.offset) next_is_lem)
 
-        line_is_lem : q.line ≡ p.line + 1
-        line_is_lem = ap (λ (r : Progress). r.line) advances ∙ (advanced_line p w.holds w.next ∙ ap (λ (m : Place). m.line) next_is_lem)
+        line_is_lem : q.place.line ≡ p.place.line + 1
+        line_is_lem = ap (λ (r : Progress). r.place.line) advances ∙ (advanced_line p w.holds w.next ∙ ap (λ (m : Place). m.line) next_is_lem)
 
         pub words_are : t₂ ≡ words_next s p t
         words_are = enters ∙ (ap (λ (r : WrittenLine). entered p r.holds t₁) writes.answer ∙ ap (entered p (holds_of (line_of (line_at s (place_of p))))) writes.words)
@@ -208,7 +216,7 @@ module _ (s : List ℕ) (loads : Loads s (listing_in s)) (t : List ℕ) (p : Pro
         pub progress_is : q ≡ progress_after s p
         progress_is = advances ∙ ap (λ (r : WrittenLine). advanced p r.holds r.next) writes.answer
 
-        pub moved : p.at < q.at
+        pub moved : p.place.offset < q.place.offset
         moved = omega (arith, at_is)
 
         pub turned : Writing s t₂ q

@@ -14,11 +14,11 @@ use Rattle.table_progress.specs.declared.progress.Progress.{Progress}
 
 -- ── the next line ────────────────────────────────────────────────────────────────
 abbrev pub place_of : Progress → Place
-place_of p = record { offset = p.at; line = p.line }
+place_of p = p.place
 
 -- the counts after it, and the words: its entry and cells behind those of the instructions so far, then the header and the routine entries
 abbrev pub progress_after : List ℕ → Progress → Progress
-progress_after s p = advanced p (holds_of (line_of (line_at s (place_of p)))) (passed s p.line (line_end s p.at))
+progress_after s p = advanced p (holds_of (line_of (line_at s (place_of p)))) (passed s p.place.line (line_end s p.place.offset))
 
 abbrev pub words_next : List ℕ → Progress → List ℕ → List ℕ
 words_next s p t =
@@ -42,7 +42,7 @@ pub record Writing (s t : List ℕ) (p : Progress) : Type 0 where
   pub so_far : L.Listing
   pub words : t ≡ table_words so_far
   pub counted : Counted p so_far.routines
-  pub formed : Formed s p.at p.line
-  pub left : with_lines so_far (records_from p.line (drop p.at s)) ≡ listing_in s
-  pub fit : AllFit (records_from p.line (drop p.at s))
-  pub opened : 3 ≤ p.line → 1 ≤ p.routines
+  pub formed : Formed s p.place.offset p.place.line
+  pub left : with_lines so_far (records_from p.place.line (drop p.place.offset s)) ≡ listing_in s
+  pub fit : AllFit (records_from p.place.line (drop p.place.offset s))
+  pub opened : 3 ≤ p.place.line → 1 ≤ p.routines

@@ -26,7 +26,7 @@ use Rattle.text_fields.proofs.Rows.{Said, said, said_of}
 use Rattle.text_jumps.proofs.Chain.{Got, first, got_of, none_of, number_got, end_shut, end_open}
 use Rattle.table_cells.specs.Cells.{low_word, cell_kind, cell_value, cells_of}
 use Rattle.table_cells.specs.Words.{as_word, word_answer}
-use Rattle.table_cells.specs.declared.word.Word.{Word}
+use Rattle.text_fields.specs.declared.field.Read.{Read}
 
 pub both_true : (a b : Bool) → (a && b) ≡ true → (a ≡ true) × (b ≡ true)
 both_true true b e = (refl, e)
@@ -83,7 +83,7 @@ pub word_read : (s : List ℕ) (c : Place) (b n b' : ℕ) (c' : Place) (v : ℕ)
 word_read s c b n b' c' v e l = rw l (ap (as_word c) e)
 
 -- whatever the field holds, the place after it is within the text
-pub word_next : (s : List ℕ) (c : Place) (b : ℕ) → Within s c.offset c.line → (r : Word) → r ≡ word_answer s c b → Within s r.next.offset r.next.line
+pub word_next : (s : List ℕ) (c : Place) (b : ℕ) → Within s c.offset c.line → (r : Read ℕ) → r ≡ word_answer s c b → Within s r.next.offset r.next.line
 word_next s c b w r e = rw e (go (number_answer s c b) refl)
   where
     go : (o : Number) → o ≡ number_answer s c b → Within s (as_word c o).next.offset (as_word c o).next.line
@@ -91,14 +91,14 @@ word_next s c b w r e = rw e (go (number_answer s c b) refl)
     go (NV.Read n b' c') i = (number_got s c b w n b' c' i).1.within
 
 -- what a field of one figure gives
-pub record WordIs (s : List ℕ) (c : Place) (n : ℕ) (r : Word) : Type 0 where
+pub record WordIs (s : List ℕ) (c : Place) (n : ℕ) (r : Read ℕ) : Type 0 where
   pub next : r.next ≡ next_of s c
   pub value : n < word_range → r.value ≡ n
 
-pub word_known : (s : List ℕ) (c : Place) (b n : ℕ) (r : Word) → first read_number s c b ≡ some n → r ≡ word_answer s c b → WordIs s c n r
+pub word_known : (s : List ℕ) (c : Place) (b n : ℕ) (r : Read ℕ) → first read_number s c b ≡ some n → r ≡ word_answer s c b → WordIs s c n r
 word_known s c b n r i e =
     let k = e ∙ word_read_is s c b n i in
-    record { next = ap (λ (v : Word). v.next) k; value = λ l. ap (λ (v : Word). v.value) k ∙ low_word_is n l }
+    record { next = ap (λ (v : Read ℕ). v.next) k; value = λ l. ap (λ (v : Read ℕ). v.value) k ∙ low_word_is n l }
 
 -- ── the cells of an expression ───────────────────────────────────────────────────
 pub each_more : {A B : Type 0} (f : A → Option B) (x : A) (xs : List A) (ys : List B) → each f (x ∷ xs) ≡ some ys

@@ -6,12 +6,12 @@ use Rattle.text_place.specs.declared.place.Place.{Place}
 use Rattle.text_fields.specs.declared.field.Number.{Number}
 use Rattle.text_fields.specs.declared.field.Number.TheVariants as NV
 use Rattle.table_cells.specs.Cells.{low_word}
-use Rattle.table_cells.specs.declared.word.Word.{Word}
+use Rattle.text_fields.specs.declared.field.Read.{Read}
 
 -- a field that is no figure leaves the place where it is
-abbrev pub as_word : Place → Number → Word
+abbrev pub as_word : Place → Number → Read ℕ
 as_word p NV.Bad = record { value = 0; stop = 0; next = p }
 as_word p (NV.Read n stop next) = record { value = low_word n; stop = stop; next = next }
 
-abbrev pub word_answer : Bytes → Place → ℕ → Word
+abbrev pub word_answer : Bytes → Place → ℕ → Read ℕ
 word_answer s p stop = as_word p (number_answer s p stop)

@@ -19,10 +19,7 @@ pub struct Cells {
 pub fn low_word(n: u64) -> u32
     ensures { result ≡ low_word n }
 {
-    if n < 4294967296 {
-        return n as u32;
-    }
-    0
+    u32::try_from(n).unwrap_or(0)
 }
 
 fn cell_kind(p: Piece, plain: u32) -> u32
@@ -47,15 +44,8 @@ fn cell_value(p: Piece) -> u32
 {
     match p {
         Piece::Literal(v) => v,
-        Piece::Value(n) => low_word(n),
-        Piece::Mark(n) => low_word(n),
-        Piece::Plus => 0,
-        Piece::Minus => 0,
-        Piece::Times => 0,
-        Piece::Less => 0,
-        Piece::Divide => 0,
-        Piece::Remainder => 0,
-        Piece::Bad => 0,
+        Piece::Value(n) | Piece::Mark(n) => low_word(n),
+        _ => 0,
     }
 }
 
@@ -77,13 +67,7 @@ pub fn write_cells(s: &[u8], t: &mut [u32], place: Place, a: usize, plain: u32) 
     let line = place.line;
     let mut count: usize = 0;
     loop {
-        let piece = take_piece(
-            s,
-            Place {
-                offset: at,
-                line: line,
-            },
-        );
+        let piece = take_piece(s, Place { offset: at, line });
         let from = piece.from;
         let to = piece.to;
         let p = piece_of(s, from, to);
@@ -93,9 +77,9 @@ pub fn write_cells(s: &[u8], t: &mut [u32], place: Place, a: usize, plain: u32) 
         let next = piece.next;
         if b != b' ' {
             return Cells {
-                count: count,
+                count,
                 stop: b,
-                next: next,
+                next,
             };
         }
         at = next.offset;

@@ -1,5 +1,5 @@
 // Words in a row, stored from an address on.
-ghost use Rattle.std.specs.Prelude.{◌≡◌, [], ◌∷◌, set, ◌≤◌};
+ghost use Rattle.std.specs.Prelude.{◌≡◌, set, ◌≤◌};
 ghost use Rattle.std.proofs.lemmas.List.Edits.{sets};
 
 // One word. A store past the end is none; the limits rule it out.
@@ -12,18 +12,11 @@ pub fn put(t: &mut [u32], a: usize, v: u32)
 }
 
 // Five words in a row: an entry of a routine or of an instruction.
-pub fn put_entry(
-    t: &mut [u32],
-    e: usize,
-    first: u32,
-    second: u32,
-    third: u32,
-    fourth: u32,
-    fifth: u32,
-)
+pub fn put_entry(t: &mut [u32], e: usize, words: [u32; 5])
     requires { e ≤ 12288 }
-    ensures { t.new ≡ sets t.old e (first ∷ (second ∷ (third ∷ (fourth ∷ (fifth ∷ []))))) }
+    ensures { t.new ≡ sets t.old e words }
 {
+    let [first, second, third, fourth, fifth] = words;
     put(t, e, first);
     put(t, e + 1, second);
     put(t, e + 2, third);

@@ -9,7 +9,7 @@ ghost use Rattle.table_lines.specs.Lines.{Good, rest_at, WritesRest};
 use table::FORK;
 use table_cells::cell::{Cells, write_cells};
 use table_cells::put::{put, put_entry};
-use table_lines::{Holds, WrittenLine};
+use table_lines::{Holds, Target, WrittenLine};
 use text_place::Place;
 
 // The cells of a child field: a head of its number of arguments and its routine, then the arguments' names.
@@ -22,45 +22,24 @@ fn write_call(s: &[u8], t: &mut [u32], place: Place, a: usize) -> Cells
     cells
 }
 
-pub fn write_fork(
-    s: &[u8],
-    t: &mut [u32],
-    place: Place,
-    stop: u8,
-    e: usize,
-    a: usize,
-) -> WrittenLine
-    requires { Writable s.now place e a (Good (rest_at read_fork s.now place stop)) }
-    ensures { WritesRest read_fork s.now place stop e a t.old t.new result }
+pub fn write_fork(s: &[u8], t: &mut [u32], place: Place, stop: u8, to: Target) -> WrittenLine
+    requires { Writable s.now place to.entry to.cells (Good (rest_at read_fork s.now place stop)) }
+    ensures { WritesRest read_fork s.now place stop to.entry to.cells t.old t.new result }
 {
-    let mut at = place.offset;
-    let mut line = place.line;
-    let mut b = stop;
+    let mut at = place;
+    let mut stop = stop;
     let mut count: usize = 0;
     let mut cells: usize = 0;
-    while b == b'\t' {
-        let call = write_call(
-            s,
-            t,
-            Place {
-                offset: at,
-                line: line,
-            },
-            a + 2 * cells,
-        );
+    while stop == b'\t' {
+        let call = write_call(s, t, at, to.cells + 2 * cells);
         cells += call.count;
         count += 1;
-        b = call.stop;
-        let next = call.next;
-        at = next.offset;
-        line = next.line;
+        stop = call.stop;
+        at = call.next;
     }
-    put_entry(t, e, FORK, 0, a as u32, count as u32, 0);
+    put_entry(t, to.entry, [FORK, 0, to.cells as u32, count as u32, 0]);
     WrittenLine {
         holds: Holds::Instruction(2 * cells),
-        next: Place {
-            offset: at,
-            line: line,
-        },
+        next: at,
     }
 }

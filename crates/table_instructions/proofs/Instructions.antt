@@ -25,7 +25,7 @@ use Rattle.table_cells.specs.Cells.{cells_of, cells_answer, WritesCells}
 use Rattle.table_cells.specs.Words.{word_answer}
 use Rattle.table_lines.specs.Lines.{words_after, Fits, Good, line_of, Writes, rest_at, WritesRest}
 use Rattle.table_lines.specs.Lines as S
-use Rattle.table_cells.specs.declared.word.Word.{Word}
+use Rattle.text_fields.specs.declared.field.Read.{Read}
 use Rattle.table_cells.specs.declared.cell.Cells.{Cells}
 use Rattle.table_lines.specs.declared.line.Holds.TheVariants as HV
 use Rattle.table_lines.specs.declared.line.WrittenLine.{WrittenLine}
@@ -111,7 +111,7 @@ module _ (s t : List ℕ) (c : Place) (a : ℕ) (x : L.Expression) (p : Place) (
     cells_length = omega (arith, cells_count, xs.two)
 
 -- ── assign ───────────────────────────────────────────────────────────────────────
-module _ (s t : List ℕ) (c : Place) (b e a : ℕ) (w : Within s c.offset c.line) (name : Word) (en : name ≡ word_answer s c b)
+module _ (s t : List ℕ) (c : Place) (b e a : ℕ) (w : Within s c.offset c.line) (name : Read ℕ) (en : name ≡ word_answer s c b)
     (cells : Cells) (t₁ : List ℕ) (ec : WritesCells s name.next a 1 t t₁ cells) (after : List ℕ)
     (ee : after ≡ sets t₁ e (1 ∷ (name.value ∷ (a ∷ (cells.count ∷ (0 ∷ [])))))) where
   assign_is : (x : L.Line) → read_assign (fields_left b (drop c.offset s)) ≡ some x → IsWritten x (end_next s c b) e a t after (record { holds = HV.Instruction (2 * cells.count); next = cells.next })
@@ -142,7 +142,7 @@ module _ (s t : List ℕ) (c : Place) (b e a : ℕ) (w : Within s c.offset c.lin
   assign_written g = writes_of_lem (rest_at read_assign s c b) (end_next s c b) e a t after _ g assign_is
 
 -- ── schedule ─────────────────────────────────────────────────────────────────────
-module _ (s t : List ℕ) (c : Place) (b e a : ℕ) (w : Within s c.offset c.line) (name : Word) (en : name ≡ word_answer s c b)
+module _ (s t : List ℕ) (c : Place) (b e a : ℕ) (w : Within s c.offset c.line) (name : Read ℕ) (en : name ≡ word_answer s c b)
     (delay : Cells) (t₁ : List ℕ) (ed : WritesCells s name.next a 1 t t₁ delay) (value : Cells) (t₂ : List ℕ) (ev : WritesCells s delay.next (a + 2 * delay.count) 1 t₁ t₂ value)
     (after : List ℕ) (ee : after ≡ sets t₂ e (2 ∷ (name.value ∷ (a ∷ (delay.count ∷ (value.count ∷ [])))))) where
   abbrev scheduled : WrittenLine
@@ -206,7 +206,7 @@ module _ (s t : List ℕ) (c : Place) (b e a : ℕ) (w : Within s c.offset c.lin
 
 -- ── branch ───────────────────────────────────────────────────────────────────────
 module _ (s t : List ℕ) (c : Place) (b e a : ℕ) (w : Within s c.offset c.line) (cells : Cells) (t₁ : List ℕ) (ec : WritesCells s c a 1 t t₁ cells)
-    (target : Word) (et : target ≡ word_answer s cells.next cells.stop) (after : List ℕ)
+    (target : Read ℕ) (et : target ≡ word_answer s cells.next cells.stop) (after : List ℕ)
     (ee : after ≡ sets t₁ e (3 ∷ (target.value ∷ (a ∷ (cells.count ∷ (0 ∷ [])))))) where
   abbrev branched : WrittenLine
   branched = record { holds = HV.Instruction (2 * cells.count); next = target.next }
@@ -240,7 +240,7 @@ module _ (s t : List ℕ) (c : Place) (b e a : ℕ) (w : Within s c.offset c.lin
   branch_written g = writes_of_lem (rest_at read_branch s c b) (end_next s c b) e a t after branched g branch_is
 
 -- ── jump ─────────────────────────────────────────────────────────────────────────
-module _ (s t : List ℕ) (c : Place) (b e a : ℕ) (w : Within s c.offset c.line) (target : Word) (et : target ≡ word_answer s c b) (after : List ℕ)
+module _ (s t : List ℕ) (c : Place) (b e a : ℕ) (w : Within s c.offset c.line) (target : Read ℕ) (et : target ≡ word_answer s c b) (after : List ℕ)
     (ee : after ≡ sets t e (4 ∷ (target.value ∷ (a ∷ (0 ∷ (0 ∷ [])))))) where
   abbrev jumped : WrittenLine
   jumped = record { holds = HV.Instruction 0; next = target.next }

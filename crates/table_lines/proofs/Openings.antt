@@ -26,7 +26,7 @@ use Rattle.table_lines.specs.Lines.{holds_of, words_after, Fits, Good, line_of, 
 use Rattle.table_lines.specs.Lines as S
 use Rattle.table_cells.specs.Words.{word_answer}
 use Rattle.table_lines.specs.declared.opens.Kinds.{Kinds}
-use Rattle.table_cells.specs.declared.word.Word.{Word}
+use Rattle.text_fields.specs.declared.field.Read.{Read}
 use Rattle.table_lines.specs.declared.line.Holds.{Holds}
 use Rattle.table_lines.specs.declared.line.Holds.TheVariants as HV
 use Rattle.table_cells.proofs.Fields.{stop_of, next_of, field_was, shut_was, last_was, word_read_is, word_known, each_more, each_none, each_length}
@@ -248,14 +248,14 @@ module _ (s : List ℕ) (c : Place) (b : ℕ) (w : Within s c.offset c.line) whe
   pub ports_keep : Good (read_ports fields) → (e a : ℕ) (t : List ℕ) → t ≡ words_after (line_of (read_ports fields)) e a t
   ports_keep g e a t = ap (λ (o : Option L.Line). words_after (line_of o) e a t) (sym (ports_were g).reads)
 
-  pub ports_held : Good (read_ports fields) → (inputs : Word) → inputs ≡ word_answer s c b → (outputs : Word) → outputs ≡ word_answer s inputs.next inputs.stop
+  pub ports_held : Good (read_ports fields) → (inputs : Read ℕ) → inputs ≡ word_answer s c b → (outputs : Read ℕ) → outputs ≡ word_answer s inputs.next inputs.stop
       → record { holds = HV.Ports inputs.value outputs.value; next = outputs.next } ≡ held_for (read_ports fields) (end_next s c b)
   ports_held g inputs ei outputs eo = go (ports_were g)
     where
       go : PortsWere → record { holds = HV.Ports inputs.value outputs.value; next = outputs.next } ≡ held_for (read_ports fields) (end_next s c b)
       go p =
           let is = word_known s c b p.i inputs p.first_is_lem ei in
-          let stop : inputs.stop ≡ stop_of s c = ap (λ (v : Word). v.stop) (ei ∙ word_read_is s c b p.i p.first_is_lem) in
+          let stop : inputs.stop ≡ stop_of s c = ap (λ (v : Read ℕ). v.stop) (ei ∙ word_read_is s c b p.i p.first_is_lem) in
           let os = word_known s (next_of s c) (stop_of s c) p.o outputs p.second_is (eo ∙ rw (is.next, stop)) in
           let l = ports_fit p.fits in
           held_is (read_ports fields) (L.Line.ports p.i p.o) (HV.Ports inputs.value outputs.value) outputs.next (end_next s c b) p.reads
@@ -300,7 +300,7 @@ module _ (s : List ℕ) (c : Place) (b : ℕ) (w : Within s c.offset c.line) whe
         let v = opens_were g in
         record { kinds = v.kinds; reads = one_text read_kinds s c v.kinds v.one p ep w.inside; few = (opens_fit v.fits).0 }
 
-    pub opens_held : (kinds : Kinds) → kinds ≡ kinds_answer (slice p.from p.to s) → (locals : Word) → locals ≡ word_answer s p.next p.stop
+    pub opens_held : (kinds : Kinds) → kinds ≡ kinds_answer (slice p.from p.to s) → (locals : Read ℕ) → locals ≡ word_answer s p.next p.stop
         → record { holds = HV.Opens kinds.count kinds.bits locals.value; next = locals.next } ≡ held_for (read_opens fields) (end_next s c b)
     opens_held kinds ek locals el = go (opens_were g)
       where

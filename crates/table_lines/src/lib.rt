@@ -4,4 +4,4 @@
 pub mod line;
 pub mod opens;
 
-pub use line::{Holds, WrittenLine};
+pub use line::{Holds, Target, WrittenLine};

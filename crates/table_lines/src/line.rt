@@ -18,3 +18,10 @@ pub struct WrittenLine {
     pub holds: Holds,
     pub next: Place,
 }
+
+// Where an instruction is written: its entry, and its cells from an address on.
+#[derive(Clone, Copy)]
+pub struct Target {
+    pub entry: usize,
+    pub cells: usize,
+}

@@ -21,10 +21,7 @@ pub struct Kinds {
 fn kind_bit(b: u8) -> u32
     ensures { (result ≡ kind_bit b) × (result ≤ 1) }
 {
-    if b == b'r' {
-        return 1;
-    }
-    0
+    u32::from(b == b'r')
 }
 
 // The bits of at most 16 letters, the last letter first.
@@ -32,10 +29,8 @@ fn kind_bits(s: &[u8], from: usize, to: usize) -> u32
     requires { (from ≤ to) × (to ≤ length s.now) × (to ≤ from + 16) }
     ensures { result ≡ bits_of (slice from to s.now) }
 {
-    let mut i = to;
     let mut bits: u32 = 0;
-    while from < i {
-        i -= 1;
+    for i in (from..to).rev() {
         bits = 2 * bits + kind_bit(s[i]);
     }
     bits

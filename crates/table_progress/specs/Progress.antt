@@ -16,11 +16,11 @@ entered p (HV.Instruction words) t = set t (7 + 5 * p.routines) (p.code + 1)
 -- the counts
 abbrev pub advanced : Progress → Holds → Place → Progress
 advanced p (HV.Ports i o) next =
-    record { at = next.offset; line = next.line; routines = p.routines; instructions = p.instructions; cells = p.cells; code = p.code }
+    record { place = next; routines = p.routines; instructions = p.instructions; cells = p.cells; code = p.code }
 advanced p (HV.Opens arguments bits locals) next =
-    record { at = next.offset; line = next.line; routines = p.routines + 1; instructions = p.instructions; cells = p.cells; code = 0 }
+    record { place = next; routines = p.routines + 1; instructions = p.instructions; cells = p.cells; code = 0 }
 advanced p (HV.Instruction words) next =
-    record { at = next.offset; line = next.line; routines = p.routines; instructions = p.instructions + 1; cells = p.cells + words; code = p.code + 1 }
+    record { place = next; routines = p.routines; instructions = p.instructions + 1; cells = p.cells + words; code = p.code + 1 }
 
 abbrev pub words_in : Holds → ℕ
 words_in (HV.Ports i o) = 0

@@ -6,11 +6,10 @@ use table_cells::put::{put, put_entry};
 use table_lines::Holds;
 use text_place::Place;
 
-// The reading place (offset, line); the routines, instructions and words of cells so far; the instructions of the last routine.
+// The reading place; the routines, instructions and words of cells so far; the instructions of the last routine.
 #[derive(Clone, Copy)]
 pub struct Progress {
-    pub at: usize,
-    pub line: usize,
+    pub place: Place,
     pub routines: usize,
     pub instructions: usize,
     pub cells: usize,
@@ -34,11 +33,7 @@ pub fn enter(t: &mut [u32], p: Progress, holds: Holds)
             put_entry(
                 t,
                 8 + 5 * routines,
-                arguments,
-                bits,
-                locals,
-                first as u32,
-                0,
+                [arguments, bits, locals, first as u32, 0],
             );
             put(t, 2, (routines + 1) as u32);
         }
@@ -54,29 +49,19 @@ pub fn advance(p: Progress, holds: Holds, next: Place) -> Progress
     ensures { result ≡ advanced p holds next }
 {
     match holds {
-        Holds::Ports(_, _) => Progress {
-            at: next.offset,
-            line: next.line,
-            routines: p.routines,
-            instructions: p.instructions,
-            cells: p.cells,
-            code: p.code,
-        },
+        Holds::Ports(_, _) => Progress { place: next, ..p },
         Holds::Opens(_, _, _) => Progress {
-            at: next.offset,
-            line: next.line,
+            place: next,
             routines: p.routines + 1,
-            instructions: p.instructions,
-            cells: p.cells,
             code: 0,
+            ..p
         },
         Holds::Instruction(words) => Progress {
-            at: next.offset,
-            line: next.line,
-            routines: p.routines,
+            place: next,
             instructions: p.instructions + 1,
             cells: p.cells + words,
             code: p.code + 1,
+            ..p
         },
     }
 }

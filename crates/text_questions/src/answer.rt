@@ -16,6 +16,7 @@ pub enum Loaded {
 }
 
 // The first question that refuses the listing; `long_enough` answers question 1.
+#[tactic(auto, using(crate::proofs::Asking::not_placed, crate::proofs::Asking::refused_1, crate::proofs::Asking::refused_2, crate::proofs::Asking::refused_3, crate::proofs::Asking::refused_4, crate::proofs::Asking::refused_5, crate::proofs::Asking::all_passed))]
 pub fn put_questions(long_enough: bool, s: &[u8]) -> Loaded
     ensures { outcome_of s.now result ≡ loading long_enough s.now }
 {

@@ -4,14 +4,14 @@ use Rattle.call_load.proofs.Beginning as beginning
 use Rattle.call_load.proofs.Turn as turn
 use Rattle.call_load.proofs.writing.write_next.Goals as goal
 
-pub overflow_mul-instructions : goal.overflow_mul-instructions
-overflow_mul-instructions c = omega (arith, (turn.bounded _ c.requires.0 _ _ c.requires.1).1)
+pub overflow_mul-to : goal.overflow_mul-to
+overflow_mul-to c = omega (arith, (turn.bounded _ c.requires.0 _ _ c.requires.1).1)
 
-pub overflow_add-instructions : goal.overflow_add-instructions
-overflow_add-instructions c = omega (arith, (turn.bounded _ c.requires.0 _ _ c.requires.1).1)
+pub overflow_add-to : goal.overflow_add-to
+overflow_add-to c = omega (arith, (turn.bounded _ c.requires.0 _ _ c.requires.1).1)
 
-pub overflow_add-cells : goal.overflow_add-cells
-overflow_add-cells c = omega (arith, (turn.bounded _ c.requires.0 _ _ c.requires.1).2)
+pub overflow_add-to-2 : goal.overflow_add-to-2
+overflow_add-to-2 c = omega (arith, (turn.bounded _ c.requires.0 _ _ c.requires.1).2)
 
 pub write_line-written-requires : goal.write_line-written-requires
 write_line-written-requires c =

@@ -8,4 +8,4 @@ abbrev pub invariant-loop-p : goal.invariant-loop-p
 invariant-loop-p l = Writing l.s l.t l.p × (length l.t ≡ length l.initial.t)
 
 abbrev pub decreases-loop-p : goal.decreases-loop-p
-decreases-loop-p l = length l.s - l.p.at
+decreases-loop-p l = length l.s - l.p.place.offset

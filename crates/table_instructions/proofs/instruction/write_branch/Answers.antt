@@ -9,4 +9,4 @@ returns c =
     let word = c.word_field-jump.ensures in
     let cells = c.write_cells-cells.ensures in
     let entry = c.put_entry.ensures in
-    written.branch_written a.s.now a.t.now a.place a.stop a.e a.a p.0 _ _ cells _ word.0 _ entry p.4
+    written.branch_written a.s.now a.t.now a.place a.stop a.to.entry a.to.cells p.0 _ _ cells _ word.0 _ entry p.4

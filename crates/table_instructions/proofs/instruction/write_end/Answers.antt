@@ -7,4 +7,4 @@ returns c =
     let a = c.args in
     let p = c.requires in
     let entry = c.put_entry.ensures in
-    written.end_written a.s.now a.t.now a.place a.stop a.e a.a _ entry p.4
+    written.end_written a.s.now a.t.now a.place a.stop a.to.entry a.to.cells _ entry p.4

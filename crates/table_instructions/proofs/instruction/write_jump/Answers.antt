@@ -8,4 +8,4 @@ returns c =
     let p = c.requires in
     let word = c.word_field-jump.ensures in
     let entry = c.put_entry.ensures in
-    written.jump_written a.s.now a.t.now a.place a.stop a.e a.a p.0 _ word.0 _ entry p.4
+    written.jump_written a.s.now a.t.now a.place a.stop a.to.entry a.to.cells p.0 _ word.0 _ entry p.4

@@ -31,4 +31,4 @@ returns c =
     let cells = c.write_cells-delay_cells.ensures in
     let others = c.write_cells-value_cells.ensures in
     let entry = c.put_entry.ensures in
-    written.schedule_written a.s.now a.t.now a.place a.stop a.e a.a p.0 _ word.0 _ _ cells _ _ others _ entry p.4
+    written.schedule_written a.s.now a.t.now a.place a.stop a.to.entry a.to.cells p.0 _ word.0 _ _ cells _ _ others _ entry p.4

@@ -8,4 +8,4 @@ returns c =
     let p = c.requires in
     let cells = c.write_cells-cells.ensures in
     let entry = c.put_entry.ensures in
-    written.wait_written a.s.now a.t.now a.place a.stop a.e a.a p.0 _ _ cells _ entry p.4
+    written.wait_written a.s.now a.t.now a.place a.stop a.to.entry a.to.cells p.0 _ _ cells _ entry p.4

@@ -20,4 +20,4 @@ pub returns : goal.returns
 returns c =
     let a = c.args in
     let p = c.requires in
-    lines.line_written a.s.now a.place p.0 _ c.take_piece-piece.ensures p.4 a.e a.a a.t.now _ _ c.write_rest.ensures
+    lines.line_written a.s.now a.place p.0 _ c.take_piece-piece.ensures p.4 a.to.entry a.to.cells a.t.now _ _ c.write_rest.ensures

@@ -16,7 +16,7 @@ returns-in-80 c =
     let a = c.args in
     let p = c.requires in
     let g = rw c.in-80.is at p.4 in
-    rw c.in-80.is (lines.writes_nothing _ _ a.e a.a a.t.now _ (openings.ports_keep a.s.now a.place a.stop p.0 g a.e a.a a.t.now) c.hold_ports.ensures)
+    rw c.in-80.is (lines.writes_nothing _ _ a.to.entry a.to.cells a.t.now _ (openings.ports_keep a.s.now a.place a.stop p.0 g a.to.entry a.to.cells a.t.now) c.hold_ports.ensures)
 
 pub hold_opens-requires : goal.hold_opens-requires
 unfolding read_by_letter
@@ -30,7 +30,7 @@ returns-in-82 c =
     let a = c.args in
     let p = c.requires in
     let g = rw c.in-82.is at p.4 in
-    rw c.in-82.is (lines.writes_nothing _ _ a.e a.a a.t.now _ (openings.opens_keep a.s.now a.place a.stop p.0 g a.e a.a a.t.now) c.hold_opens.ensures)
+    rw c.in-82.is (lines.writes_nothing _ _ a.to.entry a.to.cells a.t.now _ (openings.opens_keep a.s.now a.place a.stop p.0 g a.to.entry a.to.cells a.t.now) c.hold_opens.ensures)
 
 pub write_assign-requires : goal.write_assign-requires
 unfolding read_by_letter

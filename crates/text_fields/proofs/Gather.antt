@@ -22,7 +22,7 @@ use Rattle.text_place.specs.Places.{passed, taken_at}
 use Rattle.listing_effect.specs.Held.{held_by, held_after, as_effect}
 use Rattle.listing_effect.proofs.Held.{after_effect, nine_stays}
 use Rattle.text_piece.specs.Pieces.{cap, as_piece, piece_answer, effect_in}
-use Rattle.text_fields.specs.Gather.{is_there_by, is_value, value_in, nothing, gather_one, gather_all, pieces_answer, as_expression, expression_answer}
+use Rattle.text_fields.specs.Gather.{is_there_by, nothing, gather_one, gather_all, pieces_answer, as_expression, expression_answer}
 use Rattle.text_place.specs.declared.place.Place.{Place}
 use Rattle.text_piece.specs.declared.piece.Piece.{Piece}
 use Rattle.text_fields.specs.declared.gathering.Gathering.{Gathering}

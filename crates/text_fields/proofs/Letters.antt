@@ -6,12 +6,10 @@ use mathlib.Core.Path.{◌≡◌, refl, sym, ap, ◌∙◌}
 use mathlib.Core.Bool.{Bool, true, false, cond, ◌&&◌}
 use mathlib.Core.List.{List, [], ◌∷◌}
 use mathlib.Core.Option.{Option, none, some}
-use Prim.Native.Nat.{ℕ, suc, ◌+◌, ◌-◌, ◌≤◌, ◌<◌}
+use Prim.Native.Nat.{ℕ, suc, ◌+◌}
 use native.Mathlib.Omega.{arith}
-use native.Mathlib.Numerals.{add-one}
 use lib.Dec.{eqb}
 use lib.ListN.{length, get_or, drop}
-use lib.Seq.{length-slice, slice, slice-cons, slice_empty}
 use borrow.Author.Tests.{ne_eqb, eqb-true}
 use Rattle.listing.specs.Lists.{all}
 use Rattle.listing.specs.Expressions.{bind, each, alone}
@@ -24,7 +22,6 @@ use Rattle.text_place.specs.Places.{passed}
 use Rattle.text_fields.specs.Fields.{is_kind, is_reference, as_kinds, kinds_answer, as_kinds_field, kinds_field_answer, kinding}
 use Rattle.text_place.specs.declared.place.Place.{Place}
 use Rattle.text_fields.specs.declared.kinds.Kinds.{Kinds}
-use Rattle.text_fields.specs.declared.field.Read.{Read}
 use Rattle.text_place.proofs.Places.{left_open, pieces_turn, pieces_last, field_last}
 
 -- ── letters and kinds ────────────────────────────────────────────────────────────

@@ -1,5 +1,4 @@
 -- What reading the next line of a text in form gives.
-use Rattle.std.specs.Prelude as P
 use Rattle.std.specs.Prelude.{Some, None}
 use mathlib.Core.Path.{◌≡◌, ap, ◌∙◌}
 use mathlib.Core.List.{List}

@@ -29,8 +29,7 @@ fn count_opens(held: Counts, arguments: u64, locals: u64) -> Option<Counts>
     }
     Some(Counts {
         routines: held.routines + 1,
-        instructions: held.instructions,
-        pieces: held.pieces,
+        ..held
     })
 }
 
@@ -46,9 +45,9 @@ fn count_instruction(held: Counts, pieces: u64) -> Option<Counts>
         return None;
     }
     Some(Counts {
-        routines: held.routines,
         instructions: held.instructions + 1,
         pieces: held.pieces + pieces,
+        ..held
     })
 }
 

@@ -2,7 +2,7 @@
 use Rattle.std.specs.Prelude.{None}
 use mathlib.Core.Path.{◌≡◌, refl, sym, ap, ◌∙◌}
 use mathlib.Core.List.{List, [], ◌∷◌}
-use mathlib.Core.Option.{Option, none, some}
+use mathlib.Core.Option.{none}
 use Prim.Native.Nat.{ℕ, suc, ◌+◌, ◌≤◌, ◌<◌}
 use native.Mathlib.Omega.{arith}
 use lib.ListN.{length, get_or, drop}
@@ -19,7 +19,6 @@ use Rattle.text_place.proofs.Places.{left_open, pieces_turn, pieces_last, field_
 use Rattle.text_jumps.specs.Records.{end_stop, end_next, as_rest, rest_answer}
 use Rattle.text_records.specs.Lines.{line_answer}
 use Rattle.text_jumps.specs.declared.scope.Scope.{Scope}
-use Rattle.text_jumps.specs.declared.record.Record.{Record}
 use Rattle.text_jumps.proofs.Chain.{Got, got_of}
 
 letter_none : (w : Bytes) → (length w ≡ 1 → ⊥) → read_letter w ≡ none

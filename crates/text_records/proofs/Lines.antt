@@ -1,5 +1,4 @@
 -- Lines, one after another: question 2, and what a text that it lets through gives to a pass over its lines.
-use Rattle.std.specs.Prelude as P
 use Rattle.std.specs.Prelude.{Some, None}
 use mathlib.Core.Path.{◌≡◌, refl, sym, ap, ◌∙◌}
 use mathlib.Core.Bool.{Bool, true, false, cond, ◌&&◌, ◌||◌}

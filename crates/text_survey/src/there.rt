@@ -38,18 +38,15 @@ fn moved(s: &[u8], here: Here, r: Record, next: Place) -> Here
         Record::Ports(i, o) => Here {
             inputs: i,
             outputs: o,
-            unopened: here.unopened,
-            names: here.names,
-            size: here.size,
+            ..here
         },
         Record::Opens(arguments, locals, _) => {
             let size = small(code_length(s, next));
             Here {
-                inputs: here.inputs,
-                outputs: here.outputs,
                 unopened: false,
                 names: few(arguments) + few(locals),
                 size,
+                ..here
             }
         }
         Record::Instruction(_, _, _) => here,

@@ -1,5 +1,5 @@
 -- `text_fields::kinds_field` meets its contract.
-use Rattle.std.proofs.Common.{◌≡◌, ◌≤◌, sym, ap, ◌∙◌, ◌+◌, ◌-◌, take, drop, get_or, length, arith, ℕ, List}
+use Rattle.std.proofs.Common.{◌≡◌, ◌≤◌, sym, ap, ◌∙◌, ◌+◌, ◌-◌, take, drop, get_or, arith, ℕ, List}
 use Rattle.std.proofs.lemmas.List.{drop-take}
 use Rattle.std.specs.Prelude as P
 use Rattle.std.proofs.Math.Seq.{slice}

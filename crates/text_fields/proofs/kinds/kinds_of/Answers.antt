@@ -1,5 +1,5 @@
 -- `text_fields::kinds_of` meets its contract.
-use Rattle.std.proofs.Common.{rules, ◌≡◌, ◌∙◌, sym, length, true, false, [], ◌∷◌, arith}
+use Rattle.std.proofs.Common.{rules, ◌≡◌, ◌∙◌, sym, length, [], ◌∷◌, arith}
 use Rattle.std.proofs.lemmas.Bool.{eqb-false}
 use Rattle.text_fields.proofs.Letters.{kinds_none, kinds_dash, kinds_other, kinds_some}
 use Rattle.text_fields.proofs.kinds.kinds_of.Goals as goal

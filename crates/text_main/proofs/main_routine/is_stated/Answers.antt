@@ -1,5 +1,4 @@
 -- `text_main::is_stated` meets its contract.
-use Prim.Native.Nat.{◌-◌}
 use borrow.Author.Tests.{not-true, not-false}
 use Rattle.text_main.proofs.StatedLaws as laws
 use Rattle.text_main.proofs.main_routine.is_stated.Goals as goal

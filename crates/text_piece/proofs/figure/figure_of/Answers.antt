@@ -13,7 +13,6 @@ use Rattle.listing.specs.Lists.{all}
 use Rattle.listing.specs.Bytes.{is_digit, read_on}
 use Rattle.listing.proofs.Tests.{and_left, and_right}
 use Rattle.text_piece.proofs.Figures as figures
-use borrow.Author.Rules.{rules}
 use Rattle.text_piece.proofs.figure.figure_of.Goals as goal
 
 pub returns-then-from-to : goal.returns-then-from-to

@@ -1,5 +1,4 @@
 -- `text_piece::if_alone` meets its contract.
-use Prim.Native.Nat.{◌-◌}
 use borrow.Author.Tests.{eq-eqb, ne_eqb}
 use Rattle.text_piece.proofs.piece.if_alone.Goals as goal
 

@@ -2,7 +2,6 @@
 use mathlib.Core.Path.{sym, ap, ◌∙◌}
 use Rattle.text_piece.specs.Pieces.{negative, positive}
 use Rattle.text_piece.proofs.Pieces as pieces
-use borrow.Author.Rules.{rules}
 use Rattle.text_piece.proofs.piece.literal_of.Goals as goal
 
 pub returns-then-from-to : goal.returns-then-from-to

@@ -2,7 +2,6 @@
 use mathlib.Core.Path.{sym, ◌∙◌}
 use native.Mathlib.Omega.{arith}
 use Rattle.text_piece.proofs.Pieces.{negative_in}
-use borrow.Author.Rules.{rules}
 use Rattle.text_piece.proofs.piece.negative_literal.Goals as goal
 
 pub overflow_sub-result : goal.overflow_sub-result

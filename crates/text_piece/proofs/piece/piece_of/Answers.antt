@@ -1,10 +1,6 @@
 -- `text_piece::piece_of` meets its contract.
-use Prim.Native.Nat.{◌≤◌, ◌<◌, ◌-◌}
-use mathlib.Core.Path.{◌≡◌, sym, ◌∙◌}
-use native.Mathlib.Omega.{arith}
-use lib.ListN.{length}
+use mathlib.Core.Path.{sym, ◌∙◌}
 use Rattle.text_piece.proofs.Pieces as pieces
-use borrow.Author.Rules.{rules}
 use Rattle.text_piece.proofs.piece.piece_of.Goals as goal
 
 pub returns-then-from-to : goal.returns-then-from-to

@@ -1,7 +1,6 @@
 -- `text_place::closing_byte` meets its contract.
 use mathlib.Core.Path.{sym, ◌∙◌}
 use borrow.Author.Tests.{lt-ltb, le-ltb}
-use borrow.Author.Rules.{rules}
 use Rattle.text_place.proofs.past.closing_byte.Goals as goal
 
 pub returns-then-ends_piece : goal.returns-then-ends_piece

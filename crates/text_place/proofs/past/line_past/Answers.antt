@@ -2,7 +2,6 @@
 use mathlib.Core.Path.{sym, ◌∙◌}
 use native.Mathlib.Omega.{arith}
 use borrow.Author.Tests.{ne_eqb}
-use borrow.Author.Rules.{rules}
 use Rattle.text_place.proofs.Passing.{closing_passed}
 use Rattle.text_place.proofs.past.line_past.Goals as goal
 

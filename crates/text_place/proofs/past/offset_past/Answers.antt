@@ -1,6 +1,5 @@
 -- `text_place::offset_past` meets its contract.
 use borrow.Author.Tests.{lt-ltb, le-ltb}
-use borrow.Author.Rules.{rules}
 use Rattle.text_place.proofs.past.offset_past.Goals as goal
 
 pub returns-then-end-s : goal.returns-then-end-s

@@ -1,6 +1,6 @@
 -- `text_place::piece_end` meets its contract.
-use Rattle.std.proofs.Common.{◌≡◌, ◌<◌, ◌≤◌, suc, [], ◌∷◌, length, drop, get_or, sym, ap, ◌∙◌, arith, add-one}
-use Rattle.text_place.specs.Texts.{before, first_piece_lem, ends_piece}
+use Rattle.std.proofs.Common.{◌≡◌, suc, [], ◌∷◌, length, drop, get_or, sym, ap, ◌∙◌, arith, add-one}
+use Rattle.text_place.specs.Texts.{before, ends_piece}
 use Rattle.text_place.proofs.Texts as texts
 use Rattle.text_place.proofs.place.piece_end.Goals as goal
 

@@ -1,7 +1,6 @@
 -- `text_place::take_piece` meets its contract.
 use mathlib.Core.Path.{refl}
 use Rattle.text_place.proofs.Passing as passing
-use borrow.Author.Rules.{rules}
 use Rattle.text_place.proofs.place.take_piece.Goals as goal
 
 pub closing_byte-stop-requires : goal.closing_byte-stop-requires

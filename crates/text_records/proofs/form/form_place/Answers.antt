@@ -1,5 +1,5 @@
 -- `text_records::form_place` meets its contract.
-use Rattle.std.proofs.Common.{◌≡◌, sym, ap, ◌∙◌, arith, lt-ltb}
+use Rattle.std.proofs.Common.{◌≡◌, sym, ◌∙◌, arith, lt-ltb}
 use Rattle.text_jumps.specs.declared.scope.Scope.{Scope}
 use Rattle.text_records.proofs.Lines as lines
 use Rattle.text_records.proofs.form.form_place.Goals as goal

@@ -1,5 +1,5 @@
 -- `text_records::read_line` meets its contract.
-use Rattle.std.proofs.Common.{◌≡◌, ◌≤◌, ◌+◌, sym, ap, ◌∙◌, arith, get_or, ℕ, List, length}
+use Rattle.std.proofs.Common.{◌≡◌, ◌≤◌, sym, ap, ◌∙◌, arith, get_or, ℕ, List, length}
 use Rattle.listing.specs.Form.{read_by_letter}
 use Rattle.text_place.specs.Texts.{ends_piece, piece_end, Within}
 use Rattle.text_place.specs.Places.{passed, taken_at}

@@ -10,6 +10,7 @@ use text_place::Place;
 use text_records::read_line;
 
 // How many arguments each routine takes, 0 behind the last, and the number of routines.
+// An array with its count: there is no heap, and the memory is fixed. Those who ask are lent the part in use.
 #[derive(Clone, Copy)]
 pub struct Survey {
     pub counts: [u8; 64],

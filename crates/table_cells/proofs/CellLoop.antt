@@ -58,7 +58,7 @@ module _ (s t₀ : List ℕ) (a plain at₀ line at count : ℕ) (t : List ℕ) 
     unfolding cells_of
     writing_done = sym (sym v.same ∙ ap (λ (ps : List (List ℕ)). sets t (a + 2 * count) (cells_of plain ps)) (last_piece s at₀ line at v.place r ens n) ∙ sym stored)
 
-    pub cells_are : (place : Place) → place.offset ≡ at₀ → place.line ≡ line → record { count = count + 1; stop = r.stop; next = r.next } ≡ cells_answer s place
+    pub cells_are : (place : Place) → place.offset ≡ at₀ → place.line ≡ line → record { value = count + 1; stop = r.stop; next = r.next } ≡ cells_answer s place
     cells_are place i j =
         let l : count + 1 ≡ length (field_pieces s at₀) = omega (arith, v.counted, ap length (last_piece s at₀ line at v.place r ens n)) in
         let b = stop_at_end s at₀ line at v.place r ens n in
@@ -72,7 +72,7 @@ module _ (s t₀ : List ℕ) (a plain at₀ line at count : ℕ) (t : List ℕ) 
         (passed_in s place.offset place.line (field_end s place.offset) w (omega arith) (end_in ends_field s place.offset w.inside))
 
     pub writes_cells : (place : Place) → place.offset ≡ at₀ → place.line ≡ line → Within s place.offset place.line
-        → WritesCells s place a plain t₀ t' (record { count = count + 1; stop = r.stop; next = r.next })
+        → WritesCells s place a plain t₀ t' (record { value = count + 1; stop = r.stop; next = r.next })
     writes_cells place i j w =
         record {
           answer = cells_are place i j;

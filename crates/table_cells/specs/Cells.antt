@@ -9,7 +9,7 @@ use Rattle.text_piece.specs.Pieces.{piece_answer}
 use Rattle.text_place.specs.declared.place.Place.{Place}
 use Rattle.text_piece.specs.declared.piece.Piece.{Piece}
 use Rattle.text_piece.specs.declared.piece.Piece.TheVariants as PV
-use Rattle.table_cells.specs.declared.cell.Cells.{Cells}
+use Rattle.text_fields.specs.declared.field.Read.{Read}
 
 abbrev pub low_word : ℕ → ℕ
 low_word n = cond (ltb n word_range) n 0
@@ -43,15 +43,15 @@ unfoldable pub cells_of : ℕ → List Bytes → List ℕ
 cells_of plain [] = []
 cells_of plain (piece ∷ pieces) = cell_kind (piece_answer piece) plain ∷ (cell_value (piece_answer piece) ∷ cells_of plain pieces)
 
-abbrev pub cells_answer : Bytes → Place → Cells
+abbrev pub cells_answer : Bytes → Place → Read ℕ
 cells_answer s p =
     let end = field_end s p.offset in
-    record { count = length (field_pieces s p.offset); stop = get_or s end 0; next = passed s p.line end }
+    record { value = length (field_pieces s p.offset); stop = get_or s end 0; next = passed s p.line end }
 
 -- the cells of the field at a place, written from address a on
-pub record WritesCells (s : Bytes) (p : Place) (a plain : ℕ) (before after : List ℕ) (r : Cells) : Type 0 where
+pub record WritesCells (s : Bytes) (p : Place) (a plain : ℕ) (before after : List ℕ) (r : Read ℕ) : Type 0 where
   pub answer : r ≡ cells_answer s p
   pub written : after ≡ sets before a (cells_of plain (field_pieces s p.offset))
-  pub some_cell : 1 ≤ r.count
-  pub few : r.count ≤ length s + 1
+  pub some_cell : 1 ≤ r.value
+  pub few : r.value ≤ length s + 1
   pub within : Within s r.next.offset r.next.line

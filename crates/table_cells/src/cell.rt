@@ -5,16 +5,9 @@ ghost use Rattle.table_cells.specs.Cells.{low_word, cell_kind, cell_value, Write
 
 use crate::put::put;
 use table::{CELL_WORDS, DIVIDE, LESS, LITERAL, MINUS, PLUS, REMAINDER, TIMES, WRITTEN_MARK};
+use text_fields::Read;
 use text_piece::{Piece, piece_of};
 use text_place::{Place, take_piece};
-
-// How many cells were written, the byte that closes the field, and the place past it.
-#[derive(Clone, Copy)]
-pub struct Cells {
-    pub count: usize,
-    pub stop: u8,
-    pub next: Place,
-}
 
 pub fn low_word(n: u64) -> u32
     ensures { result ≡ low_word n }
@@ -58,8 +51,8 @@ fn write_cell(t: &mut [u32], a: usize, p: Piece, plain: u32)
     put(t, a + 1, cell_value(p));
 }
 
-// The cells of the field at a place, from an address on.
-pub fn write_cells(s: &[u8], t: &mut [u32], place: Place, a: usize, plain: u32) -> Cells
+// The cells of the field at a place, from an address on: how many.
+pub fn write_cells(s: &[u8], t: &mut [u32], place: Place, a: usize, plain: u32) -> Read<usize>
     requires { Within s.now place.offset place.line × (length s.now ≤ 49152) × (a ≤ 800000) }
     ensures { WritesCells s.now place a plain t.old t.new result }
 {
@@ -76,8 +69,8 @@ pub fn write_cells(s: &[u8], t: &mut [u32], place: Place, a: usize, plain: u32) 
         let b = piece.stop;
         let next = piece.next;
         if b != b' ' {
-            return Cells {
-                count,
+            return Read {
+                value: count,
                 stop: b,
                 next,
             };

@@ -24,7 +24,7 @@ use Rattle.text_jumps.proofs.Chain.{Got, got_of, next_shut, left_none}
 use Rattle.table_forks.specs.Calls.{WritesCall}
 use Rattle.table_cells.specs.Cells.{cells_of}
 use Rattle.table_lines.specs.Lines.{Good, rest_at, WritesRest}
-use Rattle.table_cells.specs.declared.cell.Cells.{Cells}
+use Rattle.text_fields.specs.declared.field.Read.{Read}
 use Rattle.table_lines.specs.declared.line.Holds.TheVariants as HV
 use Rattle.table_lines.specs.declared.line.WrittenLine.{WrittenLine}
 use Rattle.table_cells.proofs.Fields.{both_true, stop_of, next_of, each_more, each_none, each_length, name_cell, names_cells}
@@ -127,22 +127,22 @@ module _ (s t₀ : List ℕ) (a at₀ line₀ b₀ : ℕ) where
       }
 
   module _ (t : List ℕ) (at line b count cells : ℕ) (v : Forking t at line b count cells) (e : b ≡ 9) (h : count < 8) (small : length s ≤ 49152)
-      (t' : List ℕ) (r : Cells) (ens : WritesCall s (record { offset = at; line = line }) (a + 2 * cells) t t' r) where
+      (t' : List ℕ) (r : Read ℕ) (ens : WritesCall s (record { offset = at; line = line }) (a + 2 * cells) t t' r) where
     abbrev here : Place
     here = record { offset = at; line = line }
 
-    count_is : r.count ≡ length (field_pieces s at)
-    count_is = ap (λ (d : Cells). d.count) ens.answer
+    count_is : r.value ≡ length (field_pieces s at)
+    count_is = ap (λ (d : Read ℕ). d.value) ens.answer
 
     stop_is : stop_of s here ≡ r.stop
-    stop_is = sym (ap (λ (d : Cells). d.stop) ens.answer)
+    stop_is = sym (ap (λ (d : Read ℕ). d.stop) ens.answer)
 
     next_is_lem : next_of s here ≡ r.next
-    next_is_lem = sym (ap (λ (d : Cells). d.next) ens.answer)
+    next_is_lem = sym (ap (λ (d : Read ℕ). d.next) ens.answer)
 
     pub still_long : length t' ≡ length t₀
     still_long =
-        ap length ens.written ∙ length-set (sets t (a + 2 * cells) (cells_of 0 (field_pieces s at))) (a + 2 * cells) (r.count - 1)
+        ap length ens.written ∙ length-set (sets t (a + 2 * cells) (cells_of 0 (field_pieces s at))) (a + 2 * cells) (r.value - 1)
         ∙ length-sets t (a + 2 * cells) (cells_of 0 (field_pieces s at)) ∙ v.long
 
     -- the field is one that is read
@@ -153,8 +153,8 @@ module _ (s t₀ : List ℕ) (a at₀ line₀ b₀ : ℕ) where
     -- with the call that the field is, and those after it
     module _ (calls : List L.Call) (u : Left calls t at line b count cells) (call : L.Call) (more : List L.Call) (split : u.left ≡ call ∷ more) (read : read_call (field_pieces s at) ≡ some call)
         (others : each read_call (fields_left r.stop (drop r.next.offset s)) ≡ some more) where
-      length_call : length (call_words call) ≡ 2 * r.count
-      length_call = call_length (field_pieces s at) call read ∙ (let z : 2 * length (field_pieces s at) ≡ 2 * r.count = omega (arith, count_is) in z)
+      length_call : length (call_words call) ≡ 2 * r.value
+      length_call = call_length (field_pieces s at) call read ∙ (let z : 2 * length (field_pieces s at) ≡ 2 * r.value = omega (arith, count_is) in z)
 
       length_left : length (words_of_each call_words u.left) ≡ length (call_words call) + length (words_of_each call_words more)
       unfolding words_of_each
@@ -165,14 +165,14 @@ module _ (s t₀ : List ℕ) (a at₀ line₀ b₀ : ℕ) where
           ens.written ∙ ap (λ (j : ℕ). set (sets t (a + 2 * cells) (cells_of 0 (field_pieces s at))) (a + 2 * cells) (j - 1)) count_is
           ∙ call_cells (field_pieces s at) call read routines names there l k t (a + 2 * cells)
 
-      rest_written : t' ≡ sets t (a + 2 * cells) (call_words call) → sets t' (a + 2 * (cells + r.count)) (words_of_each call_words more) ≡ sets t (a + 2 * cells) (words_of_each call_words u.left)
+      rest_written : t' ≡ sets t (a + 2 * cells) (call_words call) → sets t' (a + 2 * (cells + r.value)) (words_of_each call_words more) ≡ sets t (a + 2 * cells) (words_of_each call_words u.left)
       unfolding words_of_each
       rest_written one =
-          let i : a + 2 * (cells + r.count) ≡ a + 2 * cells + length (call_words call) = omega (arith, length_call) in
+          let i : a + 2 * (cells + r.value) ≡ a + 2 * cells + length (call_words call) = omega (arith, length_call) in
           ap (λ (j : ℕ). sets t' j (words_of_each call_words more)) i ∙ ap (λ (z : List ℕ). sets z (a + 2 * cells + length (call_words call)) (words_of_each call_words more)) one
           ∙ sets_behind t (a + 2 * cells) (call_words call) (words_of_each call_words more) ∙ ap (λ (cs : List L.Call). sets t (a + 2 * cells) (words_of_each call_words cs)) (sym split)
 
-      left_more : Left calls t' r.next.offset r.next.line r.stop (count + 1) (cells + r.count)
+      left_more : Left calls t' r.next.offset r.next.line r.stop (count + 1) (cells + r.value)
       unfolding all
       left_more =
           record {
@@ -187,13 +187,13 @@ module _ (s t₀ : List ℕ) (a at₀ line₀ b₀ : ℕ) where
                 (q.1, rest_written (call_written routines names q.0 l k) ∙ w.1);
           }
 
-    left_on : (calls : List L.Call) → Left calls t at line b count cells → Left calls t' r.next.offset r.next.line r.stop (count + 1) (cells + r.count)
+    left_on : (calls : List L.Call) → Left calls t at line b count cells → Left calls t' r.next.offset r.next.line r.stop (count + 1) (cells + r.value)
     left_on calls u =
         let m = first_call s at b u.left e u.read in
         let n = each_more read_call (field_pieces s at) (fields_left r.stop (drop r.next.offset s)) u.left (ap (each read_call) (sym (got_one m.0 m.3).fields) ∙ u.read) in
         left_more calls u n.0 n.1 n.2 n.3 n.4
 
-    pub forking_on : Forking t' r.next.offset r.next.line r.stop (count + 1) (cells + r.count)
+    pub forking_on : Forking t' r.next.offset r.next.line r.stop (count + 1) (cells + r.value)
     forking_on =
         record {
           within = ens.within;

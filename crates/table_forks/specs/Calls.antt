@@ -5,10 +5,10 @@ use Rattle.listing.specs.Bytes.{Bytes}
 use Rattle.text_place.specs.Texts.{field_pieces, Within}
 use Rattle.text_place.specs.declared.place.Place.{Place}
 use Rattle.table_cells.specs.Cells.{cells_of, cells_answer}
-use Rattle.table_cells.specs.declared.cell.Cells.{Cells}
+use Rattle.text_fields.specs.declared.field.Read.{Read}
 
-pub record WritesCall (s : Bytes) (p : Place) (a : ℕ) (before after : List ℕ) (r : Cells) : Type 0 where
+pub record WritesCall (s : Bytes) (p : Place) (a : ℕ) (before after : List ℕ) (r : Read ℕ) : Type 0 where
   pub answer : r ≡ cells_answer s p
-  pub written : after ≡ set (sets before a (cells_of 0 (field_pieces s p.offset))) a (r.count - 1)
-  pub few : r.count ≤ length s + 1
+  pub written : after ≡ set (sets before a (cells_of 0 (field_pieces s p.offset))) a (r.value - 1)
+  pub few : r.value ≤ length s + 1
   pub within : Within s r.next.offset r.next.line

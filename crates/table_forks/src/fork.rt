@@ -7,18 +7,19 @@ ghost use Rattle.table_instructions.specs.Writable.{Writable};
 ghost use Rattle.table_lines.specs.Lines.{Good, rest_at, WritesRest};
 
 use table::FORK;
-use table_cells::cell::{Cells, write_cells};
+use table_cells::cell::write_cells;
 use table_cells::put::{put, put_entry};
 use table_lines::{Holds, Target, WrittenLine};
+use text_fields::Read;
 use text_place::Place;
 
 // The cells of a child field: a head of its number of arguments and its routine, then the arguments' names.
-fn write_call(s: &[u8], t: &mut [u32], place: Place, a: usize) -> Cells
+fn write_call(s: &[u8], t: &mut [u32], place: Place, a: usize) -> Read<usize>
     requires { Within s.now place.offset place.line × (length s.now ≤ 49152) × (a ≤ 800000) }
     ensures { WritesCall s.now place a t.old t.new result }
 {
     let cells = write_cells(s, t, place, a, 0);
-    put(t, a, (cells.count - 1) as u32);
+    put(t, a, (cells.value - 1) as u32);
     cells
 }
 
@@ -32,7 +33,7 @@ pub fn write_fork(s: &[u8], t: &mut [u32], place: Place, stop: u8, to: Target) -
     let mut cells: usize = 0;
     while stop == b'\t' {
         let call = write_call(s, t, at, to.cells + 2 * cells);
-        cells += call.count;
+        cells += call.value;
         count += 1;
         stop = call.stop;
         at = call.next;

@@ -26,7 +26,6 @@ use Rattle.table_cells.specs.Words.{word_answer}
 use Rattle.table_lines.specs.Lines.{words_after, Fits, Good, line_of, Writes, rest_at, WritesRest}
 use Rattle.table_lines.specs.Lines as S
 use Rattle.text_fields.specs.declared.field.Read.{Read}
-use Rattle.table_cells.specs.declared.cell.Cells.{Cells}
 use Rattle.table_lines.specs.declared.line.Holds.TheVariants as HV
 use Rattle.table_lines.specs.declared.line.WrittenLine.{WrittenLine}
 use Rattle.table_cells.proofs.Fields.{both_true, tested_read, stop_of, next_of, field_was, shut_was, last_was, WordIs, word_known, each_length, pieces_cells, names_cells}
@@ -90,31 +89,31 @@ pub entry_is : (t t₁ after ws : List ℕ) (e a kind v v' m m' n n' : ℕ) → 
 entry_is t t₁ after ws e a kind v v' m m' n n' h i j k l = h ∙ rw (i, j, k, l)
 
 -- what the cells of an expression's field give
-module _ (s t : List ℕ) (c : Place) (a : ℕ) (x : L.Expression) (p : Place) (ep : p ≡ c) (cells : Cells) (t₁ : List ℕ) (ec : WritesCells s p a 1 t t₁ cells) where
+module _ (s t : List ℕ) (c : Place) (a : ℕ) (x : L.Expression) (p : Place) (ep : p ≡ c) (cells : Read ℕ) (t₁ : List ℕ) (ec : WritesCells s p a 1 t t₁ cells) where
   pub cells_known : cells ≡ cells_answer s c
   cells_known = ec.answer ∙ ap (cells_answer s) ep
 
   pub cells_next : cells.next ≡ next_of s c
-  cells_next = ap (λ (r : Cells). r.next) cells_known
+  cells_next = ap (λ (r : Read ℕ). r.next) cells_known
 
   pub cells_stop : cells.stop ≡ stop_of s c
-  cells_stop = ap (λ (r : Cells). r.stop) cells_known
+  cells_stop = ap (λ (r : Read ℕ). r.stop) cells_known
 
   module _ (xs : ExpressionCells s c.offset x) where
-    pub cells_count : cells.count ≡ length x
-    cells_count = ap (λ (r : Cells). r.count) cells_known ∙ xs.number
+    pub cells_count : cells.value ≡ length x
+    cells_count = ap (λ (r : Read ℕ). r.value) cells_known ∙ xs.number
 
     pub cells_written : t₁ ≡ sets t a (words_of_each piece_words x)
     cells_written = ec.written ∙ ap (λ (d : Place). sets t a (cells_of 1 (field_pieces s d.offset))) ep ∙ ap (sets t a) xs.cells
 
-    pub cells_length : 2 * cells.count ≡ length (words_of_each piece_words x)
+    pub cells_length : 2 * cells.value ≡ length (words_of_each piece_words x)
     cells_length = omega (arith, cells_count, xs.two)
 
 -- ── assign ───────────────────────────────────────────────────────────────────────
 module _ (s t : List ℕ) (c : Place) (b e a : ℕ) (w : Within s c.offset c.line) (name : Read ℕ) (en : name ≡ word_answer s c b)
-    (cells : Cells) (t₁ : List ℕ) (ec : WritesCells s name.next a 1 t t₁ cells) (after : List ℕ)
-    (ee : after ≡ sets t₁ e (1 ∷ (name.value ∷ (a ∷ (cells.count ∷ (0 ∷ [])))))) where
-  assign_is : (x : L.Line) → read_assign (fields_left b (drop c.offset s)) ≡ some x → IsWritten x (end_next s c b) e a t after (record { holds = HV.Instruction (2 * cells.count); next = cells.next })
+    (cells : Read ℕ) (t₁ : List ℕ) (ec : WritesCells s name.next a 1 t t₁ cells) (after : List ℕ)
+    (ee : after ≡ sets t₁ e (1 ∷ (name.value ∷ (a ∷ (cells.value ∷ (0 ∷ [])))))) where
+  assign_is : (x : L.Line) → read_assign (fields_left b (drop c.offset s)) ≡ some x → IsWritten x (end_next s c b) e a t after (record { holds = HV.Instruction (2 * cells.value); next = cells.next })
   unfolding is_there cell_words entry_words
   assign_is x h =
       let f = field_was read_number s c b (λ n fields. next_field_lem read_expression fields (λ e fields. none_left_lem fields (L.Line.instruction (L.Instruction.assign n e)))) x w h in
@@ -138,15 +137,15 @@ module _ (s t : List ℕ) (c : Place) (b e a : ℕ) (w : Within s c.offset c.lin
             );
       }
 
-  pub assign_written : Good (rest_at read_assign s c b) → WritesRest read_assign s c b e a t after (record { holds = HV.Instruction (2 * cells.count); next = cells.next })
+  pub assign_written : Good (rest_at read_assign s c b) → WritesRest read_assign s c b e a t after (record { holds = HV.Instruction (2 * cells.value); next = cells.next })
   assign_written g = writes_of_lem (rest_at read_assign s c b) (end_next s c b) e a t after _ g assign_is
 
 -- ── schedule ─────────────────────────────────────────────────────────────────────
 module _ (s t : List ℕ) (c : Place) (b e a : ℕ) (w : Within s c.offset c.line) (name : Read ℕ) (en : name ≡ word_answer s c b)
-    (delay : Cells) (t₁ : List ℕ) (ed : WritesCells s name.next a 1 t t₁ delay) (value : Cells) (t₂ : List ℕ) (ev : WritesCells s delay.next (a + 2 * delay.count) 1 t₁ t₂ value)
-    (after : List ℕ) (ee : after ≡ sets t₂ e (2 ∷ (name.value ∷ (a ∷ (delay.count ∷ (value.count ∷ [])))))) where
+    (delay : Read ℕ) (t₁ : List ℕ) (ed : WritesCells s name.next a 1 t t₁ delay) (value : Read ℕ) (t₂ : List ℕ) (ev : WritesCells s delay.next (a + 2 * delay.value) 1 t₁ t₂ value)
+    (after : List ℕ) (ee : after ≡ sets t₂ e (2 ∷ (name.value ∷ (a ∷ (delay.value ∷ (value.value ∷ [])))))) where
   abbrev scheduled : WrittenLine
-  scheduled = record { holds = HV.Instruction (2 * delay.count + 2 * value.count); next = value.next }
+  scheduled = record { holds = HV.Instruction (2 * delay.value + 2 * value.value); next = value.next }
 
   -- with the name and the expressions that the fields are
   module _ (n : ℕ) (y z : L.Expression) (k : WordIs s c n name) (gy : Got read_expression s (next_of s c) (stop_of s c) y (stop_of s (next_of s c)) (next_of s (next_of s c)))
@@ -164,10 +163,10 @@ module _ (s t : List ℕ) (c : Place) (b e a : ℕ) (w : Within s c.offset c.lin
     value_place = cells_next s t c₁ a y name.next k.next delay t₁ ed
 
     value_next : value.next ≡ next_of s c₂
-    value_next = cells_next s t₁ c₂ (a + 2 * delay.count) z delay.next value_place value t₂ ev
+    value_next = cells_next s t₁ c₂ (a + 2 * delay.value) z delay.next value_place value t₂ ev
 
     schedule_words : (names : ℕ) → (ltb n names && all (piece_is_there names) y && all (piece_is_there names) z) ≡ true → names ≤ 16
-        → (HV.Instruction (2 * delay.count + 2 * value.count) ≡ HV.Instruction (length both_words)) × (after ≡ sets (sets t a both_words) e (2 ∷ (n ∷ (a ∷ (length y ∷ (length z ∷ []))))))
+        → (HV.Instruction (2 * delay.value + 2 * value.value) ≡ HV.Instruction (length both_words)) × (after ≡ sets (sets t a both_words) e (2 ∷ (n ∷ (a ∷ (length y ∷ (length z ∷ []))))))
     schedule_words names there m =
         let q = both_true (ltb n names && all (piece_is_there names) y) (all (piece_is_there names) z) there in
         let r = both_true (ltb n names) (all (piece_is_there names) y) q.0 in
@@ -175,12 +174,12 @@ module _ (s t : List ℕ) (c : Place) (b e a : ℕ) (w : Within s c.offset c.lin
         let zs = expression_cells s c₂ (stop_of s c₁) z (stop_of s c₂) (next_of s c₂) names gz q.1 m in
         let small = ltb-true n names r.0 in
         let ly = cells_length s t c₁ a y name.next k.next delay t₁ ed ys in
-        let lz = cells_length s t₁ c₂ (a + 2 * delay.count) z delay.next value_place value t₂ ev zs in
+        let lz = cells_length s t₁ c₂ (a + 2 * delay.value) z delay.next value_place value t₂ ev zs in
         let written : t₂ ≡ sets t a both_words =
-        cells_written s t₁ c₂ (a + 2 * delay.count) z delay.next value_place value t₂ ev zs ∙ rw (ly, cells_written s t c₁ a y name.next k.next delay t₁ ed ys) (sets_behind t a (words_of_each piece_words y) (words_of_each piece_words z)) in (
-          ap HV.Instruction (let total : 2 * delay.count + 2 * value.count ≡ length both_words = omega (arith, ly, lz, length-append (words_of_each piece_words y) (words_of_each piece_words z)) in total),
+        cells_written s t₁ c₂ (a + 2 * delay.value) z delay.next value_place value t₂ ev zs ∙ rw (ly, cells_written s t c₁ a y name.next k.next delay t₁ ed ys) (sets_behind t a (words_of_each piece_words y) (words_of_each piece_words z)) in (
+          ap HV.Instruction (let total : 2 * delay.value + 2 * value.value ≡ length both_words = omega (arith, ly, lz, length-append (words_of_each piece_words y) (words_of_each piece_words z)) in total),
           entry_is t t₂ after both_words e a 2 _ _ _ _ _ _ ee written (k.value (omega arith)) (cells_count s t c₁ a y name.next k.next delay t₁ ed ys)
-              (cells_count s t₁ c₂ (a + 2 * delay.count) z delay.next value_place value t₂ ev zs),
+              (cells_count s t₁ c₂ (a + 2 * delay.value) z delay.next value_place value t₂ ev zs),
         )
 
   schedule_is : (x : L.Line) → read_schedule (fields_left b (drop c.offset s)) ≡ some x → IsWritten x (end_next s c b) e a t after scheduled
@@ -205,11 +204,11 @@ module _ (s t : List ℕ) (c : Place) (b e a : ℕ) (w : Within s c.offset c.lin
   schedule_written g = writes_of_lem (rest_at read_schedule s c b) (end_next s c b) e a t after scheduled g schedule_is
 
 -- ── branch ───────────────────────────────────────────────────────────────────────
-module _ (s t : List ℕ) (c : Place) (b e a : ℕ) (w : Within s c.offset c.line) (cells : Cells) (t₁ : List ℕ) (ec : WritesCells s c a 1 t t₁ cells)
+module _ (s t : List ℕ) (c : Place) (b e a : ℕ) (w : Within s c.offset c.line) (cells : Read ℕ) (t₁ : List ℕ) (ec : WritesCells s c a 1 t t₁ cells)
     (target : Read ℕ) (et : target ≡ word_answer s cells.next cells.stop) (after : List ℕ)
-    (ee : after ≡ sets t₁ e (3 ∷ (target.value ∷ (a ∷ (cells.count ∷ (0 ∷ [])))))) where
+    (ee : after ≡ sets t₁ e (3 ∷ (target.value ∷ (a ∷ (cells.value ∷ (0 ∷ [])))))) where
   abbrev branched : WrittenLine
-  branched = record { holds = HV.Instruction (2 * cells.count); next = target.next }
+  branched = record { holds = HV.Instruction (2 * cells.value); next = target.next }
 
   branch_is : (x : L.Line) → read_branch (fields_left b (drop c.offset s)) ≡ some x → IsWritten x (end_next s c b) e a t after branched
   unfolding is_there cell_words entry_words
@@ -270,10 +269,10 @@ names_read : (ws : Field) (ns : List ℕ) → read_names ws ≡ some ns → each
 unfolding read_names
 names_read ws ns h = tested_read (one_to most_names_awaited) (each read_figure ws) ns h
 
-module _ (s t : List ℕ) (c : Place) (b e a : ℕ) (w : Within s c.offset c.line) (cells : Cells) (t₁ : List ℕ) (ec : WritesCells s c a 0 t t₁ cells) (after : List ℕ)
-    (ee : after ≡ sets t₁ e (5 ∷ (0 ∷ (a ∷ (cells.count ∷ (0 ∷ [])))))) where
+module _ (s t : List ℕ) (c : Place) (b e a : ℕ) (w : Within s c.offset c.line) (cells : Read ℕ) (t₁ : List ℕ) (ec : WritesCells s c a 0 t t₁ cells) (after : List ℕ)
+    (ee : after ≡ sets t₁ e (5 ∷ (0 ∷ (a ∷ (cells.value ∷ (0 ∷ [])))))) where
   abbrev awaited : WrittenLine
-  awaited = record { holds = HV.Instruction (2 * cells.count); next = cells.next }
+  awaited = record { holds = HV.Instruction (2 * cells.value); next = cells.next }
 
   wait_is : (x : L.Line) → read_wait (fields_left b (drop c.offset s)) ≡ some x → IsWritten x (end_next s c b) e a t after awaited
   unfolding is_there cell_words entry_words
@@ -283,13 +282,13 @@ module _ (s t : List ℕ) (c : Place) (b e a : ℕ) (w : Within s c.offset c.lin
       let c₁ = next_of s c in
       let shut = shut_was s c₁.offset (stop_of s c) _ x g.rest in
       let read = names_read (field_pieces s c.offset) ns g.got.read in
-      let count : cells.count ≡ length ns = ap (λ (r : Cells). r.count) ec.answer ∙ sym (each_length read_figure (field_pieces s c.offset) ns read) in
+      let count : cells.value ≡ length ns = ap (λ (r : Read ℕ). r.value) ec.answer ∙ sym (each_length read_figure (field_pieces s c.offset) ns read) in
       record {
         i = L.Instruction.wait ns;
         is = last_was s c₁.offset (stop_of s c) _ x g.rest;
-        next = ap (λ (r : Cells). r.next) ec.answer ∙ sym (next_shut s c₁ (stop_of s c) shut) ∙ g.got.nexts;
+        next = ap (λ (r : Read ℕ). r.next) ec.answer ∙ sym (next_shut s c₁ (stop_of s c) shut) ∙ g.got.nexts;
         words = λ routines names size there l m o. (
-          ap HV.Instruction (let z : 2 * cells.count ≡ length (words_of_each name_words ns) = omega (arith, count, two_each name_words name_two ns) in z),
+          ap HV.Instruction (let z : 2 * cells.value ≡ length (words_of_each name_words ns) = omega (arith, count, two_each name_words name_two ns) in z),
           entry_is t t₁ after (words_of_each name_words ns) e a 5 _ _ _ _ _ _ ee
               (ec.written ∙ ap (sets t a) (names_cells names (omega arith) (field_pieces s c.offset) ns read there)) refl count refl,
         );

@@ -22,10 +22,10 @@ pub fn write_assign(s: &[u8], t: &mut [u32], place: Place, stop: u8, to: Target)
     put_entry(
         t,
         to.entry,
-        [ASSIGN, name.value, to.cells as u32, cells.count as u32, 0],
+        [ASSIGN, name.value, to.cells as u32, cells.value as u32, 0],
     );
     WrittenLine {
-        holds: Holds::Instruction(2 * cells.count),
+        holds: Holds::Instruction(2 * cells.value),
         next: end,
     }
 }
@@ -39,7 +39,7 @@ pub fn write_schedule(s: &[u8], t: &mut [u32], place: Place, stop: u8, to: Targe
     let delay = name.next;
     let delay_cells = write_cells(s, t, delay, to.cells, 1);
     let value = delay_cells.next;
-    let value_cells = write_cells(s, t, value, to.cells + 2 * delay_cells.count, 1);
+    let value_cells = write_cells(s, t, value, to.cells + 2 * delay_cells.value, 1);
     let end = value_cells.next;
     put_entry(
         t,
@@ -48,12 +48,12 @@ pub fn write_schedule(s: &[u8], t: &mut [u32], place: Place, stop: u8, to: Targe
             SCHEDULE,
             name.value,
             to.cells as u32,
-            delay_cells.count as u32,
-            value_cells.count as u32,
+            delay_cells.value as u32,
+            value_cells.value as u32,
         ],
     );
     WrittenLine {
-        holds: Holds::Instruction(2 * delay_cells.count + 2 * value_cells.count),
+        holds: Holds::Instruction(2 * delay_cells.value + 2 * value_cells.value),
         next: end,
     }
 }
@@ -70,10 +70,10 @@ pub fn write_branch(s: &[u8], t: &mut [u32], place: Place, stop: u8, to: Target)
     put_entry(
         t,
         to.entry,
-        [BRANCH, jump.value, to.cells as u32, cells.count as u32, 0],
+        [BRANCH, jump.value, to.cells as u32, cells.value as u32, 0],
     );
     WrittenLine {
-        holds: Holds::Instruction(2 * cells.count),
+        holds: Holds::Instruction(2 * cells.value),
         next: end,
     }
 }
@@ -102,10 +102,10 @@ pub fn write_wait(s: &[u8], t: &mut [u32], place: Place, stop: u8, to: Target) -
     put_entry(
         t,
         to.entry,
-        [WAIT, 0, to.cells as u32, cells.count as u32, 0],
+        [WAIT, 0, to.cells as u32, cells.value as u32, 0],
     );
     WrittenLine {
-        holds: Holds::Instruction(2 * cells.count),
+        holds: Holds::Instruction(2 * cells.value),
         next: end,
     }
 }

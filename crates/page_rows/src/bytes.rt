@@ -19,10 +19,8 @@ pub fn put_bytes(out: &mut [u8], at: usize, bytes: &[u8])
     requires { (at ≤ 100000) × (length bytes.now ≤ 100) }
     ensures { out.new ≡ sets out.old at bytes.now }
 {
-    let mut k: usize = 0;
-    while k < bytes.len() {
-        put_byte(out, at + k, bytes[k]);
-        k += 1;
+    for (k, b) in bytes.iter().enumerate() {
+        put_byte(out, at + k, *b);
     }
 }
 
@@ -31,10 +29,8 @@ pub fn put_repeated(out: &mut [u8], at: usize, b: u8, count: usize)
     requires { (at ≤ 100000) × (count ≤ 100) }
     ensures { out.new ≡ sets out.old at (replicate count b) }
 {
-    let mut k: usize = 0;
-    while k < count {
+    for k in 0..count {
         put_byte(out, at + k, b);
-        k += 1;
     }
 }
 
@@ -61,12 +57,11 @@ pub fn put_figure(out: &mut [u8], at: usize, columns: usize, n: u64)
     requires { (at ≤ 100000) × (1 ≤ columns) × (columns ≤ 20) × (length (figure n) ≤ columns) }
     ensures { out.new ≡ sets out.old at (right_aligned columns (figure n)) }
 {
-    let mut k = columns - 1;
-    put_byte(out, at + k, digit(n % 10));
+    let last = columns - 1;
+    put_byte(out, at + last, digit(n % 10));
     let mut rest = n / 10;
-    while k > 0 {
-        k -= 1;
+    for k in (0..last).rev() {
         put_byte(out, at + k, column_byte(rest));
-        rest = rest / 10;
+        rest /= 10;
     }
 }

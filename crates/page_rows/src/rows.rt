@@ -33,7 +33,7 @@ pub fn put_row(out: &mut [u8], line: usize, output: u32, opened: u64)
     ensures { out.new ≡ sets out.old (line * 45) (row (record { output = output; opened = opened; closed = none })) }
 {
     let at = line * ROW_BYTES;
-    put_figure(out, at, NUMBER_COLUMNS, output as u64);
+    put_figure(out, at, NUMBER_COLUMNS, u64::from(output));
     put_byte(out, at + FIRST_SPACE, b' ');
     put_figure(out, at + OPENED_AT, MOMENT_COLUMNS, opened);
     put_byte(out, at + SECOND_SPACE, b' ');
@@ -65,11 +65,9 @@ pub fn put_heading(out: &mut [u8])
 pub fn put_blank_rows(out: &mut [u8])
     ensures { out.new ≡ sets out.old 0 (joined (replicate 60 blank_row)) }
 {
-    let mut line: usize = 0;
-    while line < ROWS {
+    for line in 0..ROWS {
         let at = line * ROW_BYTES;
         put_repeated(out, at, b' ', CHARACTERS);
         put_byte(out, at + CHARACTERS, b'\n');
-        line += 1;
     }
 }

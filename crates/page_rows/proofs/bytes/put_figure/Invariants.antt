@@ -3,6 +3,3 @@ use Rattle.page_rows.proofs.bytes.put_figure.Given as goal
 
 abbrev pub invariant-loop-k : goal.invariant-loop-k
 invariant-loop-k l = column.Storing l.initial.out l.at l.initial.k l.initial.rest l.out l.k l.rest
-
-abbrev pub decreases-loop-k : goal.decreases-loop-k
-decreases-loop-k l = l.k

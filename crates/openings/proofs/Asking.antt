@@ -1,23 +1,26 @@
--- Question 9, put place by place. Letters: ms moments, k a place.
-use mathlib.Core.Path.{◌≡◌}
-use mathlib.Core.Bool.{true, false}
-use mathlib.Core.List.{List}
-use Prim.Native.Nat.{ℕ, ◌+◌, ◌≤◌, ◌<◌}
-use native.Mathlib.Numerals.{add-one}
-use lib.ListN.{length, get_or, drop, drop_of_length-le}
-use lib.Seq.{drop-cons}
+-- Question 9: no moment falls exactly if the moments are sorted. Letters: ms moments, k a place.
+use Rattle.std.proofs.Common.{◌≡◌, ℕ, ◌+◌, ◌<◌, ◌≤◌, Bool, true, false, List, [], ◌∷◌, length, get_or, zero, suc, refl, sym, arith, add-one, ◌&&◌}
+use Rattle.std.specs.Bool.{MatchBool}
+use Rattle.std.specs.List.Sorted.{IsNonDecreasing}
 use borrow.Author.Tests.{le-leb, lt-leb}
-use Rattle.openings.specs.Questions.{rise_from}
+use lib.Dec.{leb}
+use Rattle.openings.specs.Questions.{none_falls, rise_from}
 
-module _ (ms : List ℕ) (k : ℕ) (h : k < length ms) (least : ℕ) where
-  pub rise_on : least ≤ get_or ms k 0 → rise_from least (drop k ms) ≡ rise_from (get_or ms k 0) (drop (k + 1) ms)
-  unfolding rise_from
-  rise_on l = rw (add-one k, drop-cons ms k 0 h, le-leb least (get_or ms k 0) l)
-
-  pub falls_here : get_or ms k 0 < least → rise_from least (drop k ms) ≡ false
-  unfolding rise_from
-  falls_here l = rw (drop-cons ms k 0 h, lt-leb least (get_or ms k 0) l)
-
-pub rise_ends : (ms : List ℕ) (k least : ℕ) → length ms ≤ k → rise_from least (drop k ms) ≡ true
+rises : (least : ℕ) (ms : List ℕ) → ((k : ℕ) → suc k < length (least ∷ ms) → get_or (least ∷ ms) k 0 ≤ get_or (least ∷ ms) (suc k) 0) → rise_from least ms ≡ true
 unfolding rise_from
-rise_ends ms k least h = rw (drop_of_length-le ms {i = k} h)
+rises least [] h = refl
+rises least (m ∷ ms) h = rw (le-leb least m (h 0 (omega arith))) (rises m ms (λ k a. h (suc k) (omega arith)))
+
+falls : (least : ℕ) (ms : List ℕ) (k : ℕ) → suc k < length (least ∷ ms) → get_or (least ∷ ms) (suc k) 0 < get_or (least ∷ ms) k 0 → rise_from least ms ≡ false
+unfolding rise_from
+falls least [] k h l = absurd (omega arith)
+falls least (m ∷ ms) zero h l = rw (lt-leb least m l)
+falls least (m ∷ ms) (suc k) h l = rw (falls m ms k (omega arith) l) (elim (leb least m) as (λ b. b && false ≡ false) [ true ↦ refl | false ↦ refl ])
+
+pub answers : (ms : List ℕ) (r : Bool) → MatchBool r (IsNonDecreasing ms) ((k : ℕ) × (k + 1 < length ms) × ((d : ℕ) → get_or ms (k + 1) d < get_or ms k d)) → r ≡ none_falls ms
+answers ms true h = sym (rises 0 ms next)
+  where
+    next : (k : ℕ) → suc k < length (0 ∷ ms) → get_or (0 ∷ ms) k 0 ≤ get_or (0 ∷ ms) (suc k) 0
+    next zero a = omega arith
+    next (suc k) a = h k (suc k) 0 (omega arith) (omega arith)
+answers ms false h = sym (falls 0 ms (suc h.0) (omega (arith, h.1)) (rw (← add-one h.0) (h.2 0)))

@@ -1,10 +1,10 @@
 -- Openings by computation: small lists of writes, with the openings that document 02 gives them.
 use mathlib.Core.Path.{◌≡◌, refl}
-use mathlib.Core.Bool.{Bool, true, false}
+use mathlib.Core.Bool.{true, false}
 use mathlib.Core.List.{List, [], ◌∷◌, map}
 use mathlib.Core.Option.{Option, none, some}
 use Prim.Native.Nat.{ℕ}
-use Rattle.openings.specs.Writes.{Write, writes_of}
+use Rattle.openings.specs.Writes.{Write}
 use Rattle.openings.specs.Openings.{latest_of, closed_after, opens, closing, Opening, with_opening, openings_after}
 use Rattle.openings.specs.Order.{placed, insert, sort, opening_precedes, sorted_openings}
 use Rattle.openings.specs.Questions.{none_falls, rise_from, listed_once, listed_among, once_after}

@@ -1,15 +1,13 @@
 -- The openings after one write more: a write with 0 ends what is open at its output; a write that opens comes last. Letters: e earlier writes, the
 -- latest first, ws writes, w one more, x an opening, o an output.
-use mathlib.Core.Path.{◌≡◌, refl, sym, ap, ◌∙◌}
-use mathlib.Core.Bool.{Bool, true, false, cond, ◌&&◌, not}
+use mathlib.Core.Path.{◌≡◌, refl}
+use mathlib.Core.Bool.{Bool, true, false, cond, ◌&&◌}
 use mathlib.Core.List.{List, [], ◌∷◌, ◌++◌, map}
 use mathlib.Core.Option.{Option, none, some}
-use Prim.Native.Nat.{ℕ, ◌+◌, ◌≤◌, ◌<◌}
-use native.Mathlib.Omega.{arith}
+use Prim.Native.Nat.{ℕ}
 use lib.Dec.{eqb}
-use borrow.Author.Tests.{ne_eqb, eqb-true, eq-eqb}
 use Rattle.openings.specs.Writes.{Write}
-use Rattle.openings.specs.Openings.{is_zero, latest_of, closed_after, opens, closing, Opening, opening_of, with_opening, openings_after}
+use Rattle.openings.specs.Openings.{is_zero, opens, closing, Opening, opening_of, with_opening, openings_after}
 
 -- the earlier writes with these behind them
 unfoldable pub passed : List Write → List Write → List Write

@@ -3,24 +3,24 @@
 use mathlib.Core.Path.{◌≡◌, refl, sym, ap, ◌∙◌}
 use mathlib.Core.Bool.{Bool, true, false, cond, ◌&&◌, not}
 use mathlib.Core.List.{List, [], ◌∷◌}
+use mathlib.Core.Logic.{◌⊎◌, inl, inr}
 use Prim.Native.Nat.{ℕ, ◌+◌, ◌*◌, ◌%◌, ◌^◌, ◌≤◌, ◌<◌}
 use native.Mathlib.Decide.{dec_lt}
 use native.Mathlib.Nat.{le_of_suc-le-suc, zero-lt-suc, mod-lt, max-eq_left}
-use native.Mathlib.Numerals.{add-one}
 use native.Mathlib.Omega.{arith}
 use lib.Bits.{bit_or}
 use lib.Dec.{eqb, leb, ltb, lit<}
-use lib.ListN.{length, get_or, drop, drop_of_length-le}
+use lib.ListN.{length}
 use lib.Pow.{shl_exact}
-use lib.Seq.{drop-cons}
 use borrow.Author.Tests.{le-leb, lt-leb, leb-true, leb-false, lt-ltb, le-ltb, ltb-true, eq-eqb, ne_eqb, eqb-true, eqb-false}
 use Rattle.openings.specs.Writes.{Write, writes_of}
 use Rattle.openings.specs.Order.{precedes}
 use Rattle.openings.specs.Questions.{rise_from, listed_among, once_after}
 use Rattle.openings.specs.InOrder.{in_order_from}
 use Rattle.openings.specs.Verdicts.{verdict_by, verdict}
-use Rattle.openings.specs.declared.Verdict.{Verdict}
-use Rattle.openings.specs.declared.Verdict.TheVariants.{InOrder, AnyOrder, Refused}
+use Rattle.openings.specs.declared.Order.{Order}
+use Rattle.openings.specs.declared.Order.TheVariants.{InOrder, AnyOrder}
+use Rattle.std.specs.Prelude.{Option, Some, None}
 use Rattle.openings.proofs.All.{All, none, each, weaker}
 use Rattle.openings.proofs.Sorting.{sooner, less_precedes, not_precedes}
 use Rattle.openings.proofs.Mask.{bit_of, from, has, or_odd, or_none_lem, has_more, Below, none_below, none_has, more_below}
@@ -30,15 +30,15 @@ abbrev pub seen_in : ℕ → ℕ → ℕ → ℕ
 seen_in m b s = cond (eqb m b) s 0
 
 -- what those seen late tell
-unfoldable pub told : ℕ → Verdict
-told t = cond (eqb t 0) InOrder (cond (eqb (t % 2) 1) Refused AnyOrder)
+unfoldable pub told : ℕ → Option Order
+told t = cond (eqb t 0) (Some InOrder) (cond (eqb (t % 2) 1) None (Some AnyOrder))
 
 -- what is left of the pass
-unfoldable pub pass_from : ℕ → ℕ → ℕ → List ℕ → List ℕ → Verdict
+unfoldable pub pass_from : ℕ → ℕ → ℕ → List ℕ → List ℕ → Option Order
 pass_from b s t [] os = told t
 pass_from b s t (m ∷ ms) [] = told t
 pass_from b s t (m ∷ ms) (o ∷ os) =
-    cond (ltb o 16 && leb b m) (pass_from m (bit_or (seen_in m b s) (bit_of o)) (bit_or t (from (seen_in m b s) o)) ms os) Refused
+    cond (ltb o 16 && leb b m) (pass_from m (bit_or (seen_in m b s) (bit_of o)) (bit_or t (from (seen_in m b s) o)) ms os) None
 
 -- ── the outputs seen are those listed ─────────────────────────────────────────────────────────────
 abbrev write_of : ℕ → ℕ → ℕ → Write
@@ -112,11 +112,11 @@ order_on m o b s l t ms os low h below = go (eqb t 0) refl
     go false z = rw (ne_eqb (bit_or t x) 0 (λ q. eqb-false t 0 z (or_none_lem t x q).0))
 
 -- ── an output listed twice in a moment ────────────────────────────────────────────────────────────
-odd_told : (t : ℕ) → t % 2 ≡ 1 → told t ≡ Refused
+odd_told : (t : ℕ) → t % 2 ≡ 1 → told t ≡ None
 unfolding told
 odd_told t h = rw (ne_eqb t 0 (λ z. omega arith), h)
 
-odd_refused : (b s t : ℕ) (ms os : List ℕ) → t % 2 ≡ 1 → pass_from b s t ms os ≡ Refused
+odd_refused : (b s t : ℕ) (ms os : List ℕ) → t % 2 ≡ 1 → pass_from b s t ms os ≡ None
 unfolding pass_from
 odd_refused b s t [] os h = odd_told t h
 odd_refused b s t (m ∷ ms) [] h = odd_told t h
@@ -131,12 +131,12 @@ odd_refused b s t (m ∷ ms) (o ∷ os) h = go (ltb o 16 && leb b m) (odd_refuse
     most : x % 2 ≤ 1
     most = le_of_suc-le-suc (mod-lt x (zero-lt-suc 1))
 
-    go : (c : Bool) → pass_from m (bit_or y (bit_of o)) (bit_or t x) ms os ≡ Refused → cond c (pass_from m (bit_or y (bit_of o)) (bit_or t x) ms os) Refused ≡ Refused
+    go : (c : Bool) → pass_from m (bit_or y (bit_of o)) (bit_or t x) ms os ≡ None → cond c (pass_from m (bit_or y (bit_of o)) (bit_or t x) ms os) None ≡ None
     go true deep = deep
     go false deep = refl
 
 -- ── the whole pass ────────────────────────────────────────────────────────────────────────────────
-neither : (x y : Bool) → Refused ≡ verdict_by (x && false) (y && false)
+neither : (x y : Bool) → None ≡ verdict_by (x && false) (y && false)
 unfolding verdict_by
 neither true true = refl
 neither true false = refl
@@ -185,12 +185,12 @@ module _ (b s t l m o u : ℕ) (ms os : List ℕ) (ws e : List Write) (v : Seen 
 
   pass_step : (b ≤ m → bit_or t x % 2 ≡ 0 → pass_from m (bit_or y (bit_of o)) (bit_or t x) ms os ≡
       verdict_by (eqb (bit_or t x) 0 && in_order_from m (o + 1) ms os) (rise_from m ms && once_after (w ∷ e) ws)) →
-      cond (ltb o 16 && leb b m) (pass_from m (bit_or y (bit_of o)) (bit_or t x) ms os) Refused ≡
+      cond (ltb o 16 && leb b m) (pass_from m (bit_or y (bit_of o)) (bit_or t x) ms os) None ≡
       verdict_by (eqb t 0 && in_order_from b l (m ∷ ms) (o ∷ os)) ((leb b m && rise_from m ms) && once_after e (w ∷ ws))
   pass_step deep = go (ltb o 16) refl (leb b m) refl (has y o) refl
     where
       go : (a : Bool) → ltb o 16 ≡ a → (c : Bool) → leb b m ≡ c → (d : Bool) → has y o ≡ d →
-          cond (a && c) (pass_from m (bit_or y (bit_of o)) (bit_or t x) ms os) Refused ≡
+          cond (a && c) (pass_from m (bit_or y (bit_of o)) (bit_or t x) ms os) None ≡
           verdict_by (eqb t 0 && in_order_from b l (m ∷ ms) (o ∷ os)) ((c && rise_from m ms) && once_after e (w ∷ ws))
       go false f c g d h = rw (high_unordered m o b l ms os f, once_next e w ws false (listed_among w e) f refl) (neither (eqb t 0) (c && rise_from m ms))
       go true f false g d h = rw (fallen_unordered m o b l ms os (leb-false b m g)) (neither (eqb t 0) false)
@@ -209,7 +209,7 @@ even_told : (t b l : ℕ) (os : List ℕ) (e : List Write) → t % 2 ≡ 0 → t
 unfolding told verdict_by in_order_from once_after
 even_told t b l os e even = rw even (go (eqb t 0))
   where
-    go : (c : Bool) → cond c InOrder AnyOrder ≡ verdict_by (c && true) true
+    go : (c : Bool) → cond c (Some InOrder) (Some AnyOrder) ≡ verdict_by (c && true) true
     go true = refl
     go false = refl
 
@@ -229,58 +229,57 @@ pub one_pass : (ms os vs : List ℕ) → length ms ≡ length os → length vs �
 unfolding listed_among
 one_pass ms os vs p q = pass_is 0 0 0 0 ms os vs [] p q (record { listed = λ o v. none_has o; latest = none }) (λ z. none_below) refl
 
--- ── place by place ────────────────────────────────────────────────────────────────────────────────
-module _ (ms os : List ℕ) (same : length ms ≡ length os) (b s t k : ℕ) (h : k < length ms) where
-  abbrev here : ℕ
-  here = get_or ms k 0
-
-  abbrev output : ℕ
-  output = get_or os k 0
-
-  next : pass_from b s t (drop k ms) (drop k os) ≡
-      cond (ltb output 16 && leb b here)
-      (pass_from here (bit_or (seen_in here b s) (bit_of output)) (bit_or t (from (seen_in here b s) output)) (drop (k + 1) ms) (drop (k + 1) os)) Refused
+-- ── write by write ────────────────────────────────────────────────────────────────────────────────
+module _ (b s t m o : ℕ) (ms os ms' os' : List ℕ) (first : ms ≡ m ∷ ms') (second : os ≡ o ∷ os') where
+  next : pass_from b s t ms os ≡ cond (ltb o 16 && leb b m) (pass_from m (bit_or (seen_in m b s) (bit_of o)) (bit_or t (from (seen_in m b s) o)) ms' os') None
   unfolding pass_from
-  next = let g : k < length os = omega arith in rw (add-one k, drop-cons ms k 0 h, drop-cons os k 0 g)
+  next = rw (first, second)
 
-  pub too_high : 16 ≤ output → pass_from b s t (drop k ms) (drop k os) ≡ Refused
-  too_high g = rw (le-ltb output 16 g) at next
+  pub too_high : 16 ≤ o → pass_from b s t ms os ≡ None
+  too_high g = rw (le-ltb o 16 g) at next
 
-  pub fallen : output < 16 → here < b → pass_from b s t (drop k ms) (drop k os) ≡ Refused
-  fallen g l = rw (lt-ltb output 16 g, lt-leb b here l) at next
+  pub fallen : o < 16 → m < b → pass_from b s t ms os ≡ None
+  fallen g l = rw (lt-ltb o 16 g, lt-leb b m l) at next
 
   -- the write is looked at; y are the outputs seen in its moment before it
-  seen_on_lem : output < 16 → b ≤ here → (b' y : ℕ) → b' ≡ here → y ≡ seen_in here b s →
-      pass_from b s t (drop k ms) (drop k os) ≡
-      pass_from b' (bit_or y (1 * 2 ^ output % 2 ^ 32)) (bit_or t (from y output)) (drop (k + 1) ms) (drop (k + 1) os)
+  seen_on_lem : o < 16 → b ≤ m → (b' y : ℕ) → b' ≡ m → y ≡ seen_in m b s → pass_from b s t ms os ≡ pass_from b' (bit_or y (1 * 2 ^ o % 2 ^ 32)) (bit_or t (from y o)) ms' os'
   seen_on_lem g l b' y d e =
-      let whole : 1 * 2 ^ output % 2 ^ 32 ≡ bit_of output = shl_exact 1 output 32 (lit< tt) (omega arith) in
-      rw (whole, d, e) (rw (lt-ltb output 16 g, le-leb b here l) at next)
+      let whole : 1 * 2 ^ o % 2 ^ 32 ≡ bit_of o = shl_exact 1 o 32 (lit< tt) (omega arith) in
+      rw (whole, d, e) (rw (lt-ltb o 16 g, le-leb b m l) at next)
 
-  pub moment_later : output < 16 → (here ≡ b → ⊥) → b ≤ here → (b' y : ℕ) → b' ≡ here → y ≡ 0 →
-      pass_from b s t (drop k ms) (drop k os) ≡
-      pass_from b' (bit_or y (1 * 2 ^ output % 2 ^ 32)) (bit_or t (from y output)) (drop (k + 1) ms) (drop (k + 1) os)
-  moment_later g n l b' y d e = seen_on_lem g l b' y d (e ∙ rw (ne_eqb here b n))
+  pub moment_later : o < 16 → (m ≡ b → ⊥) → b ≤ m → (b' y : ℕ) → b' ≡ m → y ≡ 0 → pass_from b s t ms os ≡ pass_from b' (bit_or y (1 * 2 ^ o % 2 ^ 32)) (bit_or t (from y o)) ms' os'
+  moment_later g n l b' y d e = seen_on_lem g l b' y d (e ∙ rw (ne_eqb m b n))
 
-  pub moment_same : output < 16 → here ≡ b → (b' y : ℕ) → b' ≡ b → y ≡ s →
-      pass_from b s t (drop k ms) (drop k os) ≡
-      pass_from b' (bit_or y (1 * 2 ^ output % 2 ^ 32)) (bit_or t (from y output)) (drop (k + 1) ms) (drop (k + 1) os)
-  moment_same g n b' y d e = seen_on_lem g (omega arith) b' y (d ∙ sym n) (e ∙ rw (eq-eqb here b n))
+  pub moment_same : o < 16 → m ≡ b → (b' y : ℕ) → b' ≡ b → y ≡ s → pass_from b s t ms os ≡ pass_from b' (bit_or y (1 * 2 ^ o % 2 ^ 32)) (bit_or t (from y o)) ms' os'
+  moment_same g n b' y d e = seen_on_lem g (omega arith) b' y (d ∙ sym n) (e ∙ rw (eq-eqb m b n))
 
-pub pass_ends : (ms os : List ℕ) (b s t k : ℕ) → length ms ≤ k → pass_from b s t (drop k ms) (drop k os) ≡ told t
+no_moments : (b s t : ℕ) (ms os : List ℕ) → length ms ≡ 0 → pass_from b s t ms os ≡ told t
 unfolding pass_from
-pass_ends ms os b s t k h = rw (drop_of_length-le ms {i = k} h)
+no_moments b s t [] os e = refl
+no_moments b s t (m ∷ ms) os e = absurd (omega arith)
+
+no_outputs : (b s t : ℕ) (ms os : List ℕ) → length os ≡ 0 → pass_from b s t ms os ≡ told t
+unfolding pass_from
+no_outputs b s t [] os e = refl
+no_outputs b s t (m ∷ ms) [] e = refl
+no_outputs b s t (m ∷ ms) (o ∷ os) e = absurd (omega arith)
+
+-- the pass ends with the first list that does; P and Q are what else is known there
+pub pass_ends : (b s t : ℕ) (ms os : List ℕ) {X Y : Type 0} {P : X → Type 0} {Q : Y → Type 0} →
+    ((x : X) × ((length ms ≡ 0) × P x)) ⊎ ((y : Y) × ((length os ≡ 0) × Q y)) → pass_from b s t ms os ≡ told t
+pass_ends b s t ms os (inl h) = no_moments b s t ms os h.1.0
+pass_ends b s t ms os (inr h) = no_outputs b s t ms os h.1.0
 
 -- ── the end ───────────────────────────────────────────────────────────────────────────────────────
 module _ (t : ℕ) where
-  pub told_none : t ≡ 0 → InOrder ≡ told t
+  pub told_none : t ≡ 0 → Some InOrder ≡ told t
   unfolding told
   told_none e = rw e
 
-  pub told_odd : (t ≡ 0 → ⊥) → t % 2 ≡ 1 → Refused ≡ told t
+  pub told_odd : (t ≡ 0 → ⊥) → t % 2 ≡ 1 → None ≡ told t
   unfolding told
   told_odd n e = rw (ne_eqb t 0 n, e)
 
-  pub told_even : (t ≡ 0 → ⊥) → (t % 2 ≡ 1 → ⊥) → AnyOrder ≡ told t
+  pub told_even : (t ≡ 0 → ⊥) → (t % 2 ≡ 1 → ⊥) → Some AnyOrder ≡ told t
   unfolding told
   told_even n e = rw (ne_eqb t 0 n, ne_eqb (t % 2) 1 e)

@@ -10,7 +10,7 @@ ghost use Rattle.openings.specs.InOrder.{in_order_lem};
 ghost use Rattle.page.specs.Pages.{page_count, page_bytes};
 ghost use Rattle.page.specs.Call.{first_opening, refusal, PageFigures};
 
-use openings::{Verdict, none_falls, put_questions};
+use openings::{Order, none_falls, put_questions};
 use page_book::enter_writes;
 use page_rows::{put_blank_rows, put_heading};
 
@@ -148,12 +148,15 @@ pub fn print_page(
     if moments.len() != values.len() {
         return refused(1);
     }
-    let verdict = put_questions(moments, outputs);
-    match verdict {
-        Verdict::InOrder => gone_through(write_page(moments, outputs, values, true, page, memory)),
-        Verdict::AnyOrder => gone_through(write_page(
-            moments, outputs, values, false, page, memory,
-        )),
-        Verdict::Refused => refused(turned_away(moments)),
-    }
+    let Some(order) = put_questions(moments, outputs) else {
+        return refused(turned_away(moments));
+    };
+    gone_through(write_page(
+        moments,
+        outputs,
+        values,
+        order == Order::InOrder,
+        page,
+        memory,
+    ))
 }

@@ -11,23 +11,6 @@ const OPENINGS_ON_PAGE: u64 = 59;
 // The line of a row that stands on another page.
 const ELSEWHERE: u8 = 60;
 
-// A byte as a number to address with.
-fn wide(x: u8) -> usize
-    ensures { (result ≡ x) × (result < 256) }
-{
-    x as usize
-}
-
-// The milliseconds from one moment to a later one.
-fn between(earlier: u64, later: u64) -> u64
-    ensures { result ≡ later - earlier }
-{
-    if later < earlier {
-        return 0;
-    }
-    later - earlier
-}
-
 // The line of the opening with this number.
 fn line_of(first: u64, number: u64) -> u8
     ensures { (result ≡ line_of first number) × (result ≤ 60) }
@@ -52,7 +35,7 @@ fn close_row(memory: &mut [u8], line: u8, milliseconds: u64)
     if line >= ELSEWHERE {
         return;
     }
-    put_open_for(memory, wide(line), milliseconds);
+    put_open_for(memory, usize::from(line), milliseconds);
 }
 
 // The row of a valve that opens, if it stands on this page.
@@ -66,7 +49,7 @@ fn open_row(memory: &mut [u8], line: u8, output: u32, moment: u64)
     if line >= ELSEWHERE {
         return;
     }
-    put_row(memory, wide(line), output, moment);
+    put_row(memory, usize::from(line), output, moment);
 }
 
 // The write enters; how many openings there are now.
@@ -89,7 +72,7 @@ pub fn enter_write(
     let line = lines[valve];
     if value == 0 {
         lines[valve] = 0;
-        close_row(memory, line, between(opened[valve], moment));
+        close_row(memory, line, moment.saturating_sub(opened[valve]));
         return count;
     }
     if line != 0 {

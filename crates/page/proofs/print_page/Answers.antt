@@ -1,6 +1,10 @@
 -- `page::print_page` meets its contract.
-use mathlib.Core.Path.{sym}
+use mathlib.Core.Path.{◌≡◌, refl, sym, ◌∙◌}
 use Rattle.openings.proofs.Verdicts as verdicts
+use denote.Enum.Bare.{sameb}
+use Rattle.openings.specs.contracts.Order.{the_type}
+use Rattle.openings.specs.declared.Order.{Order}
+use Rattle.openings.specs.declared.Order.TheVariants.{InOrder, AnyOrder}
 use Rattle.page.proofs.Answers as answers
 use Rattle.page.proofs.print_page.Goals as goal
 
@@ -19,6 +23,10 @@ returns-then-moments-values c =
     let a = c.args in
     answers.values_unequal a.moments.now a.outputs.now a.values.now a.page a.memory.now c.if-memory-lt-PAGE_BYTES.false c.if-moments-outputs.false c.if-moments-values.true _ c.refused-then-moments-values.ensures
 
+in_order_test : (o : Order) → sameb the_type o InOrder ≡ verdicts.is_in_order o
+in_order_test InOrder = refl
+in_order_test AnyOrder = refl
+
 pub write_page-requires : goal.write_page-requires
 write_page-requires c =
     let ms = c.args.moments.now in
@@ -26,50 +34,28 @@ write_page-requires c =
     let vs = c.args.values.now in
     let same = c.if-moments-outputs.false in
     let long = c.if-moments-values.false in
-    let passes = verdicts.in_order ms os vs _ (c.put_questions-verdict.ensures vs (sym long)) same c.in-InOrder.is in
-    (c.if-memory-lt-PAGE_BYTES.false, same, long, passes.rises, passes.once, passes.order)
+    let passes = verdicts.passed ms os vs _ (c.put_questions.ensures vs (sym long)) same _ c.in-Some.is in
+    (c.if-memory-lt-PAGE_BYTES.false, same, long, passes.rises, passes.once, c.eq.ensures ∙ in_order_test _ ∙ passes.order)
 
-pub write_page-requires-in-AnyOrder : goal.write_page-requires-in-AnyOrder
-write_page-requires-in-AnyOrder c =
-    let ms = c.args.moments.now in
-    let os = c.args.outputs.now in
-    let vs = c.args.values.now in
-    let same = c.if-moments-outputs.false in
-    let long = c.if-moments-values.false in
-    let passes = verdicts.any_order ms os vs _ (c.put_questions-verdict.ensures vs (sym long)) c.in-AnyOrder.is in
-    (c.if-memory-lt-PAGE_BYTES.false, same, long, passes.rises, passes.once, passes.order)
-
-pub returns-in-InOrder : goal.returns-in-InOrder
-returns-in-InOrder c =
+pub returns : goal.returns
+returns c =
     let a = c.args in
     let ms = a.moments.now in
     let os = a.outputs.now in
     let vs = a.values.now in
     let same = c.if-moments-outputs.false in
     let long = c.if-moments-values.false in
-    let passes = verdicts.in_order ms os vs _ (c.put_questions-verdict.ensures vs (sym long)) same c.in-InOrder.is in
+    let passes = verdicts.passed ms os vs _ (c.put_questions.ensures vs (sym long)) same _ c.in-Some.is in
     let e = c.write_page.ensures in
     rw c.gone_through.ensures (answers.page_printed ms os vs a.page a.memory.now c.if-memory-lt-PAGE_BYTES.false same long passes.rises passes.once _ _ e.0 e.1)
 
-pub returns-in-AnyOrder : goal.returns-in-AnyOrder
-returns-in-AnyOrder c =
+pub returns-in_default : goal.returns-in_default
+returns-in_default c =
     let a = c.args in
     let ms = a.moments.now in
     let os = a.outputs.now in
     let vs = a.values.now in
     let same = c.if-moments-outputs.false in
     let long = c.if-moments-values.false in
-    let passes = verdicts.any_order ms os vs _ (c.put_questions-verdict.ensures vs (sym long)) c.in-AnyOrder.is in
-    let e = c.write_page-in-AnyOrder.ensures in
-    rw c.gone_through-in-AnyOrder.ensures (answers.page_printed ms os vs a.page a.memory.now c.if-memory-lt-PAGE_BYTES.false same long passes.rises passes.once _ _ e.0 e.1)
-
-pub returns-in-Refused : goal.returns-in-Refused
-returns-in-Refused c =
-    let a = c.args in
-    let ms = a.moments.now in
-    let os = a.outputs.now in
-    let vs = a.values.now in
-    let same = c.if-moments-outputs.false in
-    let long = c.if-moments-values.false in
-    let refused = verdicts.refused ms os vs _ (c.put_questions-verdict.ensures vs (sym long)) c.in-Refused.is in
-    answers.turned_away_lem ms os vs a.page a.memory.now c.if-memory-lt-PAGE_BYTES.false same long refused _ c.turned_away.ensures _ c.refused-in-Refused.ensures
+    let refused = verdicts.refused ms os vs _ (c.put_questions.ensures vs (sym long)) c.in_default.is in
+    answers.turned_away_lem ms os vs a.page a.memory.now c.if-memory-lt-PAGE_BYTES.false same long refused _ c.turned_away.ensures _ c.refused-in_default.ensures

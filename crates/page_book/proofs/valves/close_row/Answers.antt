@@ -10,4 +10,4 @@ pub returns-then-line-ge-ELSEWHERE : goal.returns-then-line-ge-ELSEWHERE
 returns-then-line-ge-ELSEWHERE c = entering.closed_elsewhere c.args.memory.now c.args.line c.args.milliseconds c.if-line-ge-ELSEWHERE.true
 
 pub returns : goal.returns
-returns c = c.put_open_for.ensures ∙ entering.closed_here c.args.memory.now c.args.line c.args.milliseconds c.if-line-eq0.false c.if-line-ge-ELSEWHERE.false _ c.wide.ensures.0
+returns c = c.put_open_for.ensures ∙ entering.closed_here c.args.memory.now c.args.line c.args.milliseconds c.if-line-eq0.false c.if-line-ge-ELSEWHERE.false _ c.from.ensures

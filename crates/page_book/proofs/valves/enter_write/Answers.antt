@@ -8,7 +8,7 @@ pub returns-then-value-eq0 : goal.returns-then-value-eq0
 returns-then-value-eq0 c =
     let a = c.args in
     let p = c.requires in
-    (entering.enters_zero a.first a.memory.now a.lines.now a.opened.now a.count a.moment a.output a.value c.number-valve.result c.number-valve.ensures.0 c.if-value-eq0.true _ c.between.ensures c.close_row.ensures, simp length-set p.0, p.1, omega arith)
+    (entering.enters_zero a.first a.memory.now a.lines.now a.opened.now a.count a.moment a.output a.value c.number-valve.result c.number-valve.ensures.0 c.if-value-eq0.true _ c.saturating_sub.ensures c.close_row.ensures, simp length-set p.0, p.1, omega arith)
 
 pub returns-then-line-ne0 : goal.returns-then-line-ne0
 returns-then-line-ne0 c =

@@ -10,4 +10,4 @@ pub returns-then-line-ge-ELSEWHERE : goal.returns-then-line-ge-ELSEWHERE
 returns-then-line-ge-ELSEWHERE c = entering.opened_elsewhere_lem c.args.memory.now c.args.line c.args.output c.args.moment c.if-line-ge-ELSEWHERE.true
 
 pub returns : goal.returns
-returns c = c.put_row.ensures ∙ entering.opened_here c.args.memory.now c.args.line c.args.output c.args.moment c.if-line-eq0.false c.if-line-ge-ELSEWHERE.false _ c.wide.ensures.0
+returns c = c.put_row.ensures ∙ entering.opened_here c.args.memory.now c.args.line c.args.output c.args.moment c.if-line-eq0.false c.if-line-ge-ELSEWHERE.false _ c.from.ensures

@@ -23,13 +23,7 @@ const SATURDAY: u64 = 5;
 pub fn is_leap(year: u64) -> bool
     ensures { result ≡ is_leap year }
 {
-    if year % 4 != 0 {
-        return false;
-    }
-    if year % 100 != 0 {
-        return true;
-    }
-    year % 400 == 0
+    year % 4 == 0 && (year % 100 != 0 || year % 400 == 0)
 }
 
 // The days of a month, from 1 for January.
@@ -78,10 +72,8 @@ fn days_of_years(year: u64) -> u64
     ensures { (result ≡ days_of_years (year - 2000)) × (result ≤ 80000) }
 {
     let mut days: u64 = 0;
-    let mut y = FIRST_YEAR;
-    while y < year {
+    for y in FIRST_YEAR..year {
         days += year_days(y);
-        y += 1;
     }
     days
 }
@@ -92,10 +84,8 @@ fn days_of_months(year: u64, month: u64) -> u64
     ensures { (result ≡ days_of_months year (month - 1)) × (result ≤ 400) }
 {
     let mut days: u64 = 0;
-    let mut m: u64 = 1;
-    while m < month {
+    for m in 1..month {
         days += month_days(year, m);
-        m += 1;
     }
     days
 }

@@ -4,7 +4,4 @@ use Rattle.schedule.specs.Calendar.{days_of_months}
 use Rattle.schedule_calendar.proofs.days_of_months.Given as goal
 
 abbrev pub invariant-loop-m : goal.invariant-loop-m
-invariant-loop-m l = (l.days ≡ days_of_months l.year (l.m - 1)) × (l.days ≤ 31 * (l.m - 1)) × (1 ≤ l.m) × (l.m ≤ l.month)
-
-abbrev pub decreases-loop-m : goal.decreases-loop-m
-decreases-loop-m l = l.month - l.m
+invariant-loop-m l = (l.days ≡ days_of_months l.year (l.m - 1)) × (l.days ≤ 31 * (l.m - 1))

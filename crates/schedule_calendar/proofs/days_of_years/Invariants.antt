@@ -4,7 +4,4 @@ use Rattle.schedule.specs.Calendar.{days_of_years}
 use Rattle.schedule_calendar.proofs.days_of_years.Given as goal
 
 abbrev pub invariant-loop-y : goal.invariant-loop-y
-invariant-loop-y l = (l.days ≡ days_of_years (l.y - 2000)) × (l.days ≤ 366 * (l.y - 2000)) × (2000 ≤ l.y) × (l.y ≤ l.year)
-
-abbrev pub decreases-loop-y : goal.decreases-loop-y
-decreases-loop-y l = l.year - l.y
+invariant-loop-y l = (l.days ≡ days_of_years (l.y - 2000)) × (l.days ≤ 366 * (l.y - 2000))

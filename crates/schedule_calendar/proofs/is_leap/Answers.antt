@@ -5,12 +5,12 @@ use Rattle.schedule_calendar.proofs.is_leap.Goals as goal
 
 pub returns-then-year-ne0 : goal.returns-then-year-ne0
 unfolding is_leap
-returns-then-year-ne0 c = rw (ne_eqb _ _ c.if-year-ne0.true)
+returns-then-year-ne0 c = rw (eq-eqb _ _ c.if-year-eq0.true, ne_eqb _ _ c.if-year-ne0.true)
 
-pub returns-then-year-ne0-2 : goal.returns-then-year-ne0-2
+pub returns-else-year-ne0 : goal.returns-else-year-ne0
 unfolding is_leap
-returns-then-year-ne0-2 c = rw (eq-eqb _ _ c.if-year-ne0.false, ne_eqb _ _ c.if-year-ne0-2.true)
+returns-else-year-ne0 c = rw (eq-eqb _ _ c.if-year-eq0.true, eq-eqb _ _ c.if-year-ne0.false)
 
-pub returns : goal.returns
+pub returns-else-year-eq0 : goal.returns-else-year-eq0
 unfolding is_leap
-returns c = rw (eq-eqb _ _ c.if-year-ne0.false, eq-eqb _ _ c.if-year-ne0-2.false)
+returns-else-year-eq0 c = rw (ne_eqb _ _ c.if-year-eq0.false)

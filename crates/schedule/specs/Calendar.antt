@@ -2,11 +2,11 @@
 -- Document 02, Change 5: "the Gregorian date (year 2000 to 2199, month, day) on which moment 0 is midnight", "weekday 1 (Monday) to 7".
 use Rattle.std.specs.Prelude.{Bool, cond, ◌&&◌, ◌||◌, not, List, [], ◌∷◌, ℕ, zero, suc, ◌+◌, ◌-◌, ◌%◌, eqb, leb, get_or, take}
 use Rattle.listing.specs.Lists.{total}
+use Rattle.schedule.specs.declared.Date as Declared
 
-pub record Date : Type 0 where
-  pub year : ℕ
-  pub month : ℕ
-  pub day : ℕ
+-- year, month and day
+abbrev pub Date : Type 0
+Date = Declared.Date
 
 -- the leap rule: every fourth year has a day more, but of the years that end a century only every fourth (2000 and not 2100)
 unfoldable pub is_leap : ℕ → Bool

@@ -1,14 +1,13 @@
 -- A schedule: its date, and its windows.
 -- Document 02, Change 5: "input number, weekday 1 (Monday) to 7, opening and closing minute, 0 to 1,440 with opening below closing".
-use Rattle.std.specs.Prelude.{◌≡◌, Bool, true, ◌&&◌, List, ℕ, leb, ltb}
+use Rattle.std.specs.Prelude.{◌≡◌, Bool, true, ◌&&◌, List, leb, ltb}
 use Rattle.listing.specs.Lists.{all}
 use Rattle.schedule.specs.Calendar.{Date, is_real_date}
+use Rattle.schedule.specs.declared.Window as Declared
 
-pub record Window : Type 0 where
-  pub input : ℕ
-  pub weekday : ℕ
-  pub opening : ℕ
-  pub closing : ℕ
+-- input, weekday, opening and closing minute
+abbrev pub Window : Type 0
+Window = Declared.Window
 
 pub record Schedule : Type 0 where
   pub date : Date

@@ -4,6 +4,8 @@
 ghost use Rattle.std.specs.Prelude.{true, ◌≡◌, ◌+◌, ◌-◌, ◌<◌, ◌≤◌};
 ghost use Rattle.schedule.specs.Calendar.{is_leap, month_days, year_days, is_real_date, days_of_years, days_of_months, weekday_after};
 
+use schedule::Date;
+
 // "year 2000 to 2199"
 const FIRST_YEAR: u64 = 2000;
 
@@ -45,25 +47,16 @@ fn year_days(year: u64) -> u64
 }
 
 // "a real date", of any three numbers.
-pub fn is_real_date(year: u64, month: u64, day: u64) -> bool
-    ensures { result ≡ is_real_date (record { year = year; month = month; day = day }) }
+pub fn is_real_date(date: Date) -> bool
+    ensures { result ≡ is_real_date date }
 {
-    if year < FIRST_YEAR {
+    if date.year < FIRST_YEAR || date.year > LAST_YEAR {
         return false;
     }
-    if year > LAST_YEAR {
+    if date.month < 1 || date.month > MONTHS {
         return false;
     }
-    if month < 1 {
-        return false;
-    }
-    if month > MONTHS {
-        return false;
-    }
-    if day < 1 {
-        return false;
-    }
-    day <= month_days(year, month)
+    date.day >= 1 && date.day <= month_days(date.year, date.month)
 }
 
 // The days from 1 January 2000 to 1 January of a year.
@@ -91,10 +84,10 @@ fn days_of_months(year: u64, month: u64) -> u64
 }
 
 // The weekday of a date, 1 for Monday to 7 for Sunday.
-pub fn weekday_of(year: u64, month: u64, day: u64) -> u64
-    requires { is_real_date (record { year = year; month = month; day = day }) ≡ true }
-    ensures { (result ≡ weekday_after (record { year = year; month = month; day = day }) 0) × (1 ≤ result) × (result ≤ 7) }
+pub fn weekday_of(date: Date) -> u64
+    requires { is_real_date date ≡ true }
+    ensures { (result ≡ weekday_after date 0) × (1 ≤ result) × (result ≤ 7) }
 {
-    let days = days_of_years(year) + days_of_months(year, month) + (day - 1);
+    let days = days_of_years(date.year) + days_of_months(date.year, date.month) + (date.day - 1);
     1 + (SATURDAY + days) % 7
 }

@@ -14,12 +14,10 @@ fn count_changes(before: u16, at: u16) -> u64
         return 0;
     }
     let mut count: u64 = 0;
-    let mut input: u64 = 0;
-    while input < INPUTS {
+    for input in 0..INPUTS {
         if bit_of(before, input) != bit_of(at, input) {
             count += 1;
         }
-        input += 1;
     }
     count
 }
@@ -32,13 +30,11 @@ fn count_minutes(week: &[u16], minute: u64, minutes: u64) -> u64
     let mut before = week[((minute - 1) % WEEK) as usize];
     let mut at = (minute % WEEK) as usize;
     let mut count: u64 = 0;
-    let mut k: u64 = 0;
-    while k < minutes {
+    for _k in 0..minutes {
         let bits = week[at];
         count += count_changes(before, bits);
         before = bits;
         at = next_minute(at);
-        k += 1;
     }
     count
 }

@@ -2,6 +2,7 @@
 use mathlib.Core.Path.{◌≡◌, refl, sym, ◌∙◌}
 use mathlib.Core.Bool.{true, false}
 use mathlib.Core.Option.{none, some}
+use Rattle.std.specs.Prelude.{Some, None}
 use Prim.Native.Nat.{ℕ, min}
 use native.Mathlib.Omega.{arith}
 use lib.ListN.{drop}
@@ -18,7 +19,6 @@ use Rattle.schedule.specs.Calendar.{Date, is_real_date}
 use Rattle.schedule.specs.Form.{date_fields, read_date}
 use Rattle.schedule_calendar.proofs.Dates.{real_date}
 use Rattle.schedule_lines.specs.Lines.{as_date_line, date_answer}
-use Rattle.schedule_lines.specs.declared.DateLine.TheVariants as DV
 use Rattle.schedule_lines.proofs.Fields.{Numbered, number_on, number_unread, end_shut, end_open, is_capped, below_cap}
 
 abbrev date : ℕ → ℕ → ℕ → Date
@@ -36,22 +36,22 @@ module _ (s : Bytes) (p : Place) where
   unfolding fields_left end_stop end_next read_date
   date_said = refl
 
-  date_bad : date_fields (fields_left 9 (drop p.offset s)) ≡ none → DV.Bad ≡ date_answer s p
+  date_bad : date_fields (fields_left 9 (drop p.offset s)) ≡ none → None ≡ date_answer s p
   date_bad e = sym (date_said ∙ rw e)
 
-  pub year_none : NV.Bad ≡ number_answer s p 9 → DV.Bad ≡ date_answer s p
+  pub year_none : NV.Bad ≡ number_answer s p 9 → None ≡ date_answer s p
   year_none e = date_bad (number_unread s p 9 e _)
 
   module _ {y b1 : ℕ} {p1 : Place} (n1 : Numbered s p 9 y b1 p1) where
-    pub month_none : NV.Bad ≡ number_answer s p1 b1 → DV.Bad ≡ date_answer s p
+    pub month_none : NV.Bad ≡ number_answer s p1 b1 → None ≡ date_answer s p
     month_none e = date_bad (number_on s p 9 n1.1 _ ∙ number_unread s p1 b1 e _)
 
     module _ {m b2 : ℕ} {p2 : Place} (n2 : Numbered s p1 b1 m b2 p2) where
-      pub day_none : NV.Bad ≡ number_answer s p2 b2 → DV.Bad ≡ date_answer s p
+      pub day_none : NV.Bad ≡ number_answer s p2 b2 → None ≡ date_answer s p
       day_none e = date_bad (number_on s p 9 n1.1 _ ∙ number_on s p1 b1 n2.1 _ ∙ number_unread s p2 b2 e _)
 
       module _ {d b3 : ℕ} {p3 : Place} (n3 : Numbered s p2 b2 d b3 p3) where
-        pub more_fields : b3 ≡ 9 → DV.Bad ≡ date_answer s p
+        pub more_fields : b3 ≡ 9 → None ≡ date_answer s p
         more_fields e = date_bad (number_on s p 9 n1.1 _ ∙ number_on s p1 b1 n2.1 _ ∙ number_on s p2 b2 n3.1 _ ∙ end_open s p3 b3 _ e)
 
         module _ (shut : b3 ≡ 9 → ⊥) where
@@ -61,12 +61,12 @@ module _ (s : Bytes) (p : Place) where
           real_as_read : is_real_date (date y m d) ≡ is_real_date (date n1.0 n2.0 n3.0)
           real_as_read = rw (n1.2, n2.2, n3.2) (capped_date n1.0 n2.0 n3.0)
 
-          pub date_unreal : is_real_date (date y m d) ≡ false → DV.Bad ≡ date_answer s p
+          pub date_unreal : is_real_date (date y m d) ≡ false → None ≡ date_answer s p
           date_unreal e =
               let no : is_real_date (date n1.0 n2.0 n3.0) ≡ false = sym real_as_read ∙ e in
               sym (date_said ∙ rw (fields_are, no))
 
-          pub date_read : is_real_date (date y m d) ≡ true → DV.Read y m d b3 p3 ≡ date_answer s p
+          pub date_read : is_real_date (date y m d) ≡ true → Some (record { date = date y m d; stop = b3; next = p3 }) ≡ date_answer s p
           date_read e =
               let yes : is_real_date (date n1.0 n2.0 n3.0) ≡ true = sym real_as_read ∙ e in
               let real = real_date n1.0 n2.0 n3.0 yes in

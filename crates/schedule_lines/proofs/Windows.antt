@@ -2,6 +2,7 @@
 use mathlib.Core.Path.{◌≡◌, refl, sym, ◌∙◌}
 use mathlib.Core.Bool.{true, false}
 use mathlib.Core.Option.{none, some}
+use Rattle.std.specs.Prelude.{Some, None}
 use Prim.Native.Nat.{ℕ, min}
 use native.Mathlib.Omega.{arith}
 use lib.ListN.{drop}
@@ -18,7 +19,6 @@ use Rattle.schedule.specs.Schedule.{Window, is_window}
 use Rattle.schedule.specs.Form.{window_fields, read_window}
 use Rattle.schedule_laws.proofs.Windows.{window_numbers}
 use Rattle.schedule_lines.specs.Lines.{as_window_line, window_answer}
-use Rattle.schedule_lines.specs.declared.WindowLine.TheVariants as WV
 use Rattle.schedule_lines.proofs.Fields.{Numbered, number_on, number_unread, end_shut, end_open, is_capped, below_cap}
 
 abbrev window : ℕ → ℕ → ℕ → ℕ → Window
@@ -37,26 +37,26 @@ module _ (s : Bytes) (p : Place) where
   unfolding fields_left end_stop end_next read_window
   window_said = refl
 
-  window_bad : window_fields (fields_left 9 (drop p.offset s)) ≡ none → WV.Bad ≡ window_answer s p
+  window_bad : window_fields (fields_left 9 (drop p.offset s)) ≡ none → None ≡ window_answer s p
   window_bad e = sym (window_said ∙ rw e)
 
-  pub input_none : NV.Bad ≡ number_answer s p 9 → WV.Bad ≡ window_answer s p
+  pub input_none : NV.Bad ≡ number_answer s p 9 → None ≡ window_answer s p
   input_none e = window_bad (number_unread s p 9 e _)
 
   module _ {i b1 : ℕ} {p1 : Place} (n1 : Numbered s p 9 i b1 p1) where
-    pub weekday_none : NV.Bad ≡ number_answer s p1 b1 → WV.Bad ≡ window_answer s p
+    pub weekday_none : NV.Bad ≡ number_answer s p1 b1 → None ≡ window_answer s p
     weekday_none e = window_bad (number_on s p 9 n1.1 _ ∙ number_unread s p1 b1 e _)
 
     module _ {w b2 : ℕ} {p2 : Place} (n2 : Numbered s p1 b1 w b2 p2) where
-      pub opening_none : NV.Bad ≡ number_answer s p2 b2 → WV.Bad ≡ window_answer s p
+      pub opening_none : NV.Bad ≡ number_answer s p2 b2 → None ≡ window_answer s p
       opening_none e = window_bad (number_on s p 9 n1.1 _ ∙ number_on s p1 b1 n2.1 _ ∙ number_unread s p2 b2 e _)
 
       module _ {o b3 : ℕ} {p3 : Place} (n3 : Numbered s p2 b2 o b3 p3) where
-        pub closing_none : NV.Bad ≡ number_answer s p3 b3 → WV.Bad ≡ window_answer s p
+        pub closing_none : NV.Bad ≡ number_answer s p3 b3 → None ≡ window_answer s p
         closing_none e = window_bad (number_on s p 9 n1.1 _ ∙ number_on s p1 b1 n2.1 _ ∙ number_on s p2 b2 n3.1 _ ∙ number_unread s p3 b3 e _)
 
         module _ {c b4 : ℕ} {p4 : Place} (n4 : Numbered s p3 b3 c b4 p4) where
-          pub more_fields : b4 ≡ 9 → WV.Bad ≡ window_answer s p
+          pub more_fields : b4 ≡ 9 → None ≡ window_answer s p
           more_fields e = window_bad (number_on s p 9 n1.1 _ ∙ number_on s p1 b1 n2.1 _ ∙ number_on s p2 b2 n3.1 _ ∙ number_on s p3 b3 n4.1 _ ∙ end_open s p4 b4 _ e)
 
           module _ (shut : b4 ≡ 9 → ⊥) where
@@ -66,12 +66,12 @@ module _ (s : Bytes) (p : Place) where
             test_as_read : is_window (window i w o c) ≡ is_window (window n1.0 n2.0 n3.0 n4.0)
             test_as_read = rw (n1.2, n2.2, n3.2, n4.2) (capped_window n1.0 n2.0 n3.0 n4.0)
 
-            pub no_window_lem : is_window (window i w o c) ≡ false → WV.Bad ≡ window_answer s p
+            pub no_window_lem : is_window (window i w o c) ≡ false → None ≡ window_answer s p
             no_window_lem e =
                 let no : is_window (window n1.0 n2.0 n3.0 n4.0) ≡ false = sym test_as_read ∙ e in
                 sym (window_said ∙ rw (fields_are, no))
 
-            pub window_read : is_window (window i w o c) ≡ true → WV.Read i w o c b4 p4 ≡ window_answer s p
+            pub window_read : is_window (window i w o c) ≡ true → Some (record { window = window i w o c; stop = b4; next = p4 }) ≡ window_answer s p
             window_read e =
                 let yes : is_window (window n1.0 n2.0 n3.0 n4.0) ≡ true = sym test_as_read ∙ e in
                 let real = window_numbers (window n1.0 n2.0 n3.0 n4.0) yes in

@@ -1,6 +1,7 @@
 -- What the reader gives for a line of a schedule: the definitions' reading of it, and what closes it.
 use Rattle.std.proofs.Math.Option.{Option, none, some}
-use Rattle.std.specs.Prelude.{ℕ, get_or, drop}
+use Rattle.std.specs.Prelude as Prelude
+use Rattle.std.specs.Prelude.{Some, None, ℕ, get_or, drop}
 use Rattle.listing.specs.Bytes.{Bytes}
 use Rattle.text_place.specs.Texts.{first_line, line_end}
 use Rattle.text_place.specs.Places.{passed}
@@ -9,21 +10,19 @@ use Rattle.schedule.specs.Calendar.{Date}
 use Rattle.schedule.specs.Schedule.{Window}
 use Rattle.schedule.specs.Form as F
 use Rattle.schedule_lines.specs.declared.DateLine.{DateLine}
-use Rattle.schedule_lines.specs.declared.DateLine.TheVariants as DV
 use Rattle.schedule_lines.specs.declared.WindowLine.{WindowLine}
-use Rattle.schedule_lines.specs.declared.WindowLine.TheVariants as WV
 
-abbrev pub as_date_line : Option Date → ℕ → Place → DateLine
-as_date_line none stop next = DV.Bad
-as_date_line (some d) stop next = DV.Read d.year d.month d.day stop next
+abbrev pub as_date_line : Option Date → ℕ → Place → Prelude.Option DateLine
+as_date_line none stop next = None
+as_date_line (some d) stop next = Some (record { date = d; stop = stop; next = next })
 
-abbrev pub as_window_line : Option Window → ℕ → Place → WindowLine
-as_window_line none stop next = WV.Bad
-as_window_line (some w) stop next = WV.Read w.input w.weekday w.opening w.closing stop next
+abbrev pub as_window_line : Option Window → ℕ → Place → Prelude.Option WindowLine
+as_window_line none stop next = None
+as_window_line (some w) stop next = Some (record { window = w; stop = stop; next = next })
 
 -- the line at a place
-abbrev pub date_answer : Bytes → Place → DateLine
+abbrev pub date_answer : Bytes → Place → Prelude.Option DateLine
 date_answer s p = let end = line_end s p.offset in as_date_line (F.read_date (first_line (drop p.offset s))) (get_or s end 0) (passed s p.line end)
 
-abbrev pub window_answer : Bytes → Place → WindowLine
+abbrev pub window_answer : Bytes → Place → Prelude.Option WindowLine
 window_answer s p = let end = line_end s p.offset in as_window_line (F.read_window (first_line (drop p.offset s))) (get_or s end 0) (passed s p.line end)

@@ -8,6 +8,7 @@ ghost use Rattle.text_place.specs.Texts.{Within};
 ghost use Rattle.schedule.specs.Schedule.{is_window};
 ghost use Rattle.schedule_lines.specs.Lines.{date_answer, window_answer};
 
+use schedule::{Date, Window};
 use schedule_calendar::is_real_date;
 use text_fields::{Number, number_field};
 use text_place::Place;
@@ -18,86 +19,81 @@ const WEEKDAYS: u64 = 7;
 
 const DAY_MINUTES: u64 = 1440;
 
-// A real date, the byte that closes its line, 0 at the end of the text, and the place past it.
+// The date's line: a real date, the byte that closes the line, 0 at the end of the text, and the place past it.
 #[derive(Clone, Copy)]
-pub enum DateLine {
-    // year, month, day
-    Read(u64, u64, u64, u8, Place),
-    Bad,
+pub struct DateLine {
+    pub date: Date,
+    pub stop: u8,
+    pub next: Place,
 }
 
-// A window, the byte that closes its line, 0 at the end of the text, and the place past it.
+// A window's line: the window, the byte that closes the line, 0 at the end of the text, and the place past it.
 #[derive(Clone, Copy)]
-pub enum WindowLine {
-    // input, weekday, opening and closing minute
-    Read(u64, u64, u64, u64, u8, Place),
-    Bad,
+pub struct WindowLine {
+    pub window: Window,
+    pub stop: u8,
+    pub next: Place,
 }
 
 // "an input below 16, and a real .. minute"
-pub fn is_window(input: u64, weekday: u64, opening: u64, closing: u64) -> bool
-    ensures { result ≡ is_window (record { input = input; weekday = weekday; opening = opening; closing = closing }) }
+pub fn is_window(window: Window) -> bool
+    ensures { result ≡ is_window window }
 {
-    if input >= INPUTS {
+    if window.input >= INPUTS {
         return false;
     }
-    if weekday < 1 {
+    if window.weekday < 1 || window.weekday > WEEKDAYS {
         return false;
     }
-    if weekday > WEEKDAYS {
-        return false;
-    }
-    if opening >= closing {
-        return false;
-    }
-    closing <= DAY_MINUTES
+    window.opening < window.closing && window.closing <= DAY_MINUTES
 }
 
 // The date's line, at a place.
-pub fn read_date(s: &[u8], place: Place) -> DateLine
+pub fn read_date(s: &[u8], place: Place) -> Option<DateLine>
     requires { Within s.now place.offset place.line }
     ensures { result ≡ date_answer s.now place }
 {
     let Number::Read(year, b1, p1) = number_field(s, place, b'\t') else {
-        return DateLine::Bad;
+        return None;
     };
     let Number::Read(month, b2, p2) = number_field(s, p1, b1) else {
-        return DateLine::Bad;
+        return None;
     };
-    let Number::Read(day, b3, p3) = number_field(s, p2, b2) else {
-        return DateLine::Bad;
+    let Number::Read(day, stop, next) = number_field(s, p2, b2) else {
+        return None;
     };
-    if b3 == b'\t' {
-        return DateLine::Bad;
+    let date = Date { year, month, day };
+    if stop == b'\t' || !is_real_date(date) {
+        return None;
     }
-    if is_real_date(year, month, day) {
-        return DateLine::Read(year, month, day, b3, p3);
-    }
-    DateLine::Bad
+    Some(DateLine { date, stop, next })
 }
 
 // A window's line, at a place.
-pub fn read_window(s: &[u8], place: Place) -> WindowLine
+pub fn read_window(s: &[u8], place: Place) -> Option<WindowLine>
     requires { Within s.now place.offset place.line }
     ensures { result ≡ window_answer s.now place }
 {
     let Number::Read(input, b1, p1) = number_field(s, place, b'\t') else {
-        return WindowLine::Bad;
+        return None;
     };
     let Number::Read(weekday, b2, p2) = number_field(s, p1, b1) else {
-        return WindowLine::Bad;
+        return None;
     };
     let Number::Read(opening, b3, p3) = number_field(s, p2, b2) else {
-        return WindowLine::Bad;
+        return None;
     };
-    let Number::Read(closing, b4, p4) = number_field(s, p3, b3) else {
-        return WindowLine::Bad;
+    let Number::Read(closing, stop, next) = number_field(s, p3, b3) else {
+        return None;
     };
-    if b4 == b'\t' {
-        return WindowLine::Bad;
+    let window = Window {
+        input,
+        weekday,
+        opening,
+        closing,
+    };
+    if stop == b'\t' || !is_window(window) {
+        return None;
     }
-    if is_window(input, weekday, opening, closing) {
-        return WindowLine::Read(input, weekday, opening, closing, b4, p4);
-    }
-    WindowLine::Bad
+    Some(WindowLine { window, stop, next })
 }

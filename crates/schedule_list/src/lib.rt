@@ -51,12 +51,10 @@ fn list_changes(
         moments.new inputs.new values.new result }
 {
     let mut next = place;
-    let mut input: u64 = 0;
-    while input < INPUTS {
+    for input in 0..INPUTS {
         let was = bit_of(before, input);
         let is = bit_of(at, input);
         next = list_change(moment, input, was, is, next, moments, inputs, values);
-        input += 1;
     }
     next
 }
@@ -105,13 +103,11 @@ fn list_minutes(
     let mut before = week[((minute - 1) % WEEK) as usize];
     let mut at = (minute % WEEK) as usize;
     let mut place: usize = 0;
-    let mut k: u64 = 0;
-    while k < minutes {
+    for k in 0..minutes {
         let bits = week[at];
         place = list_minute(first, k, before, bits, place, moments, inputs, values);
         before = bits;
         at = next_minute(at);
-        k += 1;
     }
     place
 }
@@ -161,9 +157,7 @@ pub fn list_edges(
         return;
     }
     let weekly = list_minutes(week, first, WEEK, moments, inputs, values);
-    let mut place = weekly;
-    while place < total {
+    for place in weekly..total {
         list_again(place - weekly, place, moments, inputs, values);
-        place += 1;
     }
 }

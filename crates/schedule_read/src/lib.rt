@@ -7,7 +7,7 @@ ghost use Rattle.text_place.specs.Texts.{Within};
 ghost use Rattle.schedule_read.specs.Reading.{Reads, ReadsWindows};
 
 use schedule_calendar::weekday_of;
-use schedule_lines::{DateLine, WindowLine, read_date, read_window};
+use schedule_lines::{read_date, read_window};
 use schedule_week::mark_window;
 use text_place::Place;
 
@@ -16,24 +16,16 @@ fn read_windows(s: &[u8], place: Place, first: u64, week: &mut [u16]) -> usize
     requires { Within s.now place.offset place.line × (1 ≤ place.line) × (1 ≤ first) × (first ≤ 7) × (week.old ≡ replicate 10080 0) }
     ensures { ReadsWindows s.now place first week.new result }
 {
-    let mut at = place.offset;
-    let mut line = place.line;
-    while at < s.len() {
-        let WindowLine::Read(input, weekday, opening, closing, stop, next) = read_window(
-            s,
-            Place {
-                offset: at,
-                line: line,
-            },
-        ) else {
-            return line;
+    let mut at = place;
+    while at.offset < s.len() {
+        let Some(read) = read_window(s, at) else {
+            return at.line;
         };
-        if stop != b'\n' {
-            return line;
+        if read.stop != b'\n' {
+            return at.line;
         }
-        mark_window(week, first, input, weekday, opening, closing);
-        at = next.offset;
-        line = next.line;
+        mark_window(week, first, read.window);
+        at = read.next;
     }
     0
 }
@@ -43,13 +35,11 @@ pub fn read_schedule(s: &[u8], week: &mut [u16]) -> usize
     requires { week.old ≡ replicate 10080 0 }
     ensures { Reads s.now week.new result }
 {
-    let DateLine::Read(year, month, day, stop, next) = read_date(s, Place { offset: 0, line: 1 })
-    else {
+    let Some(read) = read_date(s, Place { offset: 0, line: 1 }) else {
         return 1;
     };
-    if stop != b'\n' {
+    if read.stop != b'\n' {
         return 1;
     }
-    let first = weekday_of(year, month, day);
-    read_windows(s, next, first, week)
+    read_windows(s, read.next, weekday_of(read.date), week)
 }

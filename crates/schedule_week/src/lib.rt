@@ -6,6 +6,8 @@ ghost use Rattle.std.specs.Prelude.{true, ◌≡◌, ◌<◌, ◌≤◌, length}
 ghost use Rattle.schedule.specs.Schedule.{is_window};
 ghost use Rattle.schedule_week.specs.Week.{Marked, begin_of, end_of};
 
+use schedule::Window;
+
 const DAY_MINUTES: u64 = 1440;
 
 // Marks an input as open from one minute up to another.
@@ -14,32 +16,21 @@ fn mark_minutes(week: &mut [u16], input: u64, from: usize, to: usize)
     ensures { Marked input from to week.old week.new }
 {
     let bit: u16 = 1 << input;
-    let mut minute = from;
-    while minute < to {
-        week[minute] = week[minute] | bit;
-        minute += 1;
+    for minute in from..to {
+        week[minute] |= bit;
     }
 }
 
 // Marks a window in the week of a schedule whose moment 0 falls on the weekday `first`.
-pub fn mark_window(
-    week: &mut [u16],
-    first: u64,
-    input: u64,
-    weekday: u64,
-    opening: u64,
-    closing: u64,
-)
-    requires { (1 ≤ first) × (first ≤ 7) × (is_window (record { input = input; weekday = weekday; opening = opening; closing = closing }) ≡ true)
-        × (length week.old ≡ 10080) }
-    ensures { Marked input (begin_of first (record { input = input; weekday = weekday; opening = opening; closing = closing }))
-        (end_of first (record { input = input; weekday = weekday; opening = opening; closing = closing })) week.old week.new }
+pub fn mark_window(week: &mut [u16], first: u64, window: Window)
+    requires { (1 ≤ first) × (first ≤ 7) × (is_window window ≡ true) × (length week.old ≡ 10080) }
+    ensures { Marked window.input (begin_of first window) (end_of first window) week.old week.new }
 {
-    let midnight = (weekday + 7 - first) % 7 * DAY_MINUTES;
+    let midnight = (window.weekday + 7 - first) % 7 * DAY_MINUTES;
     mark_minutes(
         week,
-        input,
-        (midnight + opening) as usize,
-        (midnight + closing) as usize,
+        window.input,
+        (midnight + window.opening) as usize,
+        (midnight + window.closing) as usize,
     );
 }

@@ -25,6 +25,6 @@ pub returns : goal.returns
 unfolding weekday_after day_number
 returns c =
     let a = c.args in
-    let number : 5 + (c.days_of_years.result + c.days_of_months.result + (a.day - 1))
-    ≡ 5 + (days_of_years (a.year - 2000) + days_of_months a.year (a.month - 1) + (a.day - 1)) + 0 = omega arith in
+    let number : 5 + (c.days_of_years.result + c.days_of_months.result + (a.date.day - 1))
+    ≡ 5 + (days_of_years (a.date.year - 2000) + days_of_months a.date.year (a.date.month - 1) + (a.date.day - 1)) + 0 = omega arith in
     (ap (λ (n : ℕ). 1 + n % 7) number, omega arith, omega arith)

@@ -1,12 +1,8 @@
 use mathlib.Core.Path.{◌≡◌}
-use Prim.Native.Nat.{◌-◌, ◌≤◌}
 use lib.ListN.{length}
 use Rattle.schedule_minutes.specs.Minutes.{minute_edges}
 use Rattle.schedule_minutes.proofs.Walking.{Stands}
 use Rattle.schedule_count.proofs.count_minutes.Given as goal
 
 abbrev pub invariant-loop-k : goal.invariant-loop-k
-invariant-loop-k l = (l.k ≤ l.minutes) × Stands l.week l.minute l.k l.before l.at × (l.count ≡ length (minute_edges l.week l.minute l.k))
-
-abbrev pub decreases-loop-k : goal.decreases-loop-k
-decreases-loop-k l = l.minutes - l.k
+invariant-loop-k l = Stands l.week l.minute l._k l.before l.at × (l.count ≡ length (minute_edges l.week l.minute l._k))

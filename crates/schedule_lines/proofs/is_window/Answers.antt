@@ -2,23 +2,24 @@
 use borrow.Author.Tests.{lt-ltb, le-ltb, le-leb, lt-leb}
 use Rattle.schedule.specs.Schedule.{is_window}
 use Rattle.schedule_lines.proofs.is_window.Goals as goal
+use Rattle.schedule_lines.proofs.is_window.Goals.{then-window-lt1-via-then-window-lt1, then-window-lt1-via-else-window-lt1+then-window-gt-WEEKDAYS}
 
-pub returns-then-input-ge-INPUTS : goal.returns-then-input-ge-INPUTS
+pub returns-then-window-ge-INPUTS : goal.returns-then-window-ge-INPUTS
 unfolding is_window
-returns-then-input-ge-INPUTS c = rw (le-ltb _ 16 c.if-input-ge-INPUTS.true)
+returns-then-window-ge-INPUTS c = rw (le-ltb _ 16 c.if-window-ge-INPUTS.true)
 
-pub returns-then-weekday-lt1 : goal.returns-then-weekday-lt1
+pub returns-then-window-lt1 : goal.returns-then-window-lt1
 unfolding is_window
-returns-then-weekday-lt1 c = rw (lt-ltb _ 16 c.if-input-ge-INPUTS.false, lt-leb 1 _ c.if-weekday-lt1.true)
+returns-then-window-lt1 c =
+    elim c.then-window-lt1.branch [
+      | then-window-lt1-via-then-window-lt1 w ↦ rw (lt-ltb _ 16 c.if-window-ge-INPUTS.false, lt-leb 1 _ w.if-window-lt1.true)
+      | then-window-lt1-via-else-window-lt1+then-window-gt-WEEKDAYS w ↦ rw (lt-ltb _ 16 c.if-window-ge-INPUTS.false, le-leb 1 _ w.if-window-lt1.false, lt-leb _ 7 w.if-window-gt-WEEKDAYS.true)
+    ]
 
-pub returns-then-weekday-gt-WEEKDAYS : goal.returns-then-weekday-gt-WEEKDAYS
+pub returns-then-window : goal.returns-then-window
 unfolding is_window
-returns-then-weekday-gt-WEEKDAYS c = rw (lt-ltb _ 16 c.if-input-ge-INPUTS.false, le-leb 1 _ c.if-weekday-lt1.false, lt-leb _ 7 c.if-weekday-gt-WEEKDAYS.true)
+returns-then-window c = rw (lt-ltb _ 16 c.if-window-ge-INPUTS.false, le-leb 1 _ c.if-window-lt1.false, le-leb _ 7 c.if-window-gt-WEEKDAYS.false, lt-ltb _ _ c.if-window.true)
 
-pub returns-then-opening-closing : goal.returns-then-opening-closing
+pub returns-else-window : goal.returns-else-window
 unfolding is_window
-returns-then-opening-closing c = rw (lt-ltb _ 16 c.if-input-ge-INPUTS.false, le-leb 1 _ c.if-weekday-lt1.false, le-leb _ 7 c.if-weekday-gt-WEEKDAYS.false, le-ltb _ _ c.if-opening-closing.true)
-
-pub returns : goal.returns
-unfolding is_window
-returns c = rw (lt-ltb _ 16 c.if-input-ge-INPUTS.false, le-leb 1 _ c.if-weekday-lt1.false, le-leb _ 7 c.if-weekday-gt-WEEKDAYS.false, lt-ltb _ _ c.if-opening-closing.false)
+returns-else-window c = rw (lt-ltb _ 16 c.if-window-ge-INPUTS.false, le-leb 1 _ c.if-window-lt1.false, le-leb _ 7 c.if-window-gt-WEEKDAYS.false, le-ltb _ _ c.if-window.false)

@@ -4,6 +4,7 @@ use Rattle.text_jumps.proofs.Chain.{number_got}
 use Rattle.schedule_lines.proofs.Fields.{Numbered}
 use Rattle.schedule_lines.proofs.Windows as windows
 use Rattle.schedule_lines.proofs.read_window.Goals as goal
+use Rattle.schedule_lines.proofs.read_window.Goals.{then-stop-eq9-via-then-stop-eq9, then-stop-eq9-via-else-stop-eq9+then-not-is_window}
 
 pub returns-in_default : goal.returns-in_default
 returns-in_default c =
@@ -46,26 +47,21 @@ returns-in_default-number_field-3 c =
     let opening : Numbered c.args.s.now c.in-Read-number_field.p2 c.in-Read-number_field.b2 c.in-Read-number_field-2.opening c.in-Read-number_field-2.b3 c.in-Read-number_field-2.p3 = number_got _ _ _ weekday.1.within _ _ _ (sym c.in-Read-number_field-2.is ∙ c.number_field-3.ensures) in
     windows.closing_none _ _ input weekday opening (sym c.in_default-number_field-3.is ∙ c.number_field-4.ensures)
 
-pub returns-then-b4-eq9 : goal.returns-then-b4-eq9
-returns-then-b4-eq9 c =
+pub returns-then-stop-eq9 : goal.returns-then-stop-eq9
+returns-then-stop-eq9 c =
     let input : Numbered c.args.s.now c.args.place 9 c.in-Read.input c.in-Read.b1 c.in-Read.p1 = number_got _ _ _ c.requires _ _ _ (sym c.in-Read.is ∙ c.number_field.ensures) in
     let weekday : Numbered c.args.s.now c.in-Read.p1 c.in-Read.b1 c.in-Read-number_field.weekday c.in-Read-number_field.b2 c.in-Read-number_field.p2 = number_got _ _ _ input.1.within _ _ _ (sym c.in-Read-number_field.is ∙ c.number_field-2.ensures) in
     let opening : Numbered c.args.s.now c.in-Read-number_field.p2 c.in-Read-number_field.b2 c.in-Read-number_field-2.opening c.in-Read-number_field-2.b3 c.in-Read-number_field-2.p3 = number_got _ _ _ weekday.1.within _ _ _ (sym c.in-Read-number_field-2.is ∙ c.number_field-3.ensures) in
-    let closing : Numbered c.args.s.now c.in-Read-number_field-2.p3 c.in-Read-number_field-2.b3 c.in-Read-number_field-3.closing c.in-Read-number_field-3.b4 c.in-Read-number_field-3.p4 = number_got _ _ _ opening.1.within _ _ _ (sym c.in-Read-number_field-3.is ∙ c.number_field-4.ensures) in
-    windows.more_fields _ _ input weekday opening closing c.if-b4-eq9.true
-
-pub returns-then-is_window : goal.returns-then-is_window
-returns-then-is_window c =
-    let input : Numbered c.args.s.now c.args.place 9 c.in-Read.input c.in-Read.b1 c.in-Read.p1 = number_got _ _ _ c.requires _ _ _ (sym c.in-Read.is ∙ c.number_field.ensures) in
-    let weekday : Numbered c.args.s.now c.in-Read.p1 c.in-Read.b1 c.in-Read-number_field.weekday c.in-Read-number_field.b2 c.in-Read-number_field.p2 = number_got _ _ _ input.1.within _ _ _ (sym c.in-Read-number_field.is ∙ c.number_field-2.ensures) in
-    let opening : Numbered c.args.s.now c.in-Read-number_field.p2 c.in-Read-number_field.b2 c.in-Read-number_field-2.opening c.in-Read-number_field-2.b3 c.in-Read-number_field-2.p3 = number_got _ _ _ weekday.1.within _ _ _ (sym c.in-Read-number_field-2.is ∙ c.number_field-3.ensures) in
-    let closing : Numbered c.args.s.now c.in-Read-number_field-2.p3 c.in-Read-number_field-2.b3 c.in-Read-number_field-3.closing c.in-Read-number_field-3.b4 c.in-Read-number_field-3.p4 = number_got _ _ _ opening.1.within _ _ _ (sym c.in-Read-number_field-3.is ∙ c.number_field-4.ensures) in
-    windows.window_read _ _ input weekday opening closing c.if-b4-eq9.false (sym c.is_window.ensures ∙ c.if-is_window.true)
+    let closing : Numbered c.args.s.now c.in-Read-number_field-2.p3 c.in-Read-number_field-2.b3 c.in-Read-number_field-3.closing c.in-Read-number_field-3.stop c.in-Read-number_field-3.next = number_got _ _ _ opening.1.within _ _ _ (sym c.in-Read-number_field-3.is ∙ c.number_field-4.ensures) in
+    elim c.then-stop-eq9.branch [
+      | then-stop-eq9-via-then-stop-eq9 w ↦ windows.more_fields _ _ input weekday opening closing w.if-stop-eq9.true
+      | then-stop-eq9-via-else-stop-eq9+then-not-is_window w ↦ windows.no_window_lem _ _ input weekday opening closing w.if-stop-eq9.false (sym w.is_window.ensures ∙ w.if-not-is_window.true)
+    ]
 
 pub returns : goal.returns
 returns c =
     let input : Numbered c.args.s.now c.args.place 9 c.in-Read.input c.in-Read.b1 c.in-Read.p1 = number_got _ _ _ c.requires _ _ _ (sym c.in-Read.is ∙ c.number_field.ensures) in
     let weekday : Numbered c.args.s.now c.in-Read.p1 c.in-Read.b1 c.in-Read-number_field.weekday c.in-Read-number_field.b2 c.in-Read-number_field.p2 = number_got _ _ _ input.1.within _ _ _ (sym c.in-Read-number_field.is ∙ c.number_field-2.ensures) in
     let opening : Numbered c.args.s.now c.in-Read-number_field.p2 c.in-Read-number_field.b2 c.in-Read-number_field-2.opening c.in-Read-number_field-2.b3 c.in-Read-number_field-2.p3 = number_got _ _ _ weekday.1.within _ _ _ (sym c.in-Read-number_field-2.is ∙ c.number_field-3.ensures) in
-    let closing : Numbered c.args.s.now c.in-Read-number_field-2.p3 c.in-Read-number_field-2.b3 c.in-Read-number_field-3.closing c.in-Read-number_field-3.b4 c.in-Read-number_field-3.p4 = number_got _ _ _ opening.1.within _ _ _ (sym c.in-Read-number_field-3.is ∙ c.number_field-4.ensures) in
-    windows.no_window_lem _ _ input weekday opening closing c.if-b4-eq9.false (sym c.is_window.ensures ∙ c.if-is_window.false)
+    let closing : Numbered c.args.s.now c.in-Read-number_field-2.p3 c.in-Read-number_field-2.b3 c.in-Read-number_field-3.closing c.in-Read-number_field-3.stop c.in-Read-number_field-3.next = number_got _ _ _ opening.1.within _ _ _ (sym c.in-Read-number_field-3.is ∙ c.number_field-4.ensures) in
+    windows.window_read _ _ input weekday opening closing c.if-stop-eq9.false (sym c.is_window.ensures ∙ c.if-not-is_window.false)

@@ -6,7 +6,7 @@ use Rattle.schedule_list.proofs.Lists as lists
 use Rattle.schedule_list.proofs.list_changes.Goals as goal
 
 pub loop-input-init : goal.loop-input-init
-loop-input-init c = (omega arith, rw (no_changes _ _ _) (lists.written_none _ _ _ _))
+loop-input-init c = rw (no_changes _ _ _) (lists.written_none _ _ _ _)
 
 pub list_change-next-requires : goal.list_change-next-requires
 list_change-next-requires c =
@@ -14,7 +14,7 @@ list_change-next-requires c =
     let a = c.args in
     let p = c.bit_of-was.ensures in
     let q = c.bit_of-is.ensures in
-    (omega arith, omega (arith, p), omega (arith, q), lists.change_fits a.moment a.before a.at v.input _ _ (omega arith) p q v.invariant.1 c.requires)
+    (omega arith, omega (arith, p), omega (arith, q), lists.change_fits a.moment a.before a.at v.input _ _ (omega arith) p q v.invariant c.requires)
 
 pub loop-input-preserved : goal.loop-input-preserved
 loop-input-preserved c =
@@ -22,19 +22,10 @@ loop-input-preserved c =
     let a = c.args in
     let p = c.bit_of-was.ensures in
     let q = c.bit_of-is.ensures in
-    (omega arith, lists.changes_written a.moment a.before a.at v.input _ _ (omega arith) p q v.invariant.1 c.list_change-next.ensures)
-
-pub shape_of-moments : goal.shape_of-moments
-shape_of-moments c = lists.moments_size c.loop-input.invariant.1
-
-pub shape_of-inputs : goal.shape_of-inputs
-shape_of-inputs c = lists.inputs_size c.loop-input.invariant.1
-
-pub shape_of-values : goal.shape_of-values
-shape_of-values c = lists.values_size c.loop-input.invariant.1
+    lists.changes_written a.moment a.before a.at v.input _ _ (omega arith) p q v.invariant c.list_change-next.ensures
 
 pub returns : goal.returns
 returns c =
     let v = c.loop-input in
     let e : v.input ≡ 16 = omega arith in
-    rw e at v.invariant.1
+    rw e at v.invariant

@@ -13,15 +13,6 @@ use Rattle.schedule_list.proofs.list_edges.Goals as goal
 pub list_minutes-requires : goal.list_minutes-requires
 list_minutes-requires c = let p = c.requires in (p.0, p.1, p.2, omega arith, p.3, p.5)
 
-pub shape_of-moments-then-minutes-le-WEEK : goal.shape_of-moments-then-minutes-le-WEEK
-shape_of-moments-then-minutes-le-WEEK c = lists.moments_size c.list_minutes.ensures
-
-pub shape_of-inputs-then-minutes-le-WEEK : goal.shape_of-inputs-then-minutes-le-WEEK
-shape_of-inputs-then-minutes-le-WEEK c = lists.inputs_size c.list_minutes.ensures
-
-pub shape_of-values-then-minutes-le-WEEK : goal.shape_of-values-then-minutes-le-WEEK
-shape_of-values-then-minutes-le-WEEK c = lists.values_size c.list_minutes.ensures
-
 pub returns-then-minutes-le-WEEK : goal.returns-then-minutes-le-WEEK
 returns-then-minutes-le-WEEK c = lists.written_all c.list_minutes.ensures c.args.total c.requires.4
 
@@ -31,12 +22,6 @@ list_minutes-weekly-requires c =
     let mono = minutes_mono c.args.week.now (c.args.first / 60000) 10080 c.args.minutes (omega arith) in
     (p.0, p.1, p.2, omega arith, omega arith, lists.fits_shorter {xs = minute_edges c.args.week.now (c.args.first / 60000) 10080} mono p.5)
 
-pub loop-place-init : goal.loop-place-init
-loop-place-init c =
-    let x = c.list_minutes-weekly.ensures in
-    let mono = minutes_mono c.args.week.now (c.args.first / 60000) 10080 c.args.minutes (omega arith) in
-    (omega arith, omega (arith, x.next_is_lem, c.requires.4), λ l k v w. w)
-
 pub list_again-requires : goal.list_again-requires
 list_again-requires c =
     let v = c.loop-place in
@@ -44,7 +29,7 @@ list_again-requires c =
     let a = c.args in
     let w = a.week.now in
     let e : c.list_minutes-weekly.result ≡ length (minute_edges w (a.first / 60000) 10080) = omega (arith, x.next_is_lem) in
-    let so_far = v.invariant.2 _ _ _ (weeks.week_written w (a.first / 60000) a.minutes c.requires.2 (omega arith) x) in
+    let so_far = v.invariant _ _ _ (weeks.week_written w (a.first / 60000) a.minutes c.requires.2 (omega arith) x) in
     rw e (weeks.again_fits w (a.first / 60000) a.minutes c.requires.2 (omega arith) (omega arith) v.place (omega arith) (omega (arith, c.requires.4)) c.requires.5 so_far)
 
 pub loop-place-preserved : goal.loop-place-preserved
@@ -55,43 +40,10 @@ loop-place-preserved c =
     let again = c.list_again.ensures in
     let r = c.list_minutes-weekly.result in
     let x = c.list_minutes-weekly.ensures in
-    let e : r ≡ length (minute_edges w (a.first / 60000) 10080) = omega (arith, x.next_is_lem) in (
-      omega arith,
-      omega arith,
-      λ l k u begun.
-          weeks.again_written w (a.first / 60000) a.minutes c.requires.2 (omega arith) (omega arith) v.place (omega arith) (omega (arith, c.requires.4))
-          (lists.fits_same {xs = minute_edges w (a.first / 60000) 10080} x begun c.requires.5) (v.invariant.2 l k u begun) (rw e at again.0) (rw e at again.1) (rw e at again.2),
-    )
-
-pub shape_of-moments : goal.shape_of-moments
-shape_of-moments c =
-    let v = c.loop-place in
-    let a = c.args in
-    let w = a.week.now in
-    let so_far = v.invariant.2 _ _ _ (weeks.week_written w (a.first / 60000) a.minutes c.requires.2 (omega arith) c.list_minutes-weekly.ensures) in
-    let e : v.place ≡ a.total = omega arith in
-    let f : take v.place (minute_edges w (a.first / 60000) a.minutes) ≡ minute_edges w (a.first / 60000) a.minutes = take_all v.place (minute_edges w (a.first / 60000) a.minutes) (omega (arith, c.requires.4)) in
-    lists.moments_size (lists.written_all (rw f at so_far) a.total c.requires.4)
-
-pub shape_of-inputs : goal.shape_of-inputs
-shape_of-inputs c =
-    let v = c.loop-place in
-    let a = c.args in
-    let w = a.week.now in
-    let so_far = v.invariant.2 _ _ _ (weeks.week_written w (a.first / 60000) a.minutes c.requires.2 (omega arith) c.list_minutes-weekly.ensures) in
-    let e : v.place ≡ a.total = omega arith in
-    let f : take v.place (minute_edges w (a.first / 60000) a.minutes) ≡ minute_edges w (a.first / 60000) a.minutes = take_all v.place (minute_edges w (a.first / 60000) a.minutes) (omega (arith, c.requires.4)) in
-    lists.inputs_size (lists.written_all (rw f at so_far) a.total c.requires.4)
-
-pub shape_of-values : goal.shape_of-values
-shape_of-values c =
-    let v = c.loop-place in
-    let a = c.args in
-    let w = a.week.now in
-    let so_far = v.invariant.2 _ _ _ (weeks.week_written w (a.first / 60000) a.minutes c.requires.2 (omega arith) c.list_minutes-weekly.ensures) in
-    let e : v.place ≡ a.total = omega arith in
-    let f : take v.place (minute_edges w (a.first / 60000) a.minutes) ≡ minute_edges w (a.first / 60000) a.minutes = take_all v.place (minute_edges w (a.first / 60000) a.minutes) (omega (arith, c.requires.4)) in
-    lists.values_size (lists.written_all (rw f at so_far) a.total c.requires.4)
+    let e : r ≡ length (minute_edges w (a.first / 60000) 10080) = omega (arith, x.next_is_lem) in
+    λ l k u begun.
+    weeks.again_written w (a.first / 60000) a.minutes c.requires.2 (omega arith) (omega arith) v.place (omega arith) (omega (arith, c.requires.4))
+    (lists.fits_same {xs = minute_edges w (a.first / 60000) 10080} x begun c.requires.5) (v.invariant l k u begun) (rw e at again.0) (rw e at again.1) (rw e at again.2)
 
 pub returns : goal.returns
 returns c =
@@ -99,7 +51,8 @@ returns c =
     let v = c.loop-place in
     let a = c.args in
     let w = a.week.now in
-    let so_far = v.invariant.2 _ _ _ (weeks.week_written w (a.first / 60000) a.minutes c.requires.2 (omega arith) c.list_minutes-weekly.ensures) in
-    let e : v.place ≡ a.total = omega arith in
+    let so_far = v.invariant _ _ _ (weeks.week_written w (a.first / 60000) a.minutes c.requires.2 (omega arith) c.list_minutes-weekly.ensures) in
+    let mono = minutes_mono w (a.first / 60000) 10080 a.minutes (omega arith) in
+    let e : v.place ≡ a.total = omega (arith, c.list_minutes-weekly.ensures.next_is_lem, c.requires.4) in
     let f : take v.place (minute_edges w (a.first / 60000) a.minutes) ≡ minute_edges w (a.first / 60000) a.minutes = take_all v.place (minute_edges w (a.first / 60000) a.minutes) (omega (arith, c.requires.4)) in
     lists.written_all (rw f at so_far) a.total c.requires.4

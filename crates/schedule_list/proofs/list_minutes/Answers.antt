@@ -8,44 +8,34 @@ use Rattle.schedule_list.proofs.Minutes as minutes
 use Rattle.schedule_list.proofs.list_minutes.Goals as goal
 
 pub loop-k-init : goal.loop-k-init
-loop-k-init c = (omega arith, stands_first _ _, rw (minutes_none _ _) (lists.written_none 0 _ _ _))
+loop-k-init c = (stands_first _ _, rw (minutes_none _ _) (lists.written_none 0 _ _ _))
 
 pub offset_bounds-week-at : goal.offset_bounds-week-at
-offset_bounds-week-at c = omega (arith, in_week _ _ _ _ _ c.loop-k.invariant.1)
+offset_bounds-week-at c = omega (arith, in_week _ _ _ _ _ c.loop-k.invariant.0)
 
 pub bounds-week-at : goal.bounds-week-at
-bounds-week-at c = omega (arith, in_week _ _ _ _ _ c.loop-k.invariant.1)
+bounds-week-at c = omega (arith, in_week _ _ _ _ _ c.loop-k.invariant.0)
 
 pub list_minute-place-requires : goal.list_minute-place-requires
 list_minute-place-requires c =
     let v = c.loop-k in
     let a = c.args in
-    (omega arith, omega arith, minutes.minute_fits a.week.now a.first v.k _ _ c.requires.1 v.invariant.1 v.invariant.2 a.minutes (omega arith) c.requires.5)
+    (omega arith, omega arith, minutes.minute_fits a.week.now a.first v.k _ _ c.requires.1 v.invariant.0 v.invariant.1 a.minutes (omega arith) c.requires.5)
 
 pub next_minute-at-requires : goal.next_minute-at-requires
-next_minute-at-requires c = in_week _ _ _ _ _ c.loop-k.invariant.1
+next_minute-at-requires c = in_week _ _ _ _ _ c.loop-k.invariant.0
 
 pub loop-k-preserved : goal.loop-k-preserved
 loop-k-preserved c =
     let v = c.loop-k in
     let a = c.args in
     let w = a.week.now in (
-      omega arith,
-      stands_next w _ v.k _ _ v.invariant.1 _ c.next_minute-at.ensures,
-      minutes.minute_written w a.first v.k _ _ c.requires.1 v.invariant.1 v.invariant.2 c.list_minute-place.ensures,
+      stands_next w _ v.k _ _ v.invariant.0 _ c.next_minute-at.ensures,
+      minutes.minute_written w a.first v.k _ _ c.requires.1 v.invariant.0 v.invariant.1 c.list_minute-place.ensures,
     )
-
-pub shape_of-moments : goal.shape_of-moments
-shape_of-moments c = lists.moments_size c.loop-k.invariant.2
-
-pub shape_of-inputs : goal.shape_of-inputs
-shape_of-inputs c = lists.inputs_size c.loop-k.invariant.2
-
-pub shape_of-values : goal.shape_of-values
-shape_of-values c = lists.values_size c.loop-k.invariant.2
 
 pub returns : goal.returns
 returns c =
     let v = c.loop-k in
     let e : v.k ≡ c.args.minutes = omega arith in
-    rw e at v.invariant.2
+    rw e at v.invariant.1

@@ -8,8 +8,8 @@ use denote.Enum.Declared.{tag_of}
 use Prim.Native.Nat.{ℕ, zero, suc, ◌+◌, ◌-◌, ◌≤◌, ◌<◌}
 use native.Mathlib.Numerals.{add-one}
 use native.Mathlib.Omega.{arith}
-use lib.ListN.{length, get_or, set, take, drop, length-set, length-append, drop_of_length-le}
-use lib.Seq.{take-suc-set, take_all, length-take-le}
+use lib.ListN.{length, get_or, set, take, drop, replicate, length-append, drop_of_length-le}
+use lib.Seq.{take_all, length-take-le}
 use Rattle.listing.specs.Bytes.{Bytes}
 use Rattle.walk.specs.Instant as Walk
 use Rattle.walk.specs.Calls.{inputs_of}
@@ -36,37 +36,34 @@ mapped_next f m l k h e = rw (e, add-one k) (mapped_so_far f m k h)
 pub mapped_all : (f : ℕ → ℕ) (m l : List ℕ) (k : ℕ) → length m ≤ k → l ≡ map f (take k m) ++ drop k m → l ≡ map f m
 mapped_all f m l k h e = e ∙ rw (take_all k m h, drop_of_length-le m {i = k} h) (append-nil (map f m))
 
--- ── one write more ────────────────────────────────────────────────────────────────────────────────
-writes_behind : (xs ys zs : List ℕ) (m o v : ℕ) → length xs ≡ length ys → length xs ≡ length zs →
-    writes_of (xs ++ (m ∷ [])) (ys ++ (o ∷ [])) (zs ++ (v ∷ [])) ≡ writes_of xs ys zs ++ (record { moment = m; output = o; value = v } ∷ [])
+-- ── the writes of one moment put behind others ────────────────────────────────────────────────────
+writes_joined : (xs ys zs xs' ys' zs' : List ℕ) → length xs ≡ length ys → length xs ≡ length zs →
+    writes_of (xs ++ xs') (ys ++ ys') (zs ++ zs') ≡ writes_of xs ys zs ++ writes_of xs' ys' zs'
 unfolding writes_of
-writes_behind [] [] [] m o v e f = refl
-writes_behind [] [] (z ∷ zs) m o v e f = absurd (omega arith)
-writes_behind [] (y ∷ ys) zs m o v e f = absurd (omega arith)
-writes_behind (x ∷ xs) [] zs m o v e f = absurd (omega arith)
-writes_behind (x ∷ xs) (y ∷ ys) [] m o v e f = absurd (omega arith)
-writes_behind (x ∷ xs) (y ∷ ys) (z ∷ zs) m o v e f =
-    ap (λ (l : List Write). record { moment = x; output = y; value = z } ∷ l) (writes_behind xs ys zs m o v (omega arith) (omega arith))
+writes_joined [] [] [] xs' ys' zs' e f = refl
+writes_joined [] [] (z ∷ zs) xs' ys' zs' e f = absurd (omega arith)
+writes_joined [] (y ∷ ys) zs xs' ys' zs' e f = absurd (omega arith)
+writes_joined (x ∷ xs) [] zs xs' ys' zs' e f = absurd (omega arith)
+writes_joined (x ∷ xs) (y ∷ ys) [] xs' ys' zs' e f = absurd (omega arith)
+writes_joined (x ∷ xs) (y ∷ ys) (z ∷ zs) xs' ys' zs' e f =
+    ap (λ (l : List Write). record { moment = x; output = y; value = z } ∷ l) (writes_joined xs ys zs xs' ys' zs' (omega arith) (omega arith))
 
--- one more in each list
-first_more : (n : ℕ) (ms os vs : List ℕ) (m o v : ℕ) → n < length ms → n < length os → n < length vs →
-    first_writes (n + 1) (set ms n m) (set os n o) (set vs n v) ≡ first_writes n ms os vs ++ (record { moment = m; output = o; value = v } ∷ [])
-first_more n ms os vs m o v a b c =
-    let x = length-take-le n ms (omega arith) in
-    let y = length-take-le n os (omega arith) in
-    let z = length-take-le n vs (omega arith) in
-    rw (add-one n, take-suc-set ms n m a, take-suc-set os n o b, take-suc-set vs n v c)
-    (writes_behind (take n ms) (take n os) (take n vs) m o v (x ∙ sym y) (x ∙ sym z))
+one_moment : (t : ℕ) (ns ws : List ℕ) → length ns ≡ length ws → writes_of (replicate (length ns) t) ns ws ≡ writes_of_moment t (inputs_of ns ws)
+unfolding writes_of writes_of_moment inputs_of
+one_moment t [] ws e = refl
+one_moment t (n ∷ ns) [] e = absurd (omega arith)
+one_moment t (n ∷ ns) (w ∷ ws) e = ap (λ (l : List Write). record { moment = t; output = n; value = w } ∷ l) (one_moment t ns ws (omega arith))
 
-moment_more : (t : ℕ) (k : ℕ) (ns ws : List ℕ) → k < length ns → k < length ws →
-    writes_of_moment t (inputs_of (take (suc k) ns) (take (suc k) ws)) ≡
-    writes_of_moment t (inputs_of (take k ns) (take k ws)) ++ (record { moment = t; output = get_or ns k 0; value = get_or ws k 0 } ∷ [])
-unfolding writes_of_moment inputs_of
-moment_more t k [] ws a b = absurd (omega arith)
-moment_more t k (x ∷ ns) [] a b = absurd (omega arith)
-moment_more t zero (x ∷ ns) (y ∷ ws) a b = refl
-moment_more t (suc k) (x ∷ ns) (y ∷ ws) a b =
-    ap (λ (l : List Write). record { moment = t; output = x; value = y } ∷ l) (moment_more t k ns ws (omega arith) (omega arith))
+-- the lists whose first places hold these
+pub put_behind : (at t : ℕ) (ms os vs ns ws ms' os' vs' : List ℕ) → at ≤ length ms → at ≤ length os → at ≤ length vs → length ns ≡ length ws →
+    take (at + length ns) ms' ≡ take at ms ++ replicate (length ns) t → take (at + length ns) os' ≡ take at os ++ ns → take (at + length ns) vs' ≡ take at vs ++ ws →
+    first_writes (at + length ns) ms' os' vs' ≡ first_writes at ms os vs ++ writes_of_moment t (inputs_of ns ws)
+put_behind at t ms os vs ns ws ms' os' vs' a b c same x y z =
+    let l = length-take-le at ms a in
+    let m = length-take-le at os b in
+    let n = length-take-le at vs c in
+    rw (x, y, z) (writes_joined (take at ms) (take at os) (take at vs) (replicate (length ns) t) ns ws (l ∙ sym m) (l ∙ sym n)
+    ∙ ap (λ (w : List Write). first_writes at ms os vs ++ w) (one_moment t ns ws same))
 
 moment_length : (t : ℕ) (k : ℕ) (ns ws : List ℕ) → k ≤ length ns → k ≤ length ws → length (writes_of_moment t (inputs_of (take k ns) (take k ws))) ≡ k
 unfolding writes_of_moment inputs_of
@@ -74,44 +71,6 @@ moment_length t zero ns ws a b = refl
 moment_length t (suc k) [] ws a b = absurd (omega arith)
 moment_length t (suc k) (x ∷ ns) [] a b = absurd (omega arith)
 moment_length t (suc k) (x ∷ ns) (y ∷ ws) a b = ap suc (moment_length t k ns ws (omega arith) (omega arith))
-
--- ── the writes of one moment ──────────────────────────────────────────────────────────────────────
-pub record Putting (at t : ℕ) (ns ws ms₀ os₀ vs₀ ms os vs : List ℕ) (k : ℕ) : Type 0 where
-  pub moments_long : length ms ≡ 16384
-  pub outputs_long : length os ≡ 16384
-  pub values_long : length vs ≡ 16384
-  pub held : first_writes (at + k) ms os vs ≡ first_writes at ms₀ os₀ vs₀ ++ writes_of_moment t (inputs_of (take k ns) (take k ws))
-
-pub putting_begun : (at t : ℕ) (ns ws ms os vs : List ℕ) → length ms ≡ 16384 → length os ≡ 16384 → length vs ≡ 16384 → Putting at t ns ws ms os vs ms os vs 0
-unfolding writes_of_moment inputs_of
-putting_begun at t ns ws ms os vs a b c = record {
-  moments_long = a;
-  outputs_long = b;
-  values_long = c;
-  held = let e : at + 0 ≡ at = omega arith in ap (λ (n : ℕ). first_writes n ms os vs) e ∙ sym (append-nil (first_writes at ms os vs));
-}
-
-pub putting_on : (at t : ℕ) (ns ws ms₀ os₀ vs₀ ms os vs : List ℕ) (k : ℕ) → Putting at t ns ws ms₀ os₀ vs₀ ms os vs k → at + k < 16384 →
-    k < length ns → k < length ws →
-    Putting at t ns ws ms₀ os₀ vs₀ (set ms (at + k) t) (set os (at + k) (get_or ns k 0)) (set vs (at + k) (get_or ws k 0)) (k + 1)
-putting_on at t ns ws ms₀ os₀ vs₀ ms os vs k v h a b =
-    let x = v.moments_long in
-    let y = v.outputs_long in
-    let z = v.values_long in
-    let w : Write = record { moment = t; output = get_or ns k 0; value = get_or ws k 0 } in
-    let e : at + (k + 1) ≡ at + k + 1 = omega arith in
-    record {
-      moments_long = length-set ms (at + k) t ∙ x;
-      outputs_long = length-set os (at + k) (get_or ns k 0) ∙ y;
-      values_long = length-set vs (at + k) (get_or ws k 0) ∙ z;
-      held =
-          ap (λ (n : ℕ). first_writes n (set ms (at + k) t) (set os (at + k) (get_or ns k 0)) (set vs (at + k) (get_or ws k 0))) e
-          ∙ first_more (at + k) ms os vs t (get_or ns k 0) (get_or ws k 0) (omega arith) (omega arith) (omega arith)
-          ∙ ap (λ (l : List Write). l ++ (w ∷ [])) v.held
-          ∙ append_assoc (first_writes at ms₀ os₀ vs₀) (writes_of_moment t (inputs_of (take k ns) (take k ws))) (w ∷ [])
-          ∙ ap (λ (l : List Write). first_writes at ms₀ os₀ vs₀ ++ l)
-          (sym (moment_more t k ns ws a b) ∙ ap (λ (n : ℕ). writes_of_moment t (inputs_of (take n ns) (take n ws))) (sym (add-one k)));
-    }
 
 -- ── one moment after another ──────────────────────────────────────────────────────────────────────
 -- the writes before the offset `at` stand in the lists

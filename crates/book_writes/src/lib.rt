@@ -1,7 +1,7 @@
 // The writes of a session, gathered from its print into three lists, as the valve book's pages want them: `make_trace`, then `gather`.
 #![tactic(auto)]
 
-ghost use Rattle.std.specs.Prelude.{◌++◌, map, ◌≡◌, ◌+◌, ◌≤◌, length, take};
+ghost use Rattle.std.specs.Prelude.{◌++◌, map, ◌≡◌, ◌+◌, ◌≤◌, length};
 ghost use Rattle.walk.specs.Calls.{inputs_of};
 ghost use Rattle.book_writes.specs.Gathered.{as_in_trace, writes_of_moment, first_writes, GatheredIs};
 
@@ -31,10 +31,8 @@ fn as_in_trace(b: u8) -> u8
 pub fn make_trace(print: &mut [u8])
     ensures { print.new ≡ map as_in_trace print.old }
 {
-    let mut k: usize = 0;
-    while k < print.len() {
-        print[k] = as_in_trace(print[k]);
-        k += 1;
+    for b in print.iter_mut() {
+        *b = as_in_trace(*b);
     }
 }
 
@@ -47,23 +45,17 @@ fn put_writes(
     moment: u64,
     numbers: &[u32],
     words: &[u32],
-    count: usize,
 )
-    requires { (length moments.old ≡ 16384) × (length outputs.old ≡ 16384) × (length values.old ≡ 16384) × (at + count ≤ 16384)
-        × (count ≤ length numbers.now) × (count ≤ length words.now) }
-    ensures { (first_writes (at + count) moments.new outputs.new values.new ≡
-        first_writes at moments.old outputs.old values.old
-        ++ writes_of_moment moment (inputs_of (take count numbers.now) (take count words.now)))
+    requires { (length moments.old ≡ 16384) × (length outputs.old ≡ 16384) × (length values.old ≡ 16384) × (at + length numbers.now ≤ 16384)
+        × (length numbers.now ≡ length words.now) }
+    ensures { (first_writes (at + length numbers.now) moments.new outputs.new values.new ≡
+        first_writes at moments.old outputs.old values.old ++ writes_of_moment moment (inputs_of numbers.now words.now))
         × (length moments.new ≡ 16384) × (length outputs.new ≡ 16384) × (length values.new ≡ 16384) }
 {
-    let mut k: usize = 0;
-    while k < count {
-        let place = at + k;
-        moments[place] = moment;
-        outputs[place] = numbers[k];
-        values[place] = words[k];
-        k += 1;
-    }
+    let end = at + numbers.len();
+    moments[at..end].fill(moment);
+    outputs[at..end].copy_from_slice(numbers);
+    values[at..end].copy_from_slice(words);
 }
 
 // All writes of a print that was made a trace, if there are places for them.
@@ -80,17 +72,21 @@ pub fn gather(
     let mut words = [0u32; 17];
     let mut count: usize = 0;
     let mut at: usize = 0;
-    loop {
-        let Next::Call(moment, more, next) = next_call(print, at, &mut numbers, &mut words) else {
-            return Gathered { count, all: true };
-        };
+    while let Next::Call(moment, more, next) = next_call(print, at, &mut numbers, &mut words) {
         if more > PLACES - count {
             return Gathered { count, all: false };
         }
         put_writes(
-            moments, outputs, values, count, moment, &numbers, &words, more,
+            moments,
+            outputs,
+            values,
+            count,
+            moment,
+            &numbers[..more],
+            &words[..more],
         );
         count += more;
         at = next;
     }
+    Gathered { count, all: true }
 }

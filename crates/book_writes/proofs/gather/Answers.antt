@@ -2,6 +2,7 @@
 use borrow.Enum.Refused.{opened}
 use mathlib.Core.Path.{refl, sym, subst, ◌∙◌}
 use native.Mathlib.Omega.{arith}
+use lib.Seq.{length-take-le}
 use Rattle.session_trace.specs.Groups.{NextIs}
 use Rattle.session_trace.specs.declared.group.Next.{Next}
 use Rattle.book_writes.proofs.Gathering as gathering
@@ -16,21 +17,6 @@ pub next_call-requires : goal.next_call-requires
 next_call-requires c =
     let v = c.loop-moment.invariant in
     (v.0.inside, omega (arith, v.1), omega (arith, v.2))
-
-pub shape_of-moments-in_default : goal.shape_of-moments-in_default
-shape_of-moments-in_default c = c.loop-moment.invariant.0.moments_long ∙ sym c.requires.0
-
-pub shape_of-outputs-in_default : goal.shape_of-outputs-in_default
-shape_of-outputs-in_default c = c.loop-moment.invariant.0.outputs_long ∙ sym c.requires.1
-
-pub shape_of-values-in_default : goal.shape_of-values-in_default
-shape_of-values-in_default c = c.loop-moment.invariant.0.values_long ∙ sym c.requires.2
-
-pub returns-in_default : goal.returns-in_default
-returns-in_default c =
-    let v = c.loop-moment in
-    let made = c.next_call in
-    gathering.gathered_other _ _ _ _ v.count v.at v.invariant.0 made.new.numbers made.new.values made.result made.ensures.is (opened c.in_default.in_default-own.keys2)
 
 pub shape_of-moments-then-more-count : goal.shape_of-moments-then-more-count
 shape_of-moments-then-more-count c = c.loop-moment.invariant.0.moments_long ∙ sym c.requires.0
@@ -61,7 +47,9 @@ put_writes-requires c =
     let a = n.numbers_stay.size in
     let b = n.values_stay.size in
     let call = subst (λ (r : Next). NextIs s v.at made.new.numbers made.new.values r) c.in-Call.is n.is in
-    (v.invariant.0.moments_long, v.invariant.0.outputs_long, v.invariant.0.values_long, omega (arith, v.invariant.0.few, c.if-more-count.false), omega (arith, v.invariant.1, a, call.few), omega (arith, v.invariant.2, b, call.few))
+    let x = length-take-le c.in-Call.more made.new.numbers (omega (arith, v.invariant.1, a, call.few)) in
+    let y = length-take-le c.in-Call.more made.new.values (omega (arith, v.invariant.2, b, call.few)) in
+    (v.invariant.0.moments_long, v.invariant.0.outputs_long, v.invariant.0.values_long, omega (arith, v.invariant.0.few, c.if-more-count.false, x), x ∙ sym y)
 
 pub loop-moment-smaller : goal.loop-moment-smaller
 loop-moment-smaller c =
@@ -84,4 +72,11 @@ loop-moment-preserved c =
     let b = n.values_stay.size in
     let call = subst (λ (r : Next). NextIs s v.at made.new.numbers made.new.values r) c.in-Call.is n.is in
     let e = c.put_writes.ensures in
-    (gathering.going_on s _ _ _ v.count v.at v.invariant.0 made.new.numbers made.new.values _ _ _ call _ _ _ c.if-more-count.false e.0 e.1 e.2 e.3, a ∙ v.invariant.1, b ∙ v.invariant.2)
+    let x = length-take-le c.in-Call.more made.new.numbers (omega (arith, v.invariant.1, a, call.few)) in
+    (gathering.going_on s _ _ _ v.count v.at v.invariant.0 made.new.numbers made.new.values _ _ _ call _ _ _ c.if-more-count.false (rw x at e.0) e.1 e.2 e.3, a ∙ v.invariant.1, b ∙ v.invariant.2)
+
+pub returns : goal.returns
+returns c =
+    let v = c.loop-moment in
+    let made = c.next_call in
+    gathering.gathered_other _ _ _ _ v.count v.at v.invariant.0 made.new.numbers made.new.values made.result made.ensures.is (opened c.in_default.in_default-own.keys2)

@@ -1,45 +1,36 @@
 -- `book_writes::put_writes` meets its contract.
-use mathlib.Core.Path.{◌≡◌, sym, ◌∙◌}
+use mathlib.Core.Path.{◌≡◌, sym, ap, ◌∙◌}
+use mathlib.Core.List.{List, ◌++◌}
+use Prim.Native.Nat.{ℕ, ◌+◌, ◌-◌, ◌≤◌}
 use native.Mathlib.Omega.{arith}
+use lib.ListN.{length, take, replicate, length-append, length-drop, length-replicate}
+use lib.Seq.{length-take-le}
+use borrow.Rule.Slice.PartMut.{put_mid}
+use Rattle.std.proofs.lemmas.List.Edits.{length-between}
+use Rattle.std.proofs.lemmas.Slice.{take-put_mid}
 use Rattle.book_writes.proofs.Gathering as gathering
 use Rattle.book_writes.proofs.put_writes.Goals as goal
 
-pub loop-k-init : goal.loop-k-init
-loop-k-init c = (omega arith, gathering.putting_begun _ _ _ _ _ _ _ c.requires.0 c.requires.1 c.requires.2)
-
-pub bounds-moments-place : goal.bounds-moments-place
-bounds-moments-place c = omega (arith, c.loop-k-test.true, c.requires.3, c.loop-k.invariant.1.moments_long)
-
-pub bounds-numbers-k : goal.bounds-numbers-k
-bounds-numbers-k c = omega (arith, c.loop-k-test.true, c.requires.4)
-
-pub bounds-outputs-place : goal.bounds-outputs-place
-bounds-outputs-place c = omega (arith, c.loop-k-test.true, c.requires.3, c.loop-k.invariant.1.outputs_long)
-
-pub bounds-words-k : goal.bounds-words-k
-bounds-words-k c = omega (arith, c.loop-k-test.true, c.requires.5)
-
-pub bounds-values-place : goal.bounds-values-place
-bounds-values-place c = omega (arith, c.loop-k-test.true, c.requires.3, c.loop-k.invariant.1.values_long)
-
-pub loop-k-preserved : goal.loop-k-preserved
-loop-k-preserved c =
-    let p = c.requires in
-    let v = c.loop-k in
-    (omega (arith, c.loop-k-test.true), gathering.putting_on _ _ _ _ _ _ _ _ _ _ v.k v.invariant.1 (omega (arith, c.loop-k-test.true, p.3)) (omega (arith, c.loop-k-test.true, p.4)) (omega (arith, c.loop-k-test.true, p.5)))
-
-pub shape_of-moments : goal.shape_of-moments
-shape_of-moments c = c.loop-k.invariant.1.moments_long ∙ sym c.requires.0
-
-pub shape_of-outputs : goal.shape_of-outputs
-shape_of-outputs c = c.loop-k.invariant.1.outputs_long ∙ sym c.requires.1
-
-pub shape_of-values : goal.shape_of-values
-shape_of-values c = c.loop-k.invariant.1.values_long ∙ sym c.requires.2
+-- a list keeps its length when a part of it is written
+part_length : (at k : ℕ) (xs ys : List ℕ) → at + k ≤ length xs → length ys ≡ k → length (put_mid at k xs ys) ≡ length xs
+part_length at k xs ys h e = simp (length-append, length-drop) (omega (arith, length-take-le at xs))
 
 pub returns : goal.returns
 returns c =
-    let v = c.loop-k in
     let a = c.args in
-    let e : v.k ≡ a.count = omega (arith, c.loop-k-test.false, v.invariant.0) in
-    (rw (← e) v.invariant.1.held, v.invariant.1.moments_long, v.invariant.1.outputs_long, v.invariant.1.values_long)
+    let p = c.requires in
+    let n = length a.numbers.now in
+    let some : a.at + n - a.at ≡ n = omega arith in
+    let filled : c.fill.new.self ≡ replicate n a.moment =
+    c.fill.ensures.after (λ y h. h) ∙ ap (λ (k : ℕ). replicate k a.moment) (length-between a.moments.now a.at (a.at + n) (omega arith) ∙ some) in
+    let x : length c.fill.new.self ≡ n = ap length filled ∙ length-replicate n a.moment in
+    let y : length c.copy_from_slice.new.self ≡ n = ap length c.copy_from_slice.ensures.after in
+    let z : length c.copy_from_slice-2.new.self ≡ n = ap length c.copy_from_slice-2.ensures.after ∙ sym p.4 in (
+      gathering.put_behind a.at a.moment a.moments.now a.outputs.now a.values.now a.numbers.now a.words.now _ _ _ (omega arith) (omega arith) (omega arith) p.4
+          (take-put_mid a.at _ a.moments.now c.fill.new.self _ (omega arith) (omega arith) ∙ ap (λ (l : List ℕ). take a.at a.moments.now ++ l) filled)
+          (take-put_mid a.at _ a.outputs.now c.copy_from_slice.new.self _ (omega arith) (omega arith) ∙ ap (λ (l : List ℕ). take a.at a.outputs.now ++ l) c.copy_from_slice.ensures.after)
+          (take-put_mid a.at _ a.values.now c.copy_from_slice-2.new.self _ (omega arith) (omega arith) ∙ ap (λ (l : List ℕ). take a.at a.values.now ++ l) c.copy_from_slice-2.ensures.after),
+      part_length a.at _ a.moments.now c.fill.new.self (omega arith) (omega arith) ∙ p.0,
+      part_length a.at _ a.outputs.now c.copy_from_slice.new.self (omega arith) (omega arith) ∙ p.1,
+      part_length a.at _ a.values.now c.copy_from_slice-2.new.self (omega arith) (omega arith) ∙ p.2,
+    )

@@ -6,7 +6,7 @@ use Prim.Native.Nat.{ℕ, ◌+◌, ◌*◌, ◌≤◌, ◌<◌}
 use native.Mathlib.Omega.{arith}
 use native.Mathlib.Numerals.{add-one}
 use lib.ListN.{length, get_or, set, take}
-use lib.Seq.{take-suc, length-take-le}
+use lib.Seq.{take_all, take-suc, length-take-le}
 use Rattle.listing.specs.Bytes.{figure}
 use Rattle.schedule.specs.Edges.{Edge}
 use Rattle.schedule.specs.Sentence.{edges_of}
@@ -72,6 +72,9 @@ lines_more ms is vs k h g f =
 lines_none : (ms is vs : List ℕ) → trace_lines (edges_to ms is vs 0) ≡ []
 unfolding edges_of trace_lines
 lines_none ms is vs = refl
+
+pub edges_all : (ms is vs : List ℕ) (k : ℕ) → k ≡ length ms → k ≡ length is → k ≡ length vs → edges_to ms is vs k ≡ edges_of ms is vs
+edges_all ms is vs k e f g = rw (take_all k ms (omega arith), take_all k is (omega arith), take_all k vs (omega arith)) refl
 
 -- k lines are put
 pub record Putting (before : List ℕ) (ms is vs : List ℕ) (count : ℕ) (out : List ℕ) (place k : ℕ) : Type 0 where

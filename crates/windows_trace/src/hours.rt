@@ -31,5 +31,11 @@ pub fn put_hour(out: &mut [u8], schedule: &[u8], from: u64, to: u64) -> usize
     let mut inputs = word_list();
     let mut values = word_list();
     let answer = list_windows(schedule, from, to, &mut moments, &mut inputs, &mut values);
-    put_input_lines(out, &moments, &inputs, &values, answer.listed as usize)
+    let listed = answer.listed as usize;
+    put_input_lines(
+        out,
+        &moments[..listed],
+        &inputs[..listed],
+        &values[..listed],
+    )
 }

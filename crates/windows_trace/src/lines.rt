@@ -1,5 +1,5 @@
 // The lines of a trace.
-ghost use Rattle.std.specs.Prelude.{[], ◌∷◌, ◌++◌, ◌≡◌, ◌+◌, ◌*◌, ◌≤◌, length, take};
+ghost use Rattle.std.specs.Prelude.{[], ◌∷◌, ◌++◌, ◌≡◌, ◌+◌, ◌*◌, ◌≤◌, length};
 ghost use Rattle.listing.specs.Bytes.{figure, tab};
 ghost use Rattle.schedule.specs.Sentence.{edges_of};
 ghost use Rattle.session_print.specs.Puts.{Puts};
@@ -39,27 +39,18 @@ fn put_input_line(out: &mut [u8], at: usize, moment: u64, input: u32, value: u32
 {
     let a = put_letter(out, at, INPUT);
     let b = put_field(out, a, moment, b'\t');
-    let c = put_field(out, b, input as u64, b'\t');
-    put_field(out, c, value as u64, b'\n')
+    let c = put_field(out, b, u64::from(input), b'\t');
+    put_field(out, c, u64::from(value), b'\n')
 }
 
-// The lines of the first so many inputs of three lists; how many bytes.
-pub fn put_input_lines(
-    out: &mut [u8],
-    moments: &[u64],
-    inputs: &[u32],
-    values: &[u32],
-    count: usize,
-) -> usize
-    requires { (count ≤ 960) × (count ≤ length moments.now) × (count ≤ length inputs.now) × (count ≤ length values.now) }
-    ensures { Puts out.old 0 (trace_lines (edges_of (take count moments.now) (take count inputs.now) (take count values.now)))
-        out.new result × (result ≤ 65 * count) }
+// The lines of the inputs of three lists; how many bytes.
+pub fn put_input_lines(out: &mut [u8], moments: &[u64], inputs: &[u32], values: &[u32]) -> usize
+    requires { (length moments.now ≤ 960) × (length moments.now ≡ length inputs.now) × (length moments.now ≡ length values.now) }
+    ensures { Puts out.old 0 (trace_lines (edges_of moments.now inputs.now values.now)) out.new result × (result ≤ 65 * length moments.now) }
 {
     let mut place: usize = 0;
-    let mut k: usize = 0;
-    while k < count {
+    for k in 0..moments.len() {
         place = put_input_line(out, place, moments[k], inputs[k], values[k]);
-        k += 1;
     }
     place
 }

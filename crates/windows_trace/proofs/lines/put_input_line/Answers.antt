@@ -10,6 +10,6 @@ returns c =
     let letter = c.put_letter-a.ensures in
     let a = c.args in (
       line.same_bytes (input_line_is (record { moment = a.moment; input = a.input; value = a.value }))
-          (line.then_bytes letter.0 (line.then_bytes c.put_field-b.ensures.0 (line.then_bytes second.ensures.0 c.put_field.ensures.0))),
+          (line.then_bytes letter.0 (line.then_bytes c.put_field-b.ensures.0 (line.then_bytes (rw c.from.ensures at second.ensures.0) (rw c.from-2.ensures at c.put_field.ensures.0)))),
       omega (arith, letter.1, c.put_field-b.ensures.1, second.ensures.1, c.put_field.ensures.1),
     )

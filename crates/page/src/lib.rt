@@ -11,7 +11,7 @@ ghost use Rattle.page.specs.Pages.{page_count, page_bytes};
 ghost use Rattle.page.specs.Call.{first_opening, refusal, PageFigures};
 
 use openings::{Order, none_falls, put_questions};
-use page_book::enter_writes;
+use page_book::{Valves, enter_writes};
 use page_rows::{put_blank_rows, put_heading};
 
 // "into 2,700 bytes"
@@ -72,20 +72,22 @@ fn write_page(
         × (result ≡ page_count (length (sorted_openings (writes_of moments.now outputs.now values.now)))) }
 {
     put_blank_rows(memory);
-    let mut lines = [0u8; 16];
-    let mut opened = [0u64; 16];
+    let mut valves = Valves {
+        lines: [0; 16],
+        opened: [0; 16],
+        count: 0,
+    };
     let first = first_opening(page);
-    let count = enter_writes(
+    let openings = enter_writes(
         memory,
-        &mut lines,
-        &mut opened,
+        &mut valves,
         first,
         moments,
         outputs,
         values,
         ordered,
     );
-    let pages = page_count(count);
+    let pages = page_count(openings);
     if page == 0 {
         return pages;
     }

@@ -11,6 +11,15 @@ const OPENINGS_ON_PAGE: u64 = 59;
 // The line of a row that stands on another page.
 const ELSEWHERE: u8 = 60;
 
+// The valves while a page is written: for each output the line of its open valve's row, 0 if the valve is closed, ELSEWHERE if the row
+// stands on another page; the moment of its last opening; and how many openings there were.
+#[derive(Clone, Copy)]
+pub struct Valves {
+    pub lines: [u8; 16],
+    pub opened: [u64; 16],
+    pub count: u64,
+}
+
 // The line of the opening with this number.
 fn line_of(first: u64, number: u64) -> u8
     ensures { (result ≡ line_of first number) × (result ≤ 60) }
@@ -52,37 +61,36 @@ fn open_row(memory: &mut [u8], line: u8, output: u32, moment: u64)
     put_row(memory, usize::from(line), output, moment);
 }
 
-// The write enters; how many openings there are now.
+// The write enters.
 pub fn enter_write(
     memory: &mut [u8],
-    lines: &mut [u8; 16],
-    opened: &mut [u64; 16],
+    valves: &mut Valves,
     first: u64,
-    count: u64,
     moment: u64,
     output: u32,
     value: u32,
-) -> u64
-    requires { (length lines.old ≡ 16) × (length opened.old ≡ 16) × (output < 16) × (count < 18446744073709551615) }
-    ensures { (book_of memory.new lines.new opened.new result ≡
-        entered first (book_of memory.old lines.old opened.old count) (record { moment = moment; output = output; value = value }))
-        × (length lines.new ≡ 16) × (length opened.new ≡ 16) × (result ≤ count + 1) }
+)
+    requires { (length valves.old.lines ≡ 16) × (length valves.old.opened ≡ 16) × (output < 16) × (valves.old.count < 18446744073709551615) }
+    ensures { (book_of memory.new valves.new.lines valves.new.opened valves.new.count ≡
+        entered first (book_of memory.old valves.old.lines valves.old.opened valves.old.count)
+        (record { moment = moment; output = output; value = value }))
+        × (length valves.new.lines ≡ 16) × (length valves.new.opened ≡ 16) × (valves.new.count ≤ valves.old.count + 1) }
 {
     let valve = number(output);
-    let line = lines[valve];
+    let line = valves.lines[valve];
     if value == 0 {
-        lines[valve] = 0;
-        close_row(memory, line, moment.saturating_sub(opened[valve]));
-        return count;
+        valves.lines[valve] = 0;
+        close_row(memory, line, moment.saturating_sub(valves.opened[valve]));
+        return;
     }
     if line != 0 {
-        return count;
+        return;
     }
-    let new = line_of(first, count);
-    lines[valve] = new;
-    opened[valve] = moment;
+    let new = line_of(first, valves.count);
+    valves.lines[valve] = new;
+    valves.opened[valve] = moment;
+    valves.count += 1;
     open_row(memory, new, output, moment);
-    count + 1
 }
 
 // Does a write of this value leave the valve with this line as it is, open or closed?
@@ -98,22 +106,21 @@ pub fn leaves_valve(line: u8, value: u32) -> bool
 // The write enters; one that changes nothing is told by a look at its valve.
 pub fn enter_change(
     memory: &mut [u8],
-    lines: &mut [u8; 16],
-    opened: &mut [u64; 16],
+    valves: &mut Valves,
     first: u64,
-    count: u64,
     moment: u64,
     output: u32,
     value: u32,
-) -> u64
-    requires { (length lines.old ≡ 16) × (length opened.old ≡ 16) × (output < 16) × (count < 18446744073709551615) }
-    ensures { (book_of memory.new lines.new opened.new result ≡
-        entered first (book_of memory.old lines.old opened.old count) (record { moment = moment; output = output; value = value }))
-        × (length lines.new ≡ 16) × (length opened.new ≡ 16) × (result ≤ count + 1) }
+)
+    requires { (length valves.old.lines ≡ 16) × (length valves.old.opened ≡ 16) × (output < 16) × (valves.old.count < 18446744073709551615) }
+    ensures { (book_of memory.new valves.new.lines valves.new.opened valves.new.count ≡
+        entered first (book_of memory.old valves.old.lines valves.old.opened valves.old.count)
+        (record { moment = moment; output = output; value = value }))
+        × (length valves.new.lines ≡ 16) × (length valves.new.opened ≡ 16) × (valves.new.count ≤ valves.old.count + 1) }
 {
     let valve = number(output);
-    if leaves_valve(lines[valve], value) {
-        return count;
+    if leaves_valve(valves.lines[valve], value) {
+        return;
     }
-    enter_write(memory, lines, opened, first, count, moment, output, value)
+    enter_write(memory, valves, first, moment, output, value);
 }

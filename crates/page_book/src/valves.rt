@@ -18,6 +18,8 @@ pub struct Valves {
     pub lines: [u8; 16],
     pub opened: [u64; 16],
     pub count: u64,
+    pub ghost lines_long: { length lines ≡ 16 },
+    pub ghost opened_long: { length opened ≡ 16 },
 }
 
 // The line of the opening with this number.
@@ -70,11 +72,11 @@ pub fn enter_write(
     output: u32,
     value: u32,
 )
-    requires { (length valves.old.lines ≡ 16) × (length valves.old.opened ≡ 16) × (output < 16) × (valves.old.count < 18446744073709551615) }
+    requires { (output < 16) × (valves.old.count < 18446744073709551615) }
     ensures { (book_of memory.new valves.new.lines valves.new.opened valves.new.count ≡
         entered first (book_of memory.old valves.old.lines valves.old.opened valves.old.count)
         (record { moment = moment; output = output; value = value }))
-        × (length valves.new.lines ≡ 16) × (length valves.new.opened ≡ 16) × (valves.new.count ≤ valves.old.count + 1) }
+        × (valves.new.count ≤ valves.old.count + 1) }
 {
     let valve = number(output);
     let line = valves.lines[valve];
@@ -112,11 +114,11 @@ pub fn enter_change(
     output: u32,
     value: u32,
 )
-    requires { (length valves.old.lines ≡ 16) × (length valves.old.opened ≡ 16) × (output < 16) × (valves.old.count < 18446744073709551615) }
+    requires { (output < 16) × (valves.old.count < 18446744073709551615) }
     ensures { (book_of memory.new valves.new.lines valves.new.opened valves.new.count ≡
         entered first (book_of memory.old valves.old.lines valves.old.opened valves.old.count)
         (record { moment = moment; output = output; value = value }))
-        × (length valves.new.lines ≡ 16) × (length valves.new.opened ≡ 16) × (valves.new.count ≤ valves.old.count + 1) }
+        × (valves.new.count ≤ valves.old.count + 1) }
 {
     let valve = number(output);
     if leaves_valve(valves.lines[valve], value) {

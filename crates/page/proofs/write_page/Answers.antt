@@ -6,7 +6,7 @@ use borrow.Author.Rules.{rules}
 use Rattle.page.proofs.write_page.Goals as goal
 
 pub enter_writes-openings-requires : goal.enter_writes-openings-requires
-enter_writes-openings-requires c = (search rules, search rules, search rules, search rules, search rules, search rules, apart_none _, search rules)
+enter_writes-openings-requires c = (search rules, search rules, search rules, search rules, apart_none _, search rules)
 
 pub returns-then-page-eq0 : goal.returns-then-page-eq0
 returns-then-page-eq0 c =

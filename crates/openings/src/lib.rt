@@ -8,6 +8,14 @@ ghost use Rattle.openings.specs.Verdicts.{verdict};
 
 const OUTPUTS: u32 = 16;
 
+// An output's write: its moment in milliseconds, the output's number, the value as a word of 32 bits.
+#[derive(Clone, Copy, Debug, PartialEq, Eq)]
+pub struct Write {
+    pub moment: u64,
+    pub output: u32,
+    pub value: u32,
+}
+
 // 9: does no moment fall?
 pub fn none_falls(moments: &[u64]) -> bool
     ensures { result ≡ none_falls moments.now }

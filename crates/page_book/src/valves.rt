@@ -2,6 +2,7 @@
 ghost use Rattle.std.specs.Prelude.{◌≡◌, ◌+◌, ◌-◌, ◌≤◌, ◌<◌, length};
 ghost use Rattle.page_book.specs.Book.{book_of, line_of, row_closed, row_opened, leaves_valve, entered};
 
+use openings::Write;
 use page_rows::{put_open_for, put_row};
 use words::number;
 
@@ -64,20 +65,17 @@ fn open_row(memory: &mut [u8], line: u8, output: u32, moment: u64)
 }
 
 // The write enters.
-pub fn enter_write(
-    memory: &mut [u8],
-    valves: &mut Valves,
-    first: u64,
-    moment: u64,
-    output: u32,
-    value: u32,
-)
-    requires { (output < 16) × (valves.old.count < 18446744073709551615) }
+pub fn enter_write(memory: &mut [u8], valves: &mut Valves, first: u64, write: Write)
+    requires { (write.output < 16) × (valves.old.count < 18446744073709551615) }
     ensures { (book_of memory.new valves.new.lines valves.new.opened valves.new.count ≡
-        entered first (book_of memory.old valves.old.lines valves.old.opened valves.old.count)
-        (record { moment = moment; output = output; value = value }))
+        entered first (book_of memory.old valves.old.lines valves.old.opened valves.old.count) write)
         × (valves.new.count ≤ valves.old.count + 1) }
 {
+    let Write {
+        moment,
+        output,
+        value,
+    } = write;
     let valve = number(output);
     let line = valves.lines[valve];
     if value == 0 {
@@ -106,23 +104,15 @@ pub fn leaves_valve(line: u8, value: u32) -> bool
 }
 
 // The write enters; one that changes nothing is told by a look at its valve.
-pub fn enter_change(
-    memory: &mut [u8],
-    valves: &mut Valves,
-    first: u64,
-    moment: u64,
-    output: u32,
-    value: u32,
-)
-    requires { (output < 16) × (valves.old.count < 18446744073709551615) }
+pub fn enter_change(memory: &mut [u8], valves: &mut Valves, first: u64, write: Write)
+    requires { (write.output < 16) × (valves.old.count < 18446744073709551615) }
     ensures { (book_of memory.new valves.new.lines valves.new.opened valves.new.count ≡
-        entered first (book_of memory.old valves.old.lines valves.old.opened valves.old.count)
-        (record { moment = moment; output = output; value = value }))
+        entered first (book_of memory.old valves.old.lines valves.old.opened valves.old.count) write)
         × (valves.new.count ≤ valves.old.count + 1) }
 {
-    let valve = number(output);
-    if leaves_valve(valves.lines[valve], value) {
+    let valve = number(write.output);
+    if leaves_valve(valves.lines[valve], write.value) {
         return;
     }
-    enter_write(memory, valves, first, moment, output, value);
+    enter_write(memory, valves, first, write);
 }

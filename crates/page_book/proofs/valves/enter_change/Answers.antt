@@ -8,4 +8,4 @@ pub returns-then-leaves_valve : goal.returns-then-leaves_valve
 returns-then-leaves_valve c =
     let a = c.args in
     let p = c.requires in
-    (entering.enters_same a.first a.memory.now a.valves.now.lines a.valves.now.opened a.valves.now.count a.moment a.output a.value c.number-valve.result c.number-valve.ensures.0 (sym c.leaves_valve.ensures ∙ c.if-leaves_valve.true), omega arith)
+    (entering.enters_same a.first a.memory.now a.valves.now.lines a.valves.now.opened a.valves.now.count a.write.moment a.write.output a.write.value c.number-valve.result c.number-valve.ensures.0 (sym c.leaves_valve.ensures ∙ c.if-leaves_valve.true), omega arith)

@@ -23,7 +23,7 @@ const OPENINGS_ON_PAGE: u64 = 59;
 // The number of no opening: there are fewer than the lists are long.
 const NO_OPENING: u64 = u64::MAX;
 
-// Number, place, and the number of pages; a refusal's place and pages are 0.
+// Number, place, and the number of pages, as C takes them (include/fabrwent.h); a refusal's place and pages are 0.
 #[repr(C)]
 #[derive(Clone, Copy)]
 pub struct Printed {

@@ -17,6 +17,7 @@ fn read_windows(s: &[u8], place: Place, first: u64, week: &mut [u16]) -> usize
     ensures { ReadsWindows s.now place first week.new result }
 {
     let mut at = place;
+    // Each line tells where the next one begins: no range counts the lines.
     while at.offset < s.len() {
         let Some(read) = read_window(s, at) else {
             return at.line;

@@ -2,7 +2,7 @@
 ghost use Rattle.std.specs.Prelude.{◌≡◌};
 ghost use Rattle.windows.specs.Call.{refusal};
 
-// Number, place, and how many inputs are listed; a refusal's place and count are 0.
+// Number, place, and how many inputs are listed, as C takes them (include/fabrwent.h); a refusal's place and count are 0.
 #[repr(C)]
 #[derive(Clone, Copy)]
 pub struct Listed {

@@ -21,16 +21,6 @@ use Rattle.engine_blocks.proofs.Staying.{outside_start, outside_then, triggers_s
 use Rattle.engine_clean.specs.Clean.{Blank, CleanBlock}
 use Rattle.engine_queue.specs.Queue.{flag_of, Queued}
 
--- ── the note ──────────────────────────────────────────────────────────────────────────────────────
-pub no_flag : (d : ℕ) → d ≡ 0 → 0 ≡ flag_of d
-unfolding flag_of
-no_flag d e = rw e
-
-pub some_flag : (d : ℕ) → (d ≡ 0 → ⊥) → 1 ≡ flag_of d
-unfolding flag_of
-some_flag zero h = absurd (h refl)
-some_flag (suc d) h = refl
-
 -- ── one block after the other ─────────────────────────────────────────────────────────────────────
 pub none_queued : (dues m : List ℕ) → Queued 0 dues m m
 none_queued dues m = record {

@@ -12,10 +12,7 @@ use machine::MAY_WAIT;
 fn flag(due: u64) -> u32
     ensures { result ≡ flag_of due }
 {
-    if due == 0 {
-        return 0;
-    }
-    1
+    u32::from(due != 0)
 }
 
 // Each block by its soonest moment due, as question 7's pass has kept it.
@@ -23,9 +20,7 @@ pub fn queue_waiting(m: &mut [u32], dues: &[u64; 65])
     requires { HasMachine m.old × (length dues.now ≡ 65) }
     ensures { Queued 65 dues.now m.old m.new }
 {
-    let mut s: usize = 0;
-    while s < 65 {
-        engine_blocks::put_word(m, s, MAY_WAIT, flag(dues[s]));
-        s += 1;
+    for (s, due) in dues.iter().enumerate() {
+        engine_blocks::put_word(m, s, MAY_WAIT, flag(*due));
     }
 }

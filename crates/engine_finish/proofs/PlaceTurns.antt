@@ -1,13 +1,14 @@
 -- Places written slot by slot, the header made 0 word by word; the slots of an order differ.
 use mathlib.Core.Path.{◌≡◌, refl, sym, ap, subst, ◌∙◌}
 use mathlib.Core.Bool.{Bool, true, false}
-use mathlib.Core.List.{List, [], ◌∷◌}
-use Prim.Native.Nat.{ℕ, zero, suc, ◌+◌, ◌*◌, ◌≤◌, ◌<◌}
+use mathlib.Core.List.{List, [], ◌∷◌, ◌++◌}
+use Prim.Native.Nat.{ℕ, zero, suc, ◌+◌, ◌-◌, ◌*◌, ◌≤◌, ◌<◌}
 use native.Mathlib.Decide.{ℕ_discrete}
 use native.Mathlib.Omega.{arith}
 use lib.Dec.{ltb}
-use lib.ListN.{length, get_or, set, length-set}
-use lib.Seq.{get_or-set_same, get_or-set_other}
+use Rattle.std.proofs.lemmas.List.{length-replicate, get_or-replicate, get_or_append_left, get_or-append_right}
+use lib.ListN.{replicate, length, get_or, drop, length-append, length-drop}
+use lib.Seq.{get_or-drop}
 use Rattle.engine_rows.specs.Rows.{Rows}
 use Rattle.engine_rows.specs.Order.{order_key, before_else, insert_in_order, order_if, order_below_lem}
 use Rattle.engine_rows.proofs.Sorted.{In, here, there, Either, this, that}
@@ -23,20 +24,14 @@ use Rattle.engine_order.proofs.Ordering.{listed_length, listed_word}
 use Rattle.engine_order.proofs.OrderTurns.{order_below}
 
 -- ── the header ────────────────────────────────────────────────────────────────────────────────────
-pub none_cleared : (m : List ℕ) → HeaderCleared 0 m m
-none_cleared m = record { size = refl; zero = λ j h. absurd (let z : ⊥ = omega arith in z); later = λ j h. refl }
-
-pub one_more_zero : (k : ℕ) {a m : List ℕ} → k < length m → HeaderCleared k a m → HeaderCleared (k + 1) a (set m k 0)
-one_more_zero k {a} {m} room done =
-    record {
-      size = length-set m k 0 ∙ done.size;
-      zero = λ j h. which j h (ℕ_discrete j k);
-      later = λ j h. get_or-set_other m k j 0 0 (λ e. omega arith) ∙ done.later j (omega arith);
-    }
-  where
-    which : (j : ℕ) → j < k + 1 → Dec (j ≡ k) → get_or (set m k 0) j 0 ≡ 0
-    which j h (yes e) = rw e (get_or-set_same m k 0 0 room)
-    which j h (no n) = get_or-set_other m k j 0 0 n ∙ done.zero j (omega (arith, n))
+-- the first n words filled with 0
+pub first_zero : (n : ℕ) {m zeros : List ℕ} → n ≤ length m → zeros ≡ replicate n 0 → HeaderCleared n m (zeros ++ drop n m)
+first_zero n {m} {zeros} room e =
+    rw e (record {
+      size = simp (length-append, length-replicate, length-drop) (omega arith);
+      zero = λ j h. get_or_append_left (replicate n 0) (drop n m) 0 j (omega (arith, length-replicate {A = ℕ} n 0)) ∙ get_or-replicate n j 0 0 h;
+      later = λ j h. let back : n + (j - n) ≡ j = omega arith in get_or-append_right (replicate n 0) (drop n m) n j 0 (length-replicate {A = ℕ} n 0) h ∙ (get_or-drop n m (j - n) 0 ∙ ap (λ (k : ℕ). get_or m k 0) back);
+    })
 
 -- ── places ────────────────────────────────────────────────────────────────────────────────────────
 pub none_placed : (m : List ℕ) → PlacesSet 0 m m

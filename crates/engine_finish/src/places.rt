@@ -11,11 +11,7 @@ pub fn clear_header(m: &mut [u32])
     requires { HasMachine m.old }
     ensures { HeaderCleared 328 m.old m.new }
 {
-    let mut k: usize = 0;
-    while k < BLOCKS {
-        m[k] = 0;
-        k += 1;
-    }
+    m[..BLOCKS].fill(0);
 }
 
 // In the block of each of the first `count` slots listed: its place, counted from 1.
@@ -23,10 +19,8 @@ pub fn set_places(m: &mut [u32], count: usize)
     requires { HasMachine m.old × (count ≤ 64) × SlotsBelow (listed_in_lem m.old count) × SlotsDiffer (listed_in_lem m.old count) }
     ensures { PlacesSet count m.old m.new }
 {
-    let mut k: usize = 0;
-    while k < count {
+    for k in 0..count {
         let slot = m[ORDER + k] as usize;
         engine_blocks::put_word(m, slot, 0, (k + 1) as u32);
-        k += 1;
     }
 }

@@ -22,10 +22,8 @@ fn clear_slots(m: &mut [u32])
     requires { HasMachine m.old }
     ensures { Mapped 64 idle_block m.old m.new }
 {
-    let mut s: usize = 0;
-    while s < SLOTS {
+    for s in 0..SLOTS {
         clear_block(m, s);
-        s += 1;
     }
 }
 

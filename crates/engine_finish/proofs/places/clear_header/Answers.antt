@@ -1,21 +1,16 @@
-use Rattle.engine_finish.proofs.PlaceTurns.{none_cleared, one_more_zero}
-use Rattle.engine_order.specs.Placed.{HeaderCleared}
-use Prim.Native.Nat.{◌≤◌, ◌-◌}
-use mathlib.Core.Path.{◌≡◌}
-use native.Mathlib.Omega.{arith}
+-- `engine_finish::places::clear_header` meets its contract.
+use mathlib.Core.Path.{◌≡◌, ap, ◌∙◌}
+use Prim.Native.Nat.{ℕ}
 use borrow.Author.Rules.{rules}
+use lib.ListN.{length, take, replicate, length-take}
+use native.Mathlib.Omega.{arith}
+use Rattle.engine_finish.proofs.PlaceTurns.{first_zero}
 use Rattle.engine_finish.proofs.places.clear_header.Goals as goal
 
-pub loop-k-init : goal.loop-k-init
-loop-k-init c = (search rules, none_cleared c.args.m.now)
-
-pub loop-k-preserved : goal.loop-k-preserved
-loop-k-preserved c =
-    let v = c.loop-k in
-    (search rules, one_more_zero v.k (search rules) v.invariant.1)
+pub slice_bounds-fill-end-2 : goal.slice_bounds-fill-end-2
+slice_bounds-fill-end-2 c = simp length-take (omega arith)
 
 pub returns : goal.returns
 returns c =
-    let v = c.loop-k in
-    let z : v.k ≡ 328 = omega arith in
-    rw z at v.invariant.1
+    let long : length (take 328 c.args.m.now) ≡ 328 = simp length-take (omega arith) in
+    first_zero 328 (search rules) (c.fill.ensures.after (λ y e. e) ∙ ap (λ (n : ℕ). replicate n 0) long)

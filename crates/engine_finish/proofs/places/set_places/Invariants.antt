@@ -7,7 +7,4 @@ use borrow.Author.Rules.{rules}
 use Rattle.engine_finish.proofs.places.set_places.Given as goal
 
 abbrev pub invariant-loop-k : goal.invariant-loop-k
-invariant-loop-k l = (l.k ≤ l.count) × PlacesSet l.k l.initial.m l.m
-
-abbrev pub decreases-loop-k : goal.decreases-loop-k
-decreases-loop-k l = l.count - l.k
+invariant-loop-k l = PlacesSet l.k l.initial.m l.m

@@ -9,15 +9,15 @@ use borrow.Author.Rules.{rules}
 use Rattle.engine_finish.proofs.working.clear_slots.Goals as goal
 
 pub loop-s-init : goal.loop-s-init
-loop-s-init c = (search rules, none_mapped idle_block c.args.m.now)
+loop-s-init c = none_mapped idle_block c.args.m.now
 
 pub loop-s-preserved : goal.loop-s-preserved
 loop-s-preserved c =
     let v = c.loop-s in
-    (search rules, one_more_cleared _ _ _ v.s (search rules) v.invariant.1 c.clear_block.ensures)
+    one_more_cleared _ _ _ v.s (search rules) v.invariant c.clear_block.ensures
 
 pub returns : goal.returns
 returns c =
     let v = c.loop-s in
     let z : v.s ≡ 64 = omega arith in
-    rw z at v.invariant.1
+    rw z at v.invariant

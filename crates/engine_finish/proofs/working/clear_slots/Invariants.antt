@@ -9,7 +9,4 @@ use borrow.Author.Rules.{rules}
 use Rattle.engine_finish.proofs.working.clear_slots.Given as goal
 
 abbrev pub invariant-loop-s : goal.invariant-loop-s
-invariant-loop-s l = (l.s ≤ 64) × Mapped l.s idle_block l.initial.m l.m
-
-abbrev pub decreases-loop-s : goal.decreases-loop-s
-decreases-loop-s l = 64 - l.s
+invariant-loop-s l = Mapped l.s idle_block l.initial.m l.m

@@ -2,20 +2,20 @@
 -- Letters: b a block, t a moment above 0, c how many variables are done, i a variable's index, k an offset.
 use mathlib.Core.Path.{◌≡◌, refl, sym, ap, ◌∙◌}
 use mathlib.Core.Bool.{Bool, true, false, cond}
-use mathlib.Core.List.{List, [], ◌∷◌}
+use mathlib.Core.List.{List, ◌∷◌}
 use Prim.Native.Nat.{ℕ, zero, suc, ◌+◌, ◌*◌, ◌≤◌, ◌<◌, min}
 use native.Mathlib.Decide.{ℕ_discrete}
 use native.Mathlib.Omega.{arith}
 use Rattle.walk.specs.State.{Variable, made_due}
 use Rattle.walk.specs.Instant.{due_writes}
-use Rattle.engine_rows.specs.Rows.{Row, with_own}
+use Rattle.engine_rows.specs.Rows.{with_own}
 use Rattle.engine_rows.specs.Beginning.{own_if}
 use Rattle.engine_blocks.specs.Tabulate.{tabulate_from}
-use Rattle.engine_blocks.specs.Blocks.{Block, nonzero, variable_in, variables_in, bindings_in, row_at}
+use Rattle.engine_blocks.specs.Blocks.{Block, nonzero, variable_in, variables_in, row_at}
 use Rattle.engine_blocks.specs.Changes.{due_block}
 use Rattle.engine_blocks.proofs.Tabulated.{tabulate_same}
 use Rattle.engine_blocks.proofs.RowChanges.{variable_same, bindings_same}
-use Rattle.engine_variables.proofs.VariableChanges.{InVariable, other_variable}
+use Rattle.engine_variables.proofs.VariableChanges.{other_variable}
 use Rattle.engine_make_due.proofs.MadeBlocks.{due_within, due_variable}
 use Rattle.engine_clean.specs.Clean.{CleanSlot, CleanEnvironment}
 use Rattle.engine_clean.proofs.Whole.{due_slot_lem, due_environment}

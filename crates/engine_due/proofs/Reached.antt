@@ -6,7 +6,7 @@ use mathlib.Core.List.{List, [], ◌∷◌, ◌++◌}
 use Prim.Native.Nat.{ℕ, ◌≤◌, ◌<◌}
 use native.Mathlib.Decide.{dec_lt}
 use native.Mathlib.Omega.{arith}
-use lib.ListN.{length, get_or, set, length-set}
+use lib.ListN.{length, set}
 use lib.Seq.{get_or-set_same}
 use borrow.Author.Tests.{lt-ltb, le-ltb}
 use Rattle.listing.specs.Listing.{Listing}
@@ -17,11 +17,10 @@ use Rattle.engine_rows.specs.Rows.{Owner, in_environment, in_slot, Row, Rows, fr
 use Rattle.engine_rows.specs.Triggers.{wakes_now, triggers_of}
 use Rattle.engine_rows.proofs.Sorted.{In, in_left, in_right, in_cases, Either, this, that}
 use Rattle.engine_rows.proofs.Waking.{row_awaits}
-use Rattle.engine_blocks.specs.Blocks.{Block, block, variable_in, owner_at, rows_of, environment_of}
+use Rattle.engine_blocks.specs.Blocks.{owner_at, rows_of, environment_of}
 use Rattle.engine_variables.specs.Bindings.{variables_beside}
-use Rattle.engine_blocks.specs.Changes.{SameTriggers, Changes}
+use Rattle.engine_blocks.specs.Changes.{SameTriggers}
 use Rattle.engine_blocks.specs.Store.{Store, store_of, variable_from, with_variable}
-use Rattle.engine_variables.proofs.Readings.{variable_of_lem}
 use Rattle.engine_blocks.proofs.RowChanges.{row_past, with_row_same}
 use Rattle.engine_ready.proofs.SameLows.{insert_all_same_lows, low_with_owner}
 use Rattle.engine_triggers.specs.Chains.{triggers_at}

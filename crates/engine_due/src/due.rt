@@ -42,12 +42,10 @@ fn make_due_in(
         × ((n : ℕ) → count ≤ length (variables_beside (store_of n m.old) (owner_at s 0)) → Unwritten count (block m.old s)
         → Reaches n m.old m.new (slots_of ready) (slots_of result)) }
 {
-    let mut i: usize = 0;
     let mut woken = ready;
-    while i < count {
+    for i in 0..count {
         engine_make_due::make_due(m, s, i, present);
         woken = wake_if_written(m, woken, s, i);
-        i += 1;
     }
     woken
 }
@@ -73,7 +71,6 @@ fn make_due_slot(m: &mut [u32], ready: ReadyList, s: usize, present: Moment, due
     make_due_in(m, ready, s, count, present)
 }
 
-// A count of variables, read as 16 if it is above.
 // All slots.
 fn make_due_slots(m: &mut [u32], ready: ReadyList, present: Moment, dues: &[u64; 65]) -> ReadyList
     requires { HasMachine m.old × (0 < present.0) × (length dues.now ≡ 65)
@@ -83,11 +80,9 @@ fn make_due_slots(m: &mut [u32], ready: ReadyList, present: Moment, dues: &[u64;
         × (Ordered (rows_of m.new) (slots_of result))
         × ((n : ℕ) → NothingWritten n m.old → Reaches n m.old m.new (slots_of ready) (slots_of result)) }
 {
-    let mut s: usize = 0;
     let mut woken = ready;
-    while s < SLOTS {
+    for s in 0..SLOTS {
         woken = make_due_slot(m, woken, s, present, dues[s]);
-        s += 1;
     }
     woken
 }

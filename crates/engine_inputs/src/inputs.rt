@@ -11,7 +11,7 @@ ghost use Rattle.engine_due.specs.Reaching.{Reaches};
 use engine_ready::ReadyList;
 use machine::ENVIRONMENT;
 
-// Each input by its number and value: it drops the waiting write on its variable, and passes along the trigger list of it.
+// Each input by its number and value, from the two lists that C lends: it drops the waiting write on its variable, and passes along the trigger list of it.
 pub fn write_inputs(m: &mut [u32], ready: ReadyList, numbers: &[u32], values: &[u32]) -> ReadyList
     requires { HasMachine m.old × (length numbers.now ≡ length values.now) × NumbersBelow 16 numbers.now × (Ordered (rows_of m.old) (slots_of ready)) }
     ensures { (Ordered (rows_of m.new) (slots_of result))
@@ -19,14 +19,11 @@ pub fn write_inputs(m: &mut [u32], ready: ReadyList, numbers: &[u32], values: &[
         → InputsWritten n (inputs_of numbers.now values.now) m.old m.new
         × Reaches n m.old m.new (slots_of ready) (slots_of result)) }
 {
-    let mut k: usize = 0;
     let mut woken = ready;
-    while k < numbers.len() {
-        let number = numbers[k] as usize;
-        let value = values[k];
-        engine_make_due::overwrite(m, ENVIRONMENT, number, value);
-        woken = engine_wake_all::wake_all(m, woken, ENVIRONMENT, number);
-        k += 1;
+    for (number, value) in numbers.iter().zip(values) {
+        let index = *number as usize;
+        engine_make_due::overwrite(m, ENVIRONMENT, index, *value);
+        woken = engine_wake_all::wake_all(m, woken, ENVIRONMENT, index);
     }
     woken
 }

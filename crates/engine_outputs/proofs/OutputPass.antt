@@ -3,14 +3,14 @@
 use mathlib.Core.Path.{◌≡◌, refl, sym, ap, ◌∙◌, subst}
 use mathlib.Core.Bool.{Bool, true, false}
 use mathlib.Core.List.{List, [], ◌∷◌, ◌++◌, map, append_assoc, append-nil}
-use Prim.Native.Nat.{ℕ, zero, suc, ◌+◌, ◌≤◌, ◌<◌, min}
+use Prim.Native.Nat.{ℕ, suc, ◌+◌, ◌≤◌, ◌<◌, min}
 use native.Mathlib.Numerals.{add-one}
 use native.Mathlib.Omega.{arith}
-use lib.ListN.{length, get_or, drop, set, length-append}
+use lib.ListN.{length, get_or, drop, set}
 use lib.Seq.{drop-cons, drop-length}
 use Rattle.walk.specs.State.{Variable, no_variable}
 use Rattle.walk.specs.Instant.{Write, listed_if, written_from}
-use Rattle.engine_blocks.specs.Blocks.{Block, block, variable_in, variables_in, environment_of}
+use Rattle.engine_blocks.specs.Blocks.{block, variable_in, variables_in, environment_of}
 use Rattle.engine_blocks.proofs.Tabulated.{get_d_tabulate, length_tabulate}
 use Rattle.engine_outputs.specs.Outputs.{put_if, count_if, ListedOne, Listed}
 

@@ -1,5 +1,5 @@
 -- What listing the outputs leaves in the two lent lists.
-use Rattle.std.specs.Prelude.{Bool, true, false, ◌≡◌, List, [], ◌∷◌, ◌++◌, map, ℕ, ◌+◌, length, drop, set}
+use Rattle.std.specs.Prelude.{Bool, true, false, ◌≡◌, List, ◌++◌, map, ℕ, ◌+◌, length, drop, set}
 use Rattle.walk.specs.Instant.{Write}
 use Rattle.engine_blocks.specs.Blocks.{block, variable_in}
 

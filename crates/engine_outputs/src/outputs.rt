@@ -20,7 +20,7 @@ fn list_output(m: &[u32], i: usize, numbers: &mut [u32], values: &mut [u32], cou
     count
 }
 
-// The outputs: the environment's variables after the inputs. Gives the number of those listed.
+// The outputs: the environment's variables after the inputs, in the two lists that C lends. Gives the number of those listed.
 pub fn list_outputs(
     m: &[u32],
     inputs: usize,
@@ -32,12 +32,9 @@ pub fn list_outputs(
     ensures { Listed (written_from inputs (drop inputs (environment_of (inputs + outputs) m.now)))
         numbers.old values.old numbers.new values.new result }
 {
-    let end = inputs + outputs;
-    let mut i = inputs;
     let mut count: usize = 0;
-    while i < end {
+    for i in inputs..inputs + outputs {
         count = list_output(m, i, numbers, values, count);
-        i += 1;
     }
     count
 }

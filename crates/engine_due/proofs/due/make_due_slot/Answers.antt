@@ -1,6 +1,5 @@
 -- `engine_due::due::make_due_slot` meets its contract.
-use mathlib.Core.Path.{sym, ap, ◌∙◌}
-use Prim.Native.Nat.{ℕ, min}
+use mathlib.Core.Path.{sym, ◌∙◌}
 use Rattle.engine_ready.specs.Slots.{slots_of}
 use Rattle.engine_due.proofs.Turns.{free_slot_stays, taken_slot_done, block_passed_over}
 use Rattle.engine_due.proofs.Reached.{reaches_none}

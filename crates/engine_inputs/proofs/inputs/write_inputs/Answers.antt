@@ -1,50 +1,67 @@
 -- `engine_inputs::inputs::write_inputs` meets its contract.
 use mathlib.Core.Path.{◌≡◌}
-use Prim.Native.Nat.{ℕ, ◌≤◌, ◌-◌}
 use native.Mathlib.Omega.{arith}
 use lib.ListN.{length}
 use borrow.Author.Rules.{rules}
-use Rattle.engine_blocks.specs.Blocks.{rows_of}
-use Rattle.engine_ready.specs.Ordered.{Ordered}
+use Rattle.std.proofs.Common.{[], ◌∷◌, ◌++◌, ◌+◌}
+use Rattle.std.proofs.lemmas.Slice.Zip.{zip_turn, zip_end}
+use Rattle.std.proofs.lemmas.List.{length_push}
 use Rattle.engine_ready.specs.Slots.{slots_of}
-use Rattle.engine_due.specs.Beginnings.{NumbersBelow}
-use Rattle.engine_due.specs.Reaching.{Reaches}
-use Rattle.engine_inputs.proofs.InputPass.{InputsSoFar, inputs_begun, one_more_input, inputs_done}
+use Rattle.engine_inputs.proofs.InputPass.{inputs_begun, one_more_input, inputs_done}
 use Rattle.engine_due.proofs.Reached.{reaches_none, reaches_then}
 use Rattle.engine_due.proofs.ReachedBlocks.{order_kept, input_reaches}
 use Rattle.engine_inputs.proofs.inputs.write_inputs.Goals as goal
 
-pub loop-k-init : goal.loop-k-init
-loop-k-init c =
+pub loop-number-init : goal.loop-number-init
+loop-number-init c =
     let a = c.args in
-    (omega arith, inputs_begun a.numbers.now a.values.now a.m.now, c.requires.3, λ n h. reaches_none n a.m.now (slots_of a.ready))
-
-pub overflow_cast-number : goal.overflow_cast-number
-overflow_cast-number c = omega (arith, c.type_inv.numbers c.loop-k.k)
+    (inputs_begun a.numbers.now a.values.now a.m.now, c.requires.3, λ n h. reaches_none n a.m.now (slots_of a.ready))
 
 pub overwrite-requires : goal.overwrite-requires
-overwrite-requires c = (search rules, search rules, c.requires.2.below c.loop-k.k (search rules))
+overwrite-requires c =
+    let a = c.args in
+    let v = c.loop-number in
+    let begun = c.into_iter-number-iterator.ensures.into_iter_gives in
+    let here = zip_turn a.numbers.now a.values.now v.yielded _ _ c.next.new.self _ (rw (begun, c.zip-number-items.ensures.first) c.iter.ensures.rest)
+    (rw begun c.zip-number-items.ensures.second.0) v.yielded_by _ c.in-Some.is c.next.ensures.steps in
+    (search rules, search rules, rw (here.2 0) (c.requires.2.below (length v.yielded) here.0))
 
 pub wake_all-woken-requires : goal.wake_all-woken-requires
 wake_all-woken-requires c =
-    let v = c.loop-k in
-    (search rules, search rules, c.requires.2.below v.k (search rules), order_kept _ _ (slots_of v.woken) (c.overwrite.ensures 0) v.invariant.2)
-
-pub loop-k-preserved : goal.loop-k-preserved
-loop-k-preserved c =
     let a = c.args in
-    let v = c.loop-k in
-    let w = c.wake_all-woken.ensures in
-    let below = c.requires.2.below v.k (search rules) in (
+    let v = c.loop-number in
+    let begun = c.into_iter-number-iterator.ensures.into_iter_gives in
+    let here = zip_turn a.numbers.now a.values.now v.yielded _ _ c.next.new.self _ (rw (begun, c.zip-number-items.ensures.first) c.iter.ensures.rest)
+    (rw begun c.zip-number-items.ensures.second.0) v.yielded_by _ c.in-Some.is c.next.ensures.steps in (
       search rules,
-      one_more_input a.numbers.now a.values.now v.k (search rules) (search rules) v.invariant.1 c.overwrite.ensures,
+      search rules,
+      rw (here.2 0) (c.requires.2.below (length v.yielded) here.0),
+      order_kept _ _ (slots_of v.woken) (c.overwrite.ensures 0) v.invariant.1,
+    )
+
+pub loop-number-preserved : goal.loop-number-preserved
+loop-number-preserved c =
+    let a = c.args in
+    let v = c.loop-number in
+    let begun = c.into_iter-number-iterator.ensures.into_iter_gives in
+    let here = zip_turn a.numbers.now a.values.now v.yielded _ _ c.next.new.self _ (rw (begun, c.zip-number-items.ensures.first) c.iter.ensures.rest)
+    (rw begun c.zip-number-items.ensures.second.0) v.yielded_by _ c.in-Some.is c.next.ensures.steps in
+    let w = c.wake_all-woken.ensures in
+    let below = c.requires.2.below (length v.yielded) here.0 in
+    let next = rw (here.2 0, here.3 0) at c.overwrite.ensures in
+    let reached = rw (here.2 0) at w.0 in
+    let more : length (v.yielded ++ ((c.in-Some.number, c.in-Some.value) ∷ [])) ≡ length v.yielded + 1 = length_push v.yielded (c.in-Some.number, c.in-Some.value) in (
+      rw more (one_more_input a.numbers.now a.values.now (length v.yielded) here.0 (search rules) v.invariant.0 next),
       w.1,
-      λ n h. reaches_then (v.invariant.3 n h) (input_reaches n _ _ below (h.below v.k (search rules)) c.overwrite.ensures w.0),
+      λ n h. reaches_then (v.invariant.2 n h) (input_reaches n _ _ below (h.below (length v.yielded) here.0) next reached),
     )
 
 pub returns : goal.returns
 returns c =
     let a = c.args in
-    let v = c.loop-k in
-    let z : v.k ≡ length a.numbers.now = omega arith in
-    (v.invariant.2, λ n h. (inputs_done a.numbers.now a.values.now (rw z at v.invariant.1) n h, v.invariant.3 n h))
+    let v = c.loop-number in
+    let begun = c.into_iter-number-iterator.ensures.into_iter_gives in
+    let all = zip_end a.numbers.now a.values.now v.yielded _ _ c.next.new.self _ (rw (begun, c.zip-number-items.ensures.first) c.iter.ensures.rest)
+    (rw begun c.zip-number-items.ensures.second.0) v.yielded_by c.in-None.is c.next.ensures.steps in
+    let z : length v.yielded ≡ length a.numbers.now = omega (arith, all, c.requires.1) in
+    (v.invariant.1, λ n h. (inputs_done a.numbers.now a.values.now (rw z at v.invariant.0) n h, v.invariant.2 n h))

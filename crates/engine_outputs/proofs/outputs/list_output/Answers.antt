@@ -1,6 +1,5 @@
 use Rattle.engine_outputs.proofs.OutputPass.{listed_written, listed_unwritten}
-use mathlib.Core.Path.{◌≡◌, sym, ◌∙◌}
-use borrow.Author.Rules.{rules}
+use mathlib.Core.Path.{sym, ◌∙◌}
 use Rattle.engine_outputs.proofs.outputs.list_output.Goals as goal
 
 pub returns-then-written : goal.returns-then-written

@@ -41,13 +41,11 @@ pub fn fill_rows(t: &[u32], m: &mut [u32])
 {
     let n = header(m, LIVE);
     let mut above: [u8; 12] = [64; 12];
-    let mut k: usize = 0;
-    while k < n {
+    for k in 0..n {
         let s = header(m, ORDER + k);
         let level = engine_row::level(m, s) as usize;
         let p = byte_number(above[level]);
         fill_slot(t, m, level, p, s);
         above[level + 1] = s as u8;
-        k += 1;
     }
 }

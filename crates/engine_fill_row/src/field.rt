@@ -26,10 +26,7 @@ pub fn wait_mark(t: &[u32], r: usize, place: usize) -> u32
     ensures { nonzero result ≡ is_wait (instruction_at (table_listing t.now) r place) }
 {
     let e = fetch(t, r, place);
-    if e.kind == WAIT {
-        return 1;
-    }
-    0
+    u32::from(e.kind == WAIT)
 }
 
 // The field of the parent's `F` that made the routine in slot s.

@@ -27,10 +27,8 @@ fn bind_environment(m: &mut [u32], s: usize, count: usize)
     requires { HasMachine m.old × (s < 64) × (count ≤ 16) }
     ensures { EnvironmentBound m.old s count m.new }
 {
-    let mut j: usize = 0;
-    while j < count {
+    for j in 0..count {
         put_word(m, s, BINDINGS + j, FIRST_OF_ENVIRONMENT + j as u32);
-        j += 1;
     }
 }
 

@@ -55,9 +55,6 @@ bounds-above-level-in-loop-k c =
     let more = subst (λ (x : ℕ). c.loop-k.k < x) c.header-n.ensures c.loop-k-test.true in
     omega (arith, G.size, level_small c.requires G more _ c.header-s.ensures _ c.level-level.ensures)
 
-pub overflow_add-k-in-loop-k : goal.overflow_add-k-in-loop-k
-overflow_add-k-in-loop-k c = omega (arith, c.requires.few, c.header-n.ensures, c.loop-k-test.true)
-
 pub loop-k-preserved : goal.loop-k-preserved
 loop-k-preserved c =
     let G = c.loop-k.invariant in

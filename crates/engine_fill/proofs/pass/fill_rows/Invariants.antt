@@ -8,6 +8,3 @@ use Rattle.engine_fill.proofs.pass.fill_rows.Given as goal
 
 abbrev pub invariant-loop-k : goal.invariant-loop-k
 invariant-loop-k l = Passing l.t l.initial.m l.m l.above l.k
-
-abbrev pub decreases-loop-k : goal.decreases-loop-k
-decreases-loop-k l = l.n - l.k

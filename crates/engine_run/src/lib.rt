@@ -8,8 +8,8 @@ ghost use Rattle.engine_run.specs.Whole.{MayBeginRun, RunsReady};
 use engine_ready::ReadyList;
 use engine_ready_step::step;
 use engine_run_laws::{Left, Ran};
-use engine_steps::{Answer, Running};
-use engine_straight::{Straight, run_straight};
+use engine_steps::{Running, Stepped, Stop};
+use engine_straight::run_straight;
 use words::Moment;
 
 // The routine that runs goes on, and all that are ready after it. "13 Is a step left?"
@@ -22,33 +22,22 @@ pub fn run_on(t: &[u32], m: &mut [u32], present: Moment, running: Running, allow
     while left > 0 {
         let me = runs.me;
         match run_straight(t, m, present, me, left) {
-            Straight::At(on) => {
-                left = on;
-            }
-            Straight::StopsWith(number) => {
-                return Ran::Stopped(number);
-            }
+            Ok(on) => left = on,
+            Err(stop) => return Ran::Stopped(u32::from(stop)),
         }
         if left == 0 {
-            return Ran::Stopped(13);
+            return Ran::Stopped(u32::from(Stop::Allowance));
         }
         left -= 1;
-        let stepped = step(t, m, runs);
-        let answer = stepped.answer;
-        runs = stepped.running;
-        match answer {
-            Answer::Goes => {}
-            Answer::Ends => {
-                let live = runs.live;
-                let woken = runs.woken;
+        match step(t, m, runs) {
+            Ok(Stepped::Goes(on)) => runs = on,
+            Ok(Stepped::Ends { live, woken }) => {
                 return Ran::Ended(Left { left, live, woken });
             }
-            Answer::Stops(k) => {
-                return Ran::Stopped(k);
-            }
+            Err(stop) => return Ran::Stopped(u32::from(stop)),
         }
     }
-    Ran::Stopped(13)
+    Ran::Stopped(u32::from(Stop::Allowance))
 }
 
 // The first that is ready goes on, and all after it. If nobody is, the instant ends.
@@ -69,22 +58,16 @@ pub fn run_ready(
         woken: 0,
         me: 0,
     };
-    let stepped = engine_steps::next_ready(m, first);
-    let answer = stepped.answer;
-    let running = stepped.running;
-    match answer {
-        Answer::Goes => {
+    match engine_steps::next_ready(m, first) {
+        Stepped::Goes(running) => {
             return run_on(t, m, present, running, allowance);
         }
-        Answer::Ends => {
+        Stepped::Ends { live, woken } => {
             return Ran::Ended(Left {
                 left: allowance,
-                live: running.live,
-                woken: running.woken,
+                live,
+                woken,
             });
-        }
-        Answer::Stops(k) => {
-            return Ran::Stopped(k);
         }
     }
 }

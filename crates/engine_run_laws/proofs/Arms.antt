@@ -5,6 +5,7 @@ use mathlib.Core.List.{List}
 use Prim.Native.Nat.{ℕ, zero, suc, ◌+◌, ◌*◌, ◌≤◌, ◌<◌}
 use native.Mathlib.Omega.{arith}
 use lib.ListN.{length}
+use Rattle.std.specs.Prelude.{Option, Result}
 use Rattle.listing.specs.Listing.{Listing, Instruction}
 use Rattle.walk.specs.Walk.{instruction_at}
 use Rattle.table.specs.Decode.{word, names_of, size_of, head_after, routine_entry, table_listing}
@@ -19,7 +20,7 @@ use Rattle.engine_evaluate.proofs.Standing.{standing_evaluable}
 use Rattle.engine_steps.specs.declared.running.Running.{Running}
 use Rattle.engine_steps.specs.declared.running.Stepped.{Stepped}
 use Rattle.engine_steps.specs.Asked.{MayPop, MayGoOn, MayChange, MayWrite, MayEnd}
-use Rattle.engine_steps.specs.declared.running.Onward.{Onward}
+use Rattle.engine_steps.specs.declared.stop.Stop.{Stop}
 use Rattle.engine_steps.specs.Outcome.{Executes, NeedsReady, Onwards}
 use Rattle.engine_fork.specs.Asked.{MayForkStep}
 use Rattle.engine_run_laws.specs.Asked.{MayStep}
@@ -67,10 +68,10 @@ module _ {t m : List ℕ} {u : Running} (may : MayStep t m u) where
       }
 
 -- The instruction that was read is executed.
-pub as_read : {listing : Listing} {moment : ℕ} {i j : Instruction} {a m : List ℕ} {u : Running} {r : Stepped} → i ≡ j → Executes listing moment j a m u r → Executes listing moment i a m u r
+pub as_read : {listing : Listing} {moment : ℕ} {i j : Instruction} {a m : List ℕ} {u : Running} {r : Result Stepped Stop} → i ≡ j → Executes listing moment j a m u r → Executes listing moment i a m u r
 as_read e x = rw e x
 
-pub as_read_on : (listing : Listing) (moment : ℕ) {i j : Instruction} (a m : List ℕ) (me : ℕ) (r : Onward) → i ≡ j → Onwards listing moment j a m me r → Onwards listing moment i a m me r
+pub as_read_on : (listing : Listing) (moment : ℕ) {i j : Instruction} (a m : List ℕ) (me : ℕ) (r : Result (Option ℕ) Stop) → i ≡ j → Onwards listing moment j a m me r → Onwards listing moment i a m me r
 as_read_on listing moment a m me r e x = rw e x
 
 -- ── the last kind ─────────────────────────────────────────────────────────────────────────────────

@@ -8,6 +8,7 @@ ghost use Rattle.engine_steps.specs.Asked.{MayPop, MayGoOn};
 ghost use Rattle.engine_steps.specs.Outcome.{Executes, Onwards};
 
 use crate::running::{Onward, Running, Stepped, next_ready};
+use crate::stop::Stop;
 use engine_evaluate::NO_VALUE;
 
 // "`G|k` goes to k."
@@ -16,7 +17,7 @@ pub fn jump_on(m: &mut [u32], me: usize, k: u32) -> Onward
     ensures { (listing : Listing) (moment : ℕ) → Onwards listing moment (jump k) m.old m.new me result }
 {
     engine_row_changes::set_place(m, me, k);
-    Onward::To(k)
+    Ok(Some(k))
 }
 
 // "`U|e|k` goes to instruction k if e is 0." Question 18.
@@ -35,7 +36,7 @@ pub fn branch_on(
 {
     let condition = engine_evaluate::evaluate(t, m, me, cells, pieces);
     if NO_VALUE <= condition {
-        return Onward::StopsWith(18);
+        return Err(Stop::Divisor);
     }
     if condition == 0 {
         return jump_on(m, me, k);
@@ -46,7 +47,7 @@ pub fn branch_on(
 // "A wait reached now sleeps, even if its name was written earlier in this instant."
 pub fn wait_step(m: &mut [u32], running: Running) -> Stepped
     requires { MayPop m.old running }
-    ensures { (listing : Listing) (moment : ℕ) (names : List ℕ) → Executes listing moment (wait names) m.old m.new running result }
+    ensures { (listing : Listing) (moment : ℕ) (names : List ℕ) → Executes listing moment (wait names) m.old m.new running (Ok result) }
 {
     next_ready(m, running)
 }

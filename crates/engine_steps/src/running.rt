@@ -2,6 +2,7 @@
 ghost use Rattle.engine_steps.specs.Asked.{MayPop};
 ghost use Rattle.engine_steps.specs.Outcome.{Pops};
 
+use crate::stop::Stop;
 use engine_ready::ReadyList;
 
 // Who is ready, how many routines live, how many waits were passed, the slot of the routine that runs.
@@ -13,28 +14,15 @@ pub struct Running {
     pub me: usize,
 }
 
-// Somebody runs; the instant ends; the machine stops under a number.
+// Somebody runs; the instant ends, so many routines live then, and so many waits were passed.
 #[derive(Clone, Copy)]
-pub enum Answer {
-    Goes,
-    Ends,
-    Stops(u32),
+pub enum Stepped {
+    Goes(Running),
+    Ends { live: u32, woken: u32 },
 }
 
-#[derive(Clone, Copy)]
-pub struct Stepped {
-    pub answer: Answer,
-    pub running: Running,
-}
-
-// A step made without the ready list: the routine goes on at this place; the machine stops under a number; it was not made, since it
-// may change the ready list.
-#[derive(Clone, Copy)]
-pub enum Onward {
-    To(u32),
-    StopsWith(u32),
-    Unmade,
-}
+// A step made without the ready list: the place where the routine goes on, or none if it was not made, since it may change the ready list.
+pub type Onward = Result<Option<u32>, Stop>;
 
 // The first that is ready goes on: a sleeper after its wait, a new routine where it begins. If nobody is, the instant ends.
 pub fn next_ready(m: &mut [u32], running: Running) -> Stepped
@@ -45,10 +33,7 @@ pub fn next_ready(m: &mut [u32], running: Running) -> Stepped
     let live = running.live;
     let woken = running.woken;
     if engine_ready::is_empty(q) {
-        return Stepped {
-            answer: Answer::Ends,
-            running,
-        };
+        return Stepped::Ends { live, woken };
     }
     let popped = engine_ready::pop(q);
     let s = popped.slot;
@@ -56,24 +41,18 @@ pub fn next_ready(m: &mut [u32], running: Running) -> Stepped
     let place = engine_row::place(m, s);
     if engine_row::asleep(m, s) {
         engine_row_changes::set_place(m, s, place + 1);
-        return Stepped {
-            answer: Answer::Goes,
-            running: Running {
-                ready: rest,
-                live,
-                woken: woken + 1,
-                me: s,
-            },
-        };
-    }
-    engine_row_changes::set_place(m, s, place);
-    Stepped {
-        answer: Answer::Goes,
-        running: Running {
+        return Stepped::Goes(Running {
             ready: rest,
             live,
-            woken,
+            woken: woken + 1,
             me: s,
-        },
+        });
     }
+    engine_row_changes::set_place(m, s, place);
+    Stepped::Goes(Running {
+        ready: rest,
+        live,
+        woken,
+        me: s,
+    })
 }

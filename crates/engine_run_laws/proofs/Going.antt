@@ -2,7 +2,7 @@
 -- Letters: t the table's words, m₀ and u₀ the words and the running state at the loop's beginning, m and u those now.
 use mathlib.Core.Path.{◌≡◌, refl, sym, ap, subst, ◌∙◌}
 use mathlib.Core.List.{List}
-use Prim.Native.Nat.{ℕ, suc, ◌+◌, ◌-◌, ◌≤◌, ◌<◌}
+use Prim.Native.Nat.{ℕ, suc, ◌-◌, ◌≤◌, ◌<◌}
 use native.Mathlib.Omega.{arith}
 use lib.ListN.{length}
 use Rattle.std.specs.Prelude.{Result, Ok, Err}
@@ -10,9 +10,9 @@ use Rattle.listing.specs.Listing.{Listing}
 use Rattle.walk.specs.Walk.{instruction_at}
 use Rattle.walk.specs.Instant.{environment_size}
 use Rattle.table.specs.Decode.{table_listing}
-use Rattle.engine_rows.specs.Rows.{Owner, Row}
+use Rattle.engine_rows.specs.Rows.{Owner}
 use Rattle.engine_rows.specs.Engine.{RowsResult, RowsRunner, execute_rows, run_rows}
-use Rattle.engine_rows.proofs.Reachable.{Reached, step_reaches}
+use Rattle.engine_rows.proofs.Reachable.{step_reaches}
 use Rattle.engine_rows.proofs.Bounds.{reached_bounds}
 use Rattle.engine_blocks.specs.Blocks.{rows_of, environment_of}
 use Rattle.engine_clean.specs.Clean.{Clean}
@@ -23,14 +23,11 @@ use Rattle.engine_steps.specs.declared.running.Stepped.{Stepped}
 use Rattle.engine_steps.specs.declared.running.Stepped.TheVariants.{Goes, Ends}
 use Rattle.engine_steps.specs.declared.stop.Stop.{Stop}
 use Rattle.engine_steps.specs.Stops.{number_of_stop}
-use Rattle.engine_steps.specs.Outcome.{left_by, RunsLive, Reading, Stays, Executes}
+use Rattle.engine_steps.specs.Outcome.{left_by, RunsLive, Reading, Executes}
 use Rattle.engine_steps.proofs.Stores.{stays_then, stays_start}
 use Rattle.engine_run_laws.specs.Asked.{MayStep}
-use Rattle.engine_run_laws.specs.Placed.{Placed}
 use Rattle.engine_run_laws.specs.Going as specs
 use Rattle.engine_run_laws.specs.Runs.{MayRunOn, ran_by, RunsOn}
-use Rattle.engine_run_laws.specs.declared.Left.{Left}
-use Rattle.engine_run_laws.specs.declared.Ran.{Ran}
 use Rattle.engine_run_laws.specs.declared.Ran.TheVariants.{Ended, Stopped}
 use Rattle.engine_run_laws.proofs.Invariant.{may_step, reading}
 use Rattle.engine_run_laws.proofs.Keeping.{running_childless}

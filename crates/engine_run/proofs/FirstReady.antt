@@ -8,7 +8,6 @@ use native.Mathlib.Omega.{arith}
 use Rattle.walk.specs.Instant.{environment_size}
 use Rattle.table.specs.Decode.{table_listing}
 use Rattle.table.proofs.Bounds.{bounds}
-use Rattle.engine_rows.specs.Rows.{Row}
 use Rattle.engine_rows.specs.Engine.{RowsResult, RowsRunner, next_ready, run_rows}
 use Rattle.engine_rows.proofs.Reachable.{Reached}
 use Rattle.engine_rows.proofs.Bounds.{reached_bounds}
@@ -25,7 +24,6 @@ use Rattle.engine_steps.specs.declared.running.Stepped.{Stepped}
 use Rattle.engine_steps.specs.declared.running.Stepped.TheVariants.{Goes, Ends}
 use Rattle.engine_steps.specs.Outcome.{left_by, RunsLive, Pops}
 use Rattle.engine_steps.proofs.Stores.{stays_then}
-use Rattle.engine_run_laws.specs.Placed.{GoesOn}
 use Rattle.engine_run_laws.specs.Runs.{MayRunOn, ran_by, RunsOn}
 use Rattle.engine_run.specs.Whole.{MayBeginRun, RunsReady}
 use Rattle.engine_run_laws.specs.declared.Ran.{Ran}

@@ -1,7 +1,7 @@
 -- The running routine goes on without the ready list, and the whole run goes on from there. Letters as in Going.
 use mathlib.Core.Path.{◌≡◌, refl, sym, ap, subst, ◌∙◌}
 use mathlib.Core.List.{List}
-use Prim.Native.Nat.{ℕ, suc, ◌+◌, ◌*◌, ◌-◌, ◌≤◌, ◌<◌}
+use Prim.Native.Nat.{ℕ, ◌+◌, ◌*◌, ◌-◌, ◌≤◌, ◌<◌}
 use native.Mathlib.Omega.{arith}
 use lib.ListN.{length}
 use Rattle.std.specs.Prelude.{Option, Some, None, Result, Ok, Err}
@@ -13,7 +13,6 @@ use Rattle.table.proofs.Bounds.{bounds}
 use Rattle.table_read.specs.Opened.{code_at, entry_of}
 use Rattle.table_read.specs.declared.Entry.{Entry}
 use Rattle.table_read.proofs.Fetching.{has_entry, entry_fetched}
-use Rattle.engine_rows.specs.Rows.{Row}
 use Rattle.engine_blocks.specs.Blocks.{rows_of}
 use Rattle.engine_triggers.proofs.Chaining.{lists_stay}
 use Rattle.engine_steps.specs.declared.running.Running.{Running}

@@ -3,7 +3,6 @@
 use Rattle.std.specs.Prelude.{List, ◌≡◌, ℕ, ◌≤◌, ◌<◌, length, Result, Ok, Err}
 use Rattle.walk.specs.Walk.{instruction_at}
 use Rattle.table.specs.Decode.{table_listing}
-use Rattle.engine_rows.specs.Rows.{Row}
 use Rattle.engine_blocks.specs.Blocks.{rows_of}
 use Rattle.engine_ready.specs.declared.ReadyList.{ReadyList}
 use Rattle.engine_steps.specs.declared.running.Running.{Running}

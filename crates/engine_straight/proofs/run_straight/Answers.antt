@@ -1,14 +1,12 @@
 -- `engine_straight::run_straight` meets its contract.
-use mathlib.Core.Path.{◌≡◌, refl, sym, ap, subst, ◌∙◌}
-use Prim.Native.Nat.{ℕ, ◌+◌, ◌*◌, ◌-◌, ◌≤◌, ◌<◌}
+use mathlib.Core.Path.{◌≡◌, ap, ◌∙◌}
+use Prim.Native.Nat.{ℕ, ◌+◌, ◌*◌, ◌-◌}
 use native.Mathlib.Omega.{arith}
 use borrow.Author.Rules.{rules}
 use Rattle.std.specs.Prelude.{Ok}
 use Rattle.std.proofs.lemmas.Result.{err_from_is_err_and}
-use Rattle.engine_rows.specs.Rows.{Row}
-use Rattle.engine_blocks.specs.Blocks.{rows_of}
 use Rattle.table_read.specs.Opened.{code_at, entry_of}
-use Rattle.engine_straight.proofs.OnTheWay.{OnItsWay, way_begins, may_step_first, routine_few, table_long, may_step_there, room_there, fetched_there, way_on, way_stops, way_needs, way_used_up}
+use Rattle.engine_straight.proofs.OnTheWay.{way_begins, may_step_first, routine_few, table_long, may_step_there, room_there, fetched_there, way_on, way_stops, way_needs, way_used_up}
 use Rattle.engine_straight.proofs.run_straight.Goals as goal
 
 pub routine-requires : goal.routine-requires

@@ -1,11 +1,11 @@
 -- What the pass asks for, from what question 7 gives: a routine asleep at a wait or a fork is at an instruction that is there.
-use mathlib.Core.Path.{◌≡◌, refl, sym, ap, ◌∙◌}
-use mathlib.Core.List.{List, []}
-use Prim.Native.Nat.{ℕ, ◌≤◌, ◌<◌}
+use mathlib.Core.Path.{◌≡◌, ap}
+use mathlib.Core.List.{List}
+use Prim.Native.Nat.{ℕ, ◌<◌}
 use native.Mathlib.Omega.{arith}
 use native.Mathlib.Decide.{dec_lt}
-use lib.ListN.{length, get_or, get_or-eq_default}
-use Rattle.listing.specs.Listing.{Routine, Instruction, end}
+use lib.ListN.{get_or, get_or-eq_default}
+use Rattle.listing.specs.Listing.{Routine, end}
 use Rattle.walk.specs.Walk.{no_routine, routine_at, instruction_at}
 use Rattle.table.specs.Decode.{word, size_of, table_listing}
 use Rattle.table.proofs.Reach.{routine_total, code_length_by_number}

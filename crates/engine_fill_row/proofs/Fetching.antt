@@ -6,7 +6,7 @@ use Prim.Native.Nat.{ℕ, suc, ◌≤◌, ◌<◌}
 use native.Mathlib.Omega.{arith}
 use native.Mathlib.Decide.{ℕ_discrete}
 use lib.ListN.{length}
-use Rattle.listing.specs.Listing.{Piece, Call, Instruction, assign, schedule, branch, jump, wait, fork, end}
+use Rattle.listing.specs.Listing.{Piece, Call, Instruction, assign, schedule, branch, jump, end}
 use Rattle.walk.specs.Walk.{instruction_at, child_count}
 use Rattle.table.specs.Decode.{calls_at, table_listing}
 use Rattle.table.specs.Entry.{Fetched}

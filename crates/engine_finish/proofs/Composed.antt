@@ -1,11 +1,11 @@
 -- Header cleared, order built, places set, working words cleared, moment and count stored: the end of an instant.
 -- Letters: a the words before, b, c, d, e those after each step.
 use mathlib.Core.Path.{◌≡◌, refl, sym, ap, subst, ◌∙◌}
-use mathlib.Core.List.{List, [], ◌∷◌}
-use Prim.Native.Nat.{ℕ, zero, suc, ◌+◌, ◌-◌, ◌*◌, ◌/◌, ◌%◌, ◌≤◌, ◌<◌}
+use mathlib.Core.List.{List, []}
+use Prim.Native.Nat.{ℕ, zero, suc, ◌+◌, ◌/◌, ◌%◌, ◌≤◌, ◌<◌}
 use native.Mathlib.Decide.{dec_lt}
 use native.Mathlib.Omega.{arith}
-use lib.ListN.{length, get_or, take, drop, set, length-set, length-drop, get_or-eq_default}
+use lib.ListN.{length, get_or, drop, set, length-set, length-drop, get_or-eq_default}
 use lib.Seq.{get_or-take, get_or-drop, get_or-set_same, get_or-set_other, drop-set-lt, ext_get_or}
 use Rattle.engine_rows.specs.Rows.{Rows}
 use Rattle.engine_rows.specs.Order.{order_below_lem, walking_order}

@@ -2,20 +2,19 @@
 -- Letters: s the state, σ the rows at the end of the run, n the number of environment variables.
 use mathlib.Core.Path.{◌≡◌, refl, sym, ap, subst, ◌∙◌}
 use mathlib.Core.Bool.{Bool, true, false, cond}
-use mathlib.Core.List.{List, [], ◌∷◌}
-use mathlib.Core.Option.{Option, some}
-use Prim.Native.Nat.{ℕ, zero, suc, ◌+◌, ◌*◌, ◌≤◌, ◌<◌}
+use mathlib.Core.List.{List, []}
+use mathlib.Core.Option.{some}
+use Prim.Native.Nat.{ℕ, zero, suc, ◌+◌, ◌≤◌, ◌<◌}
 use native.Mathlib.Omega.{arith}
 use lib.Dec.{ltb}
-use lib.ListN.{length, get_or, take, get_or-eq_default}
+use lib.ListN.{length, get_or, take}
 use lib.Seq.{get_or-take}
-use borrow.Author.Tests.{lt-ltb}
 use Rattle.listing.specs.Listing.{Listing}
 use Rattle.walk.specs.State.{Variable, State}
-use Rattle.walk.specs.Instant.{unmarked, environment_size}
-use Rattle.walk.specs.Calls.{Words32, Machine, running}
+use Rattle.walk.specs.Instant.{unmarked}
+use Rattle.walk.specs.Calls.{Words32, running}
 use Rattle.walk.specs.Question7.{IsState}
-use Rattle.engine_rows.specs.Rows.{Row, Rows, with_own}
+use Rattle.engine_rows.specs.Rows.{Rows, with_own}
 use Rattle.engine_rows.specs.Beginning.{own_if, unmarked_rows}
 use Rattle.engine_rows.specs.Order.{walking_order}
 use Rattle.engine_rows.specs.Records.{kept_in, kept_of}
@@ -33,8 +32,8 @@ use Rattle.engine_blocks.specs.Tabulate.{tabulate_from}
 use Rattle.engine_blocks.specs.Blocks.{Block, block, nonzero, variables_in, row_at, rows_of, environment_of}
 use Rattle.engine_blocks.proofs.InBlocks.{block_word}
 use Rattle.engine_blocks.proofs.RowChanges.{row_of}
-use Rattle.engine_clean.specs.Clean.{CleanSlot, CleanEnvironment, Clean}
-use Rattle.engine_finish.specs.Ended.{idle_block, resting_block, Ended}
+use Rattle.engine_clean.specs.Clean.{CleanSlot, Clean}
+use Rattle.engine_finish.specs.Ended.{Ended}
 use Rattle.engine_finish.proofs.RestingBlocks.{record_of, record_words_lem, environment_words_lem, free_words}
 use Rattle.engine_finish.proofs.KeptRecords.{row_record, records_length, record_at_lem, walking_order_unmarked, slot_in, PlaceOf, place_of, distinct_places}
 

@@ -3,7 +3,7 @@
 use mathlib.Core.Path.{◌≡◌, refl, sym, ap, ap₂, ◌∙◌}
 use mathlib.Core.Bool.{Bool, true, false}
 use mathlib.Core.List.{List, [], ◌∷◌, ◌++◌}
-use Prim.Native.Nat.{ℕ, zero, suc, ◌+◌, ◌≤◌, ◌<◌}
+use Prim.Native.Nat.{ℕ, zero, suc, ◌<◌}
 use native.Mathlib.Omega.{arith}
 use lib.ListN.{length, get_or}
 use Rattle.listing.specs.Listing.{Listing, Call}
@@ -14,7 +14,7 @@ use Rattle.engine_rows.specs.Beginning.{unmarked_rows}
 use Rattle.engine_rows.specs.Order.{order_key, insert_in_order, before_else, order_if, order_below_lem, walking_order}
 use Rattle.engine_rows.specs.Records.{Kept, kept_of_row, kept_in, kept_of_node, kept_of}
 use Rattle.engine_rows.proofs.Sorted.{In, here, there}
-use Rattle.engine_rows.proofs.Folding.{Distinct, distinct_nil, distinct_put}
+use Rattle.engine_rows.proofs.Folding.{Distinct, distinct_put}
 use Rattle.machine.specs.Records.{Record, records_of_node, records_of}
 use Rattle.machine.specs.Layout.{no_record}
 

@@ -2,7 +2,7 @@
 use mathlib.Core.Path.{◌≡◌, refl, sym, ap, subst, ◌∙◌}
 use mathlib.Core.Bool.{Bool, true, false}
 use mathlib.Core.List.{List, [], ◌∷◌, ◌++◌}
-use Prim.Native.Nat.{ℕ, zero, suc, ◌+◌, ◌-◌, ◌*◌, ◌≤◌, ◌<◌}
+use Prim.Native.Nat.{ℕ, zero, suc, ◌+◌, ◌-◌, ◌≤◌, ◌<◌}
 use native.Mathlib.Decide.{ℕ_discrete}
 use native.Mathlib.Omega.{arith}
 use lib.Dec.{ltb}
@@ -13,13 +13,12 @@ use Rattle.engine_rows.specs.Rows.{Rows}
 use Rattle.engine_rows.specs.Order.{order_key, before_else, insert_in_order, order_if, order_below_lem}
 use Rattle.engine_rows.proofs.Sorted.{In, here, there, Either, this, that}
 use Rattle.engine_rows.proofs.Folding.{Distinct, distinct_nil, distinct_put}
-use Rattle.machine.specs.Words.{block_at}
 use Rattle.engine_blocks.specs.Blocks.{Block, block, rows_of}
 use Rattle.engine_blocks.specs.Changes.{InBlock, put_in}
 use Rattle.engine_blocks.proofs.InBlocks.{other_block}
 use Rattle.engine_order.specs.Listed.{listed_in_lem, SlotsBelow, OrderBuilt}
 use Rattle.engine_order.specs.Placed.{SlotsDiffer, PlacesSet, HeaderCleared}
-use Rattle.engine_finish.proofs.KeptRecords.{PlaceOf, place_of, distinct_places}
+use Rattle.engine_finish.proofs.KeptRecords.{place_of, distinct_places}
 use Rattle.engine_order.proofs.Ordering.{listed_length, listed_word}
 use Rattle.engine_order.proofs.OrderTurns.{order_below}
 

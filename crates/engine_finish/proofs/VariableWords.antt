@@ -6,7 +6,7 @@ use Prim.Native.Nat.{ℕ, zero, suc, ◌+◌, ◌*◌, ◌/◌, ◌%◌, ◌≤�
 use native.Mathlib.Decide.{dec_lt}
 use native.Mathlib.Omega.{arith}
 use lib.ListN.{length, get_or, get_or-eq_default}
-use Rattle.walk.specs.State.{Variable, idle, no_variable, unmarked_of}
+use Rattle.walk.specs.State.{Variable, no_variable, unmarked_of}
 use Rattle.walk.specs.Instant.{unmarked}
 use Rattle.machine.specs.Words.{waiting_of}
 use Rattle.machine.specs.Layout.{variables_words, waiting_value, waiting_moment}

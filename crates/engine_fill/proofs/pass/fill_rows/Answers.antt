@@ -1,10 +1,9 @@
 -- `engine_fill::pass::fill_rows` meets its contract.
 use mathlib.Core.Path.{subst}
-use Prim.Native.Nat.{ℕ, ◌<◌, ◌-◌}
+use Prim.Native.Nat.{ℕ, ◌<◌}
 use native.Mathlib.Omega.{arith}
-use Rattle.engine_fill.proofs.Passes.{Passing, pass_start, pass_end}
+use Rattle.engine_fill.proofs.Passes.{pass_start, pass_end}
 use Rattle.engine_fill.proofs.PassSteps.{slot_small, level_small, may_fill_now, pass_turn}
-use borrow.Author.Rules.{rules}
 use Rattle.engine_fill.proofs.pass.fill_rows.Goals as goal
 
 pub header-n-requires : goal.header-n-requires

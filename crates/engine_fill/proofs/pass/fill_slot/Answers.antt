@@ -1,6 +1,5 @@
 -- `engine_fill::pass::fill_slot` meets its contract.
 use Rattle.engine_fill.proofs.Passes.{slot_main, slot_child}
-use borrow.Author.Rules.{rules}
 use Rattle.engine_fill.proofs.pass.fill_slot.Goals as goal
 
 pub fill_main-requires : goal.fill_main-requires

@@ -1,6 +1,5 @@
 -- `engine_fill::pass::header` meets its contract.
 use native.Mathlib.Omega.{arith}
-use borrow.Author.Rules.{rules}
 use Rattle.engine_fill.proofs.pass.header.Goals as goal
 
 pub overflow_cast-result : goal.overflow_cast-result

@@ -8,7 +8,6 @@ use Rattle.table_read.proofs.Fetching.{has_entry, entry_fetched}
 use Rattle.engine_blocks.specs.Blocks.{rows_of}
 use Rattle.engine_children.proofs.ChildSteps.{table_size_lem}
 use Rattle.engine_fill_row.proofs.Fields.{fetched_there, parent_routine, parent_place, child_inside, head_inside, field_is}
-use borrow.Author.Rules.{rules}
 use Rattle.engine_fill_row.proofs.field.field_of.Goals as goal
 use Rattle.engine_fill_row.proofs.field.field_of.Goals.{After-place-at, After-fetch-e}
 

@@ -1,7 +1,6 @@
 -- `engine_fill_row::row::fill_child` meets its contract.
 use native.Mathlib.Omega.{arith}
 use Rattle.engine_fill_row.proofs.ChildFilled.{count_divides, may_fill_row, child_filled}
-use borrow.Author.Rules.{rules}
 use Rattle.engine_fill_row.proofs.row.fill_child.Goals as goal
 
 pub overflow_cast-field : goal.overflow_cast-field

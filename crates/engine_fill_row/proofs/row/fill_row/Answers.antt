@@ -8,7 +8,6 @@ use Rattle.engine_rows.specs.Records.{is_wait}
 use Rattle.engine_new_rows.specs.NewRow.{Reaches}
 use Rattle.engine_children.proofs.ChildSteps.{callee_small}
 use Rattle.engine_fill_row.proofs.WorkingRows.{names_may_bind, child_row_filled}
-use borrow.Author.Rules.{rules}
 use Rattle.engine_fill_row.proofs.row.fill_row.Goals as goal
 
 pub opening_of-opening-requires : goal.opening_of-opening-requires

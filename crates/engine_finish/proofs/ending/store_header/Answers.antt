@@ -1,7 +1,6 @@
 use Rattle.engine_finish.specs.Ended.{stored}
-use mathlib.Core.Path.{◌≡◌, refl}
+use mathlib.Core.Path.{refl}
 use lib.ListN.{length-set}
-use native.Mathlib.Omega.{arith}
 use borrow.Author.Rules.{rules}
 use Rattle.engine_finish.proofs.ending.store_header.Goals as goal
 

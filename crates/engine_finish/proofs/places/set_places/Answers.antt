@@ -1,6 +1,5 @@
 use Rattle.engine_finish.proofs.PlaceTurns.{none_placed, slot_small, one_more_placed}
-use Rattle.engine_order.specs.Placed.{PlacesSet}
-use Prim.Native.Nat.{◌≤◌, ◌-◌, ◌+◌}
+use Prim.Native.Nat.{◌+◌}
 use mathlib.Core.Path.{◌≡◌}
 use native.Mathlib.Omega.{arith}
 use borrow.Author.Rules.{rules}

@@ -1,7 +1,6 @@
 -- `engine_finish::working::clear_block` meets its contract.
 use Rattle.engine_blocks.proofs.InBlocks.{in_block_put_then}
 use Rattle.engine_finish.specs.Ended.{idle_block}
-use borrow.Author.Rules.{rules}
 use Rattle.engine_finish.proofs.working.clear_block.Goals as goal
 
 pub returns : goal.returns

@@ -1,8 +1,6 @@
 use Rattle.engine_finish.proofs.Clearing.{one_more_cleared}
 use Rattle.engine_due.proofs.Passing.{none_mapped}
-use Rattle.engine_due.specs.Passes.{Mapped}
 use Rattle.engine_finish.specs.Ended.{idle_block}
-use Prim.Native.Nat.{◌≤◌, ◌-◌}
 use mathlib.Core.Path.{◌≡◌}
 use native.Mathlib.Omega.{arith}
 use borrow.Author.Rules.{rules}

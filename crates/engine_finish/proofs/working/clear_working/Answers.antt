@@ -1,5 +1,4 @@
 use Rattle.engine_finish.proofs.Clearing.{all_cleared}
-use borrow.Author.Rules.{rules}
 use Rattle.engine_finish.proofs.working.clear_working.Goals as goal
 
 pub returns : goal.returns

@@ -1,7 +1,6 @@
 -- `engine_main_row::main_routine::bind_environment` meets its contract.
 use mathlib.Core.Path.{refl}
-use Prim.Native.Nat.{◌-◌}
-use Rattle.engine_new_names.proofs.OwnNames.{EnvironmentVariables, environment_start, environment_next, environment_end}
+use Rattle.engine_new_names.proofs.OwnNames.{environment_start, environment_next, environment_end}
 use borrow.Author.Rules.{rules}
 use Rattle.engine_main_row.proofs.main_routine.bind_environment.Goals as goal
 

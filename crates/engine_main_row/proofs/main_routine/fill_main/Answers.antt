@@ -7,7 +7,6 @@ use Rattle.table.specs.Decode.{size_of, table_listing}
 use Rattle.engine_rows.specs.Records.{is_wait}
 use Rattle.engine_main_row.proofs.MainNames.{main_there}
 use Rattle.engine_main_row.proofs.MainRows.{main_reaches, main_filled}
-use borrow.Author.Rules.{rules}
 use Rattle.engine_main_row.proofs.main_routine.fill_main.Goals as goal
 
 pub place-place-requires : goal.place-place-requires

@@ -1,5 +1,5 @@
 // The instruction `E`.
-ghost use Rattle.std.specs.Prelude.{◌≡◌, ℕ, suc, ◌-◌, ◌<◌};
+ghost use Rattle.std.specs.Prelude.{ℕ, suc, ◌<◌};
 ghost use Rattle.listing.specs.Listing.{Listing, end};
 ghost use Rattle.engine_blocks.specs.Blocks.{rows_of};
 ghost use Rattle.engine_steps.specs.Asked.{MayPop, MayEnd};

@@ -7,6 +7,7 @@ use Prim.Native.Nat.{ℕ, suc, ◌+◌, ◌*◌, ◌-◌, ◌≤◌, ◌<◌}
 use native.Mathlib.Omega.{arith}
 use native.Mathlib.Nat.{le_refl}
 use native.Mathlib.Numerals.{add-one}
+use Rattle.std.specs.Prelude.{Some, None}
 use lib.Dec.{ltb, leb}
 use lib.ListN.{length, get_or}
 use lib.Seq.{slice, slice-cons, slice_empty}
@@ -21,23 +22,17 @@ use Rattle.session_trace_lines.specs.Figures.{as_bounded, appended, below_answer
 use Rattle.session_trace_lines.specs.declared.figure.Bounded.{Bounded}
 use Rattle.session_trace_lines.specs.declared.figure.Bounded.TheVariants.{Value, Bad}
 
-pub appended_value : (n : ℕ) → n < 18446744073709551616 → Value n ≡ appended n
-appended_value n h = rw (lt-ltb n 18446744073709551616 h)
-
-pub appended_bad : (n : ℕ) → 18446744073709551616 ≤ n → Bad ≡ appended n
-appended_bad n h = rw (le-ltb n 18446744073709551616 h)
-
-pub appended_fits : (n more : ℕ) → Value more ≡ appended n → (more ≡ n) × (n < 18446744073709551616)
+pub appended_fits : (n more : ℕ) → Some more ≡ appended n → (more ≡ n) × (n < 18446744073709551616)
 appended_fits n more e = go (ltb n 18446744073709551616) refl e
   where
-    go : (t : Bool) → ltb n 18446744073709551616 ≡ t → Value more ≡ cond t (Value n) Bad → (more ≡ n) × (n < 18446744073709551616)
+    go : (t : Bool) → ltb n 18446744073709551616 ≡ t → Some more ≡ cond t (Some n) None → (more ≡ n) × (n < 18446744073709551616)
     go true i e = (cc, ltb-true n _ i)
     go false i e = let z : ◌≡◌ {A = ℕ} 0 1 = cc in absurd (omega arith)
 
-pub appended_large : (n : ℕ) → Bad ≡ appended n → 18446744073709551616 ≤ n
+pub appended_large : (n : ℕ) → None ≡ appended n → 18446744073709551616 ≤ n
 appended_large n e = go (ltb n 18446744073709551616) refl e
   where
-    go : (t : Bool) → ltb n 18446744073709551616 ≡ t → Bad ≡ cond t (Value n) Bad → 18446744073709551616 ≤ n
+    go : (t : Bool) → ltb n 18446744073709551616 ≡ t → None ≡ cond t (Some n) None → 18446744073709551616 ≤ n
     go true i e = let z : ◌≡◌ {A = ℕ} 0 1 = cc in absurd (omega arith)
     go false i e = ltb-false n _ i
 
@@ -128,7 +123,7 @@ module _ (s : List ℕ) (from to most n i : ℕ) (k : to ≤ length s) where
   pub reading_bad : Reading s from to n i → i < to → (t : Bool) → t ≡ is_digit (get_or s i 0) → t ≡ false → below_answer (most + 1) (slice from to s) ≡ Bad
   reading_bad v l t e u = no_digits (most + 1) (slice from to s) (sym v.digits ∙ digits_out s i to l k (sym e ∙ u))
 
-  pub reading_large : most < 18446744073709551616 → Reading s from to n i → i < to → (d : ℕ) → d ≡ get_or s i 0 - 48 → Bad ≡ appended (n * 10 + d) →
+  pub reading_large : most < 18446744073709551616 → Reading s from to n i → i < to → (d : ℕ) → d ≡ get_or s i 0 - 48 → None ≡ appended (n * 10 + d) →
       below_answer (most + 1) (slice from to s) ≡ Bad
   reading_large h v l d e a =
       let large : 18446744073709551616 ≤ n * 10 + d = appended_large (n * 10 + d) a in
@@ -137,7 +132,7 @@ module _ (s : List ℕ) (from to most n i : ℕ) (k : to ≤ length s) where
       too_large (most + 1) (slice from to s) (omega (arith, large, grows, turn, v.number))
 
   pub reading_on : Reading s from to n i → i < to → (t : Bool) → t ≡ is_digit (get_or s i 0) → t ≡ true → (d : ℕ) → d ≡ get_or s i 0 - 48 →
-      (more : ℕ) → Value more ≡ appended (n * 10 + d) → Reading s from to more (i + 1)
+      (more : ℕ) → Some more ≡ appended (n * 10 + d) → Reading s from to more (i + 1)
   reading_on v l t e u d w more a =
       let fits = appended_fits (n * 10 + d) more a in
       let turn : read_on n (slice i to s) ≡ read_on more (slice (suc i) to s) =

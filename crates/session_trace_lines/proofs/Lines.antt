@@ -5,6 +5,7 @@ use mathlib.Core.List.{List, [], ◌∷◌}
 use mathlib.Core.Option.{Option, none, some}
 use Prim.Native.Nat.{ℕ, suc, ◌-◌, ◌<◌}
 use native.Mathlib.Omega.{arith}
+use Rattle.std.specs.Prelude.{None}
 use lib.Dec.{eqb, ltb, leb}
 use lib.ListN.{length, get_or, drop}
 use lib.Seq.{slice, slice-cons, slice_empty, length-slice}
@@ -16,11 +17,11 @@ use Rattle.listing.specs.Form.{Field, next_field_lem, none_left_lem, one_piece_l
 use Rattle.walk.specs.Trace as W
 use Rattle.text_place.specs.Texts.{fields_left}
 use Rattle.text_place.specs.declared.place.Place.{Place}
+use Rattle.text_place.specs.declared.place.Taken.{Taken}
 use Rattle.text_place.proofs.Places.{left_open}
 use Rattle.text_jumps.specs.Records.{end_stop, end_next}
 use Rattle.session_trace_lines.specs.Fields.{piece_answer}
 use Rattle.session_trace_lines.specs.Lines.{as_trace_line, rest_answer, line_answer}
-use Rattle.session_trace_lines.specs.declared.field.OnePiece.TheVariants as OV
 use Rattle.session_trace_lines.specs.declared.line.TraceLine.TheVariants as LV
 use Rattle.session_trace_lines.proofs.Fields.{Piece, piece_none, piece_on}
 
@@ -100,37 +101,37 @@ module _ (s : List ℕ) (c : Place) where
   unfolding fields_left end_stop end_next W.read_trace_line
   line_said = refl
 
-  pub line_none : OV.Bad ≡ piece_answer s c 9 → LV.Bad ≡ line_answer s c
+  pub line_none : None ≡ piece_answer s c 9 → LV.Bad ≡ line_answer s c
   line_none e = rest_bad s c 9 by_letter (piece_none s c 9 e read_letter W.read_trace_fields) ∙ sym line_said
 
-  module _ (from to b : ℕ) (d : Place) (p : Piece s c 9 from to b d) where
-    pub line_long : (to - from ≡ 1 → ⊥) → LV.Bad ≡ line_answer s c
+  module _ (t : Taken) (p : Piece s c 9 t) where
+    pub line_long : (t.to - t.from ≡ 1 → ⊥) → LV.Bad ≡ line_answer s c
     line_long n =
-        let l : length (slice from to s) ≡ to - from = length-slice from to s p.inside in
-        let none_is : read_letter (slice from to s) ≡ none = letter_none (slice from to s) (λ (e : length (slice from to s) ≡ 1). n (sym l ∙ e)) in
+        let l : length (slice t.from t.to s) ≡ t.to - t.from = length-slice t.from t.to s p.inside in
+        let none_is : read_letter (slice t.from t.to s) ≡ none = letter_none (slice t.from t.to s) (λ (e : length (slice t.from t.to s) ≡ 1). n (sym l ∙ e)) in
         rest_bad s c 9 by_letter (piece_on s c 9 p read_letter W.read_trace_fields ∙ rw none_is) ∙ sym line_said
 
-    letter_is : to - from ≡ 1 → read_letter (slice from to s) ≡ some (get_or s from 0)
+    letter_is : t.to - t.from ≡ 1 → read_letter (slice t.from t.to s) ≡ some (get_or s t.from 0)
     unfolding read_letter alone
     letter_is e =
-        let h : from < to = omega arith in
-        let one : suc from ≡ to = omega arith in
-        rw (slice-cons from to s 0 h p.inside, one, slice_empty)
+        let h : t.from < t.to = omega arith in
+        let one : suc t.from ≡ t.to = omega arith in
+        rw (slice-cons t.from t.to s 0 h p.inside, one, slice_empty)
 
-    line_by : to - from ≡ 1 → rest_answer s d b (W.read_trace_fields (get_or s from 0)) ≡ line_answer s c
+    line_by : t.to - t.from ≡ 1 → rest_answer s t.next t.stop (W.read_trace_fields (get_or s t.from 0)) ≡ line_answer s c
     line_by e =
-        let on : by_letter (fields_left 9 (drop c.offset s)) ≡ W.read_trace_fields (get_or s from 0) (fields_left b (drop d.offset s)) =
+        let on : by_letter (fields_left 9 (drop c.offset s)) ≡ W.read_trace_fields (get_or s t.from 0) (fields_left t.stop (drop t.next.offset s)) =
         piece_on s c 9 p read_letter W.read_trace_fields ∙ rw (letter_is e) in
         sym (line_said ∙ rw (on, ← p.past.stops, ← p.past.nexts))
 
-    pub line_input : to - from ≡ 1 → get_or s from 0 ≡ 73 → rest_answer s d b W.read_input_line ≡ line_answer s c
+    pub line_input : t.to - t.from ≡ 1 → get_or s t.from 0 ≡ 73 → rest_answer s t.next t.stop W.read_input_line ≡ line_answer s c
     unfolding W.read_trace_fields
     line_input e l = rw l at (line_by e)
 
-    pub line_last : to - from ≡ 1 → get_or s from 0 ≡ 81 → rest_answer s d b W.read_last_line ≡ line_answer s c
+    pub line_last : t.to - t.from ≡ 1 → get_or s t.from 0 ≡ 81 → rest_answer s t.next t.stop W.read_last_line ≡ line_answer s c
     unfolding W.read_trace_fields
     line_last e l = rw l at (line_by e)
 
-    pub line_other : to - from ≡ 1 → (get_or s from 0 ≡ 73 → ⊥) → (get_or s from 0 ≡ 81 → ⊥) → LV.Bad ≡ line_answer s c
+    pub line_other : t.to - t.from ≡ 1 → (get_or s t.from 0 ≡ 73 → ⊥) → (get_or s t.from 0 ≡ 81 → ⊥) → LV.Bad ≡ line_answer s c
     unfolding W.read_trace_fields
-    line_other e m n = rw (ne_eqb (get_or s from 0) 73 m, ne_eqb (get_or s from 0) 81 n) at (line_by e)
+    line_other e m n = rw (ne_eqb (get_or s t.from 0) 73 m, ne_eqb (get_or s t.from 0) 81 n) at (line_by e)

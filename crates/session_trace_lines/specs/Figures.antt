@@ -1,5 +1,6 @@
 -- What the reader gives for the figures of a trace: walk's readings of them.
-use Rattle.std.specs.Prelude.{cond, ℕ, ltb}
+use Rattle.std.specs.Prelude.{cond, ℕ, ltb, Some, None}
+use Rattle.std.specs.Prelude.{Option as Answer}
 use Rattle.std.proofs.Math.Option.{Option, none, some}
 use Rattle.listing.specs.Bytes.{Bytes}
 use Rattle.words.specs.Moments.{moment_range}
@@ -12,8 +13,8 @@ as_bounded none = Bad
 as_bounded (some n) = Value n
 
 -- a number, if it has 64 bits
-abbrev pub appended : ℕ → Bounded
-appended n = cond (ltb n moment_range) (Value n) Bad
+abbrev pub appended : ℕ → Answer ℕ
+appended n = cond (ltb n moment_range) (Some n) None
 
 -- a figure, if its number is below the range
 abbrev pub below_answer : ℕ → Bytes → Bounded

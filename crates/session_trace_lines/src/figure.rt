@@ -3,7 +3,7 @@ ghost use Rattle.std.specs.Prelude.{◌≡◌, ◌+◌, ◌*◌, ◌<◌, ◌≤
 ghost use Rattle.std.proofs.Math.Seq.{slice};
 ghost use Rattle.session_trace_lines.specs.Figures.{below_answer, value_answer, appended};
 
-use text_piece::{is_digit, wide};
+use text_piece::is_digit;
 
 // The largest numbers of 64 and of 32 bits.
 pub const MOST_64: u64 = 18446744073709551615;
@@ -26,14 +26,11 @@ pub enum Bounded {
 }
 
 // The number with one digit more, if it has 64 bits.
-fn append_digit(n: u64, d: u64) -> Bounded
+fn append_digit(n: u64, d: u64) -> Option<u64>
     requires { d < 10 }
     ensures { result ≡ appended (n * 10 + d) }
 {
-    if n > (MOST_64 - d) / 10 {
-        return Bounded::Bad;
-    }
-    Bounded::Value(n * 10 + d)
+    n.checked_mul(10)?.checked_add(d)
 }
 
 // The figure from one offset up to another, if its number is at most `most`.
@@ -51,17 +48,15 @@ pub fn figure_up_to(s: &[u8], from: usize, to: usize, most: u64) -> Bounded
         return Bounded::Bad;
     }
     let mut n: u64 = 0;
-    let mut i = from;
-    while i < to {
+    for i in from..to {
         let b = s[i];
         if !is_digit(b) {
             return Bounded::Bad;
         }
-        let Bounded::Value(more) = append_digit(n, wide(b - b'0')) else {
+        let Some(more) = append_digit(n, u64::from(b - b'0')) else {
             return Bounded::Bad;
         };
         n = more;
-        i += 1;
     }
     if n > most {
         return Bounded::Bad;

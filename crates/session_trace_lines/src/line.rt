@@ -4,7 +4,7 @@ ghost use Rattle.walk.specs.Trace.{read_input_line, read_last_line};
 ghost use Rattle.text_place.specs.Texts.{Within};
 ghost use Rattle.session_trace_lines.specs.Lines.{rest_answer, line_answer};
 
-use crate::field::{Figure, OnePiece, figure_field, one_piece, value_field};
+use crate::field::{figure_field, one_piece, value_field};
 use crate::figure::{MOST_32, MOST_64};
 use text_place::Place;
 
@@ -23,32 +23,38 @@ fn read_input(s: &[u8], place: Place, stop: u8) -> TraceLine
     requires { Within s.now place.offset place.line }
     ensures { result ≡ rest_answer s.now place stop read_input_line }
 {
-    let Figure::Read(time, b1, p1) = figure_field(s, place, stop, MOST_64) else {
+    let Some(time) = figure_field(s, place, stop, MOST_64) else {
         return TraceLine::Bad;
     };
-    let Figure::Read(number, b2, p2) = figure_field(s, p1, b1, MOST_32) else {
+    let Some(input) = figure_field(s, time.next, time.stop, MOST_32) else {
         return TraceLine::Bad;
     };
-    let Figure::Read(value, b3, p3) = value_field(s, p2, b2) else {
+    let Some(value) = value_field(s, input.next, input.stop) else {
         return TraceLine::Bad;
     };
-    if b3 == b'\t' {
+    if value.stop == b'\t' {
         return TraceLine::Bad;
     }
-    TraceLine::Input(time, number as u32, value as u32, b3, p3)
+    TraceLine::Input(
+        time.number,
+        input.number as u32,
+        value.number as u32,
+        value.stop,
+        value.next,
+    )
 }
 
 fn read_last(s: &[u8], place: Place, stop: u8) -> TraceLine
     requires { Within s.now place.offset place.line }
     ensures { result ≡ rest_answer s.now place stop read_last_line }
 {
-    let Figure::Read(time, b1, p1) = figure_field(s, place, stop, MOST_64) else {
+    let Some(time) = figure_field(s, place, stop, MOST_64) else {
         return TraceLine::Bad;
     };
-    if b1 == b'\t' {
+    if time.stop == b'\t' {
         return TraceLine::Bad;
     }
-    TraceLine::Last(time, b1, p1)
+    TraceLine::Last(time.number, time.stop, time.next)
 }
 
 // The line at a place.
@@ -56,18 +62,18 @@ pub fn read_trace_line(s: &[u8], place: Place) -> TraceLine
     requires { Within s.now place.offset place.line }
     ensures { result ≡ line_answer s.now place }
 {
-    let OnePiece::Read(from, to, b, next) = one_piece(s, place, b'\t') else {
+    let Some(piece) = one_piece(s, place, b'\t') else {
         return TraceLine::Bad;
     };
-    if to - from != 1 {
+    if piece.to - piece.from != 1 {
         return TraceLine::Bad;
     }
-    let letter = s[from];
+    let letter = s[piece.from];
     if letter == b'I' {
-        return read_input(s, next, b);
+        return read_input(s, piece.next, piece.stop);
     }
     if letter == b'Q' {
-        return read_last(s, next, b);
+        return read_last(s, piece.next, piece.stop);
     }
     TraceLine::Bad
 }

@@ -39,7 +39,7 @@ pub overflow_sub-b : goal.overflow_sub-b
 overflow_sub-b c = let d = bounds.digit_low (get_or c.args.s.now c.loop-i.i 0) _ c.is_digit.ensures c.if-not-is_digit.false in omega (arith, d)
 
 pub append_digit-requires : goal.append_digit-requires
-append_digit-requires c = let d = bounds.digit_high (get_or c.args.s.now c.loop-i.i 0) _ c.is_digit.ensures c.if-not-is_digit.false in omega (arith, d, c.wide.ensures)
+append_digit-requires c = let d = bounds.digit_high (get_or c.args.s.now c.loop-i.i 0) _ c.is_digit.ensures c.if-not-is_digit.false in omega (arith, d, c.from.ensures)
 
 pub returns-in_default : goal.returns-in_default
 returns-in_default c =
@@ -48,7 +48,7 @@ returns-in_default c =
     let k : a.to ≤ length s = c.requires.1 in
     let bits : a.most < 18446744073709551616 = search rules in
     let v = c.loop-i in
-    sym (bounds.reading_large s a.from a.to a.most v.n v.i k bits v.invariant c.loop-i-test.true _ c.wide.ensures
+    sym (bounds.reading_large s a.from a.to a.most v.n v.i k bits v.invariant c.loop-i-test.true _ c.from.ensures
     (sym c.in_default.is ∙ c.append_digit.ensures))
 
 pub loop-i-preserved : goal.loop-i-preserved
@@ -58,7 +58,7 @@ loop-i-preserved c =
     let k : a.to ≤ length s = c.requires.1 in
     let v = c.loop-i in
     bounds.reading_on s a.from a.to a.most v.n v.i k v.invariant c.loop-i-test.true _ c.is_digit.ensures c.if-not-is_digit.false
-    _ c.wide.ensures _ (sym c.in-Value.is ∙ c.append_digit.ensures)
+    _ c.from.ensures _ (sym c.in-Some.is ∙ c.append_digit.ensures)
 
 pub returns-then-n-most : goal.returns-then-n-most
 returns-then-n-most c =

@@ -13,18 +13,18 @@ returns-in_default c =
     let s = a.s.now in
     lines.rest_bad s a.place a.stop read_last_line (fields.figure_unread (read_below moment_range) s a.place a.stop (sym c.in_default.is ∙ c.figure_field.ensures) _)
 
-pub returns-then-b1-eq9 : goal.returns-then-b1-eq9
-returns-then-b1-eq9 c =
+pub returns-then-time-eq9 : goal.returns-then-time-eq9
+returns-then-time-eq9 c =
     let a = c.args in
     let s = a.s.now in
-    let g1 = fields.figure_got (read_below moment_range) s a.place a.stop c.requires _ _ _ (sym c.in-Read.is ∙ c.figure_field.ensures) in
-    lines.rest_bad s a.place a.stop read_last_line (fields.figure_on (read_below moment_range) s _ _ g1 _ ∙ lines.end_open s c.in-Read.p1.offset _ _ c.if-b1-eq9.true)
+    let g1 = fields.figure_got (read_below moment_range) s a.place a.stop c.requires _ (sym c.in-Some.is ∙ c.figure_field.ensures) in
+    lines.rest_bad s a.place a.stop read_last_line (fields.figure_on (read_below moment_range) s _ _ g1 _ ∙ lines.end_open s c.in-Some.time.next.offset _ _ c.if-time-eq9.true)
 
 pub returns : goal.returns
 returns c =
     let a = c.args in
     let s = a.s.now in
-    let g1 = fields.figure_got (read_below moment_range) s a.place a.stop c.requires _ _ _ (sym c.in-Read.is ∙ c.figure_field.ensures) in
-    lines.rest_is_lem s a.place a.stop read_last_line _ _ _ (fields.figure_on (read_below moment_range) s _ _ g1 _ ∙ lines.end_shut _ _ _ c.if-b1-eq9.false)
-    (sym g1.stops ∙ chain.stop_shut s _ _ c.if-b1-eq9.false)
-    (sym g1.nexts ∙ chain.next_shut s _ _ c.if-b1-eq9.false)
+    let g1 = fields.figure_got (read_below moment_range) s a.place a.stop c.requires _ (sym c.in-Some.is ∙ c.figure_field.ensures) in
+    lines.rest_is_lem s a.place a.stop read_last_line _ _ _ (fields.figure_on (read_below moment_range) s _ _ g1 _ ∙ lines.end_shut _ _ _ c.if-time-eq9.false)
+    (sym g1.stops ∙ chain.stop_shut s _ _ c.if-time-eq9.false)
+    (sym g1.nexts ∙ chain.next_shut s _ _ c.if-time-eq9.false)

@@ -1,71 +1,60 @@
 -- The lines of writes listed side by side, one after another.
 -- Letters: ns numbers, vs values, k how many are printed.
-use mathlib.Core.Path.{◌≡◌, refl, sym, ap, ap₂, ◌∙◌}
+use mathlib.Core.Path.{◌≡◌, refl, sym, ap, ◌∙◌}
 use mathlib.Core.List.{List, [], ◌∷◌, ◌++◌, append_assoc, append-nil}
-use Prim.Native.Nat.{ℕ, ◌+◌, ◌*◌, ◌≤◌, ◌<◌}
+use Prim.Native.Nat.{ℕ, ◌+◌, ◌*◌, ◌≤◌}
 use native.Mathlib.Omega.{arith}
-use native.Mathlib.Numerals.{add-one}
-use lib.ListN.{length, get_or, take}
-use lib.Seq.{take-suc, length-take-le, length-sets}
+use lib.ListN.{length}
+use lib.Seq.{length-sets}
 use Rattle.walk.specs.Calls.{inputs_of}
-use Rattle.walk.specs.Events.{Event, events_at}
+use Rattle.walk.specs.Events.{events_at}
 use Rattle.walk.specs.Session.{write_line, write_lines}
 use Rattle.session_print.specs.Puts.{Puts}
 use Rattle.session_print.proofs.LineBytes.{then_bytes, same_bytes}
 
--- the lines of the first k
-abbrev pub lines_of : ℕ → List ℕ → List ℕ → ℕ → List ℕ
-lines_of moment ns vs k = write_lines (events_at moment (inputs_of (take k ns) (take k vs)))
+abbrev pub lines_of : ℕ → List ℕ → List ℕ → List ℕ
+lines_of moment ns vs = write_lines (events_at moment (inputs_of ns vs))
 
-abbrev pub event_of : ℕ → List ℕ → List ℕ → ℕ → Event
-event_of moment ns vs k = record { moment = moment; number = get_or ns k 0; value = get_or vs k 0 }
-
-lines_append : (moment : ℕ) (ns vs : List ℕ) (n v : ℕ) → length ns ≡ length vs →
-    write_lines (events_at moment (inputs_of (ns ++ (n ∷ [])) (vs ++ (v ∷ []))))
-    ≡ write_lines (events_at moment (inputs_of ns vs)) ++ write_line (record { moment = moment; number = n; value = v })
+lines_more : (moment n v : ℕ) (ns vs : List ℕ) → lines_of moment (n ∷ ns) (v ∷ vs) ≡ write_line (record { moment = moment; number = n; value = v }) ++ lines_of moment ns vs
 unfolding inputs_of events_at write_lines
-lines_append moment [] [] n v e = append-nil _
-lines_append moment [] (y ∷ vs) n v e = absurd (omega arith)
-lines_append moment (x ∷ ns) [] n v e = absurd (omega arith)
-lines_append moment (x ∷ ns) (y ∷ vs) n v e =
-    ap (λ (l : List ℕ). write_line (record { moment = moment; number = x; value = y }) ++ l) (lines_append moment ns vs n v (omega arith))
-    ∙ sym (append_assoc (write_line (record { moment = moment; number = x; value = y })) (write_lines (events_at moment (inputs_of ns vs))) _)
+lines_more moment n v ns vs = refl
 
-pub lines_none : (moment : ℕ) (ns vs : List ℕ) → lines_of moment ns vs 0 ≡ []
+pub no_numbers : (moment : ℕ) (ns vs : List ℕ) → length ns ≡ 0 → lines_of moment ns vs ≡ []
 unfolding inputs_of events_at write_lines
-lines_none moment ns vs = refl
+no_numbers moment [] vs e = refl
+no_numbers moment (n ∷ ns) vs e = absurd (omega arith)
 
-pub lines_more : (moment : ℕ) (ns vs : List ℕ) (k : ℕ) → k < length ns → k < length vs →
-    lines_of moment ns vs k ++ write_line (event_of moment ns vs k) ≡ lines_of moment ns vs (k + 1)
-lines_more moment ns vs k h g =
-    let same : length (take k ns) ≡ length (take k vs) = length-take-le k ns (omega arith) ∙ sym (length-take-le k vs (omega arith)) in
-    sym (ap (lines_of moment ns vs) (add-one k)
-    ∙ ap₂ (λ (a b : List ℕ). write_lines (events_at moment (inputs_of a b))) (take-suc ns k 0 h) (take-suc vs k 0 g)
-    ∙ lines_append moment (take k ns) (take k vs) (get_or ns k 0) (get_or vs k 0) same)
+pub no_values : (moment : ℕ) (ns vs : List ℕ) → length vs ≡ 0 → lines_of moment ns vs ≡ []
+unfolding inputs_of events_at write_lines
+no_values moment [] [] e = refl
+no_values moment (n ∷ ns) [] e = refl
+no_values moment ns (v ∷ vs) e = absurd (omega arith)
 
--- k lines are put
-pub record Putting (before : List ℕ) (at moment : ℕ) (ns vs : List ℕ) (count : ℕ) (out : List ℕ) (place k : ℕ) : Type 0 where
-  pub most : k ≤ count
-  pub few : place ≤ at + 66 * k
-  pub puts : Puts before at (lines_of moment ns vs k) out place
+-- the lines of the writes are put but for those of what is left of the two lists
+pub record Putting (before : List ℕ) (at moment : ℕ) (ns vs out : List ℕ) (place : ℕ) (left_ns left_vs : List ℕ) : Type 0 where
+  pub done : List ℕ
+  pub all : lines_of moment ns vs ≡ done ++ lines_of moment left_ns left_vs
+  pub few : place + 66 * length left_ns ≤ at + 66 * length ns
+  pub puts : Puts before at done out place
 
-pub putting_begun : (out : List ℕ) (at moment : ℕ) (ns vs : List ℕ) (count : ℕ) → Putting out at moment ns vs count out at 0
-putting_begun out at moment ns vs count =
+pub putting_begun : (out : List ℕ) (at moment : ℕ) (ns vs : List ℕ) → Putting out at moment ns vs out at ns vs
+putting_begun out at moment ns vs = record { done = []; all = refl; few = omega arith; puts = record { past = omega arith; stored = refl } }
+
+pub putting_on : (before : List ℕ) (at moment : ℕ) (ns vs out : List ℕ) (place n v : ℕ) (left_ns left_vs : List ℕ) →
+    Putting before at moment ns vs out place (n ∷ left_ns) (v ∷ left_vs) → (after : List ℕ) (next : ℕ) →
+    Puts out place (write_line (record { moment = moment; number = n; value = v })) after next → next ≤ place + 66 → Putting before at moment ns vs after next left_ns left_vs
+putting_on before at moment ns vs out place n v left_ns left_vs p after next puts h =
     record {
-      most = omega arith;
-      few = omega arith;
-      puts = same_bytes (sym (lines_none moment ns vs)) (record { past = omega arith; stored = refl });
+      done = p.done ++ write_line (record { moment = moment; number = n; value = v });
+      all = p.all ∙ ap (λ (l : List ℕ). p.done ++ l) (lines_more moment n v left_ns left_vs) ∙ sym (append_assoc p.done _ _);
+      few = omega (arith, p.few);
+      puts = then_bytes p.puts puts;
     }
 
-pub putting_on : (before : List ℕ) (at moment : ℕ) (ns vs : List ℕ) (count : ℕ) (out : List ℕ) (place k : ℕ) →
-    Putting before at moment ns vs count out place k → k < count → k < length ns → k < length vs → (after : List ℕ) (next : ℕ) →
-    Puts out place (write_line (event_of moment ns vs k)) after next → next ≤ place + 66 → Putting before at moment ns vs count after next (k + 1)
-putting_on before at moment ns vs count out place k v l h g after next p q =
-    record {
-      most = omega arith;
-      few = omega (arith, v.few);
-      puts = same_bytes (lines_more moment ns vs k h g) (then_bytes v.puts p);
-    }
+pub putting_done : {before : List ℕ} {at moment : ℕ} {ns vs out : List ℕ} {place : ℕ} {left_ns left_vs : List ℕ} →
+    Putting before at moment ns vs out place left_ns left_vs → lines_of moment left_ns left_vs ≡ [] →
+    Puts before at (lines_of moment ns vs) out place × (place ≤ at + 66 * length ns)
+putting_done p e = (same_bytes (sym (p.all ∙ ap (λ (l : List ℕ). p.done ++ l) e ∙ append-nil p.done)) p.puts, omega (arith, p.few))
 
 pub still_long : {before after bytes : List ℕ} {i j : ℕ} → Puts before i bytes after j → length after ≡ length before
 still_long {before} {after} {bytes} {i} p = ap length p.stored ∙ length-sets before i bytes

@@ -43,10 +43,8 @@ pub fn put_figure(out: &mut [u8], at: usize, n: u64) -> usize
     ensures { Puts out.old at (figure n) out.new result × (result ≤ at + 20) }
 {
     let count = digit_count(n);
-    let mut k = count;
     let mut rest = n;
-    while k > 0 {
-        k -= 1;
+    for k in (0..count).rev() {
         put_byte(out, at + k, digit(rest % 10));
         rest = rest / 10;
     }
@@ -59,8 +57,8 @@ pub fn put_signed(out: &mut [u8], at: usize, word: u32) -> usize
     ensures { Puts out.old at (signed_figure word) out.new result × (result ≤ at + 21) }
 {
     if word < HALF {
-        return put_figure(out, at, word as u64);
+        return put_figure(out, at, u64::from(word));
     }
     put_byte(out, at, b'-');
-    put_figure(out, at + 1, 4294967296 - word as u64)
+    put_figure(out, at + 1, 4294967296 - u64::from(word))
 }

@@ -1,5 +1,5 @@
 // The two kinds of lines.
-ghost use Rattle.std.specs.Prelude.{◌+◌, ◌*◌, ◌≤◌, length, take};
+ghost use Rattle.std.specs.Prelude.{◌+◌, ◌*◌, ◌≤◌, length};
 ghost use Rattle.walk.specs.Calls.{inputs_of};
 ghost use Rattle.walk.specs.Events.{events_at};
 ghost use Rattle.walk.specs.Session.{write_line, write_lines, end_line};
@@ -30,31 +30,28 @@ pub fn put_write_line(out: &mut [u8], at: usize, moment: u64, number: u32, value
     ensures { Puts out.old at (write_line (record { moment = moment; number = number; value = value })) out.new result × (result ≤ at + 66) }
 {
     let a = put_front(out, at, WRITE, moment);
-    let b = put_figure(out, a, number as u64);
+    let b = put_figure(out, a, u64::from(number));
     put_byte(out, b, b'\t');
     let c = put_signed(out, b + 1, value);
     put_byte(out, c, b'\n');
     c + 1
 }
 
-// The lines of the writes of one moment: the first so many of two lists, numbers and values; the place past them.
+// The lines of the writes of one moment, listed side by side as numbers and values; the place past them.
 pub fn put_write_lines(
     out: &mut [u8],
     at: usize,
     moment: u64,
     numbers: &[u32],
     values: &[u32],
-    count: usize,
 ) -> usize
-    requires { (at ≤ 1000) × (count ≤ 16) × (count ≤ length numbers.now) × (count ≤ length values.now) }
-    ensures { Puts out.old at (write_lines (events_at moment (inputs_of (take count numbers.now) (take count values.now)))) out.new result
-        × (result ≤ at + 66 * count) }
+    requires { (at ≤ 1000) × (length numbers.now ≤ 16) }
+    ensures { Puts out.old at (write_lines (events_at moment (inputs_of numbers.now values.now))) out.new result
+        × (result ≤ at + 66 * length numbers.now) }
 {
     let mut place = at;
-    let mut k: usize = 0;
-    while k < count {
-        place = put_write_line(out, place, moment, numbers[k], values[k]);
-        k += 1;
+    for (number, value) in numbers.iter().zip(values) {
+        place = put_write_line(out, place, moment, *number, *value);
     }
     place
 }
@@ -64,7 +61,7 @@ pub fn put_end_line(out: &mut [u8], at: usize, code: u32, moment: u64) -> usize
     requires { at ≤ 10000 }
     ensures { Puts out.old at (end_line code moment) out.new result × (result ≤ at + 44) }
 {
-    let a = put_front(out, at, END, code as u64);
+    let a = put_front(out, at, END, u64::from(code));
     let b = put_figure(out, a, moment);
     put_byte(out, b, b'\n');
     b + 1

@@ -1,5 +1,5 @@
 -- What is next in a trace from a line's beginning (document 01, "The session").
-use Rattle.std.specs.Prelude.{◌≡◌, cond, List, [], ◌∷◌, ℕ, ◌+◌, ◌≤◌, ◌<◌, eqb, ltb, length, take, drop, set}
+use Rattle.std.specs.Prelude.{◌≡◌, cond, List, [], ◌∷◌, ℕ, ◌+◌, ◌≤◌, ◌<◌, eqb, ltb, length, take, drop, set, Option, Some, None}
 use Rattle.listing.specs.Bytes.{Bytes, line_feed}
 use Rattle.walk.specs.Instant.{Write}
 use Rattle.walk.specs.Calls.{inputs_of}
@@ -8,8 +8,7 @@ use Rattle.session_trace_lines.specs.declared.line.TraceLine.{TraceLine}
 use Rattle.session_trace_lines.specs.declared.line.TraceLine.TheVariants as LV
 use Rattle.session_trace.specs.declared.group.Next.{Next}
 use Rattle.session_trace.specs.declared.group.Next.TheVariants as NV
-use Rattle.session_trace.specs.declared.group.Joins.{Joins}
-use Rattle.session_trace.specs.declared.group.Joins.TheVariants as JV
+use Rattle.session_trace.specs.declared.group.Joined.{Joined}
 
 -- As many inputs of a call as are kept: 17 rising numbers below 16 do not exist, so that a call of more is refused as it is by 17.
 abbrev pub most_kept : ℕ
@@ -74,6 +73,6 @@ pub record JoinsOn (trace : Bytes) (at time number value past : ℕ) : Type 0 wh
 abbrev pub Apart : ℕ → Script → Type 0
 Apart time rest = (w : Write) → with_input time w rest ≡ call_at time (w ∷ []) rest
 
-abbrev pub JoinsIs : Bytes → ℕ → ℕ → Joins → Type 0
-JoinsIs trace at time (JV.Yes number value past) = JoinsOn trace at time number value past
-JoinsIs trace at time JV.No = Apart time (script (drop at trace))
+abbrev pub JoinsIs : Bytes → ℕ → ℕ → Option Joined → Type 0
+JoinsIs trace at time (Some input) = JoinsOn trace at time input.number input.value input.past
+JoinsIs trace at time None = Apart time (script (drop at trace))

@@ -16,11 +16,12 @@ pub enum Next {
     Broken,
 }
 
-// Whether a line is a further input of a call: its number and value, and the offset of the line after it.
-#[derive(Clone, Copy)]
-pub enum Joins {
-    Yes(u32, u32, usize),
-    No,
+// A further input of a call: its number and value, and the offset of the line after it.
+#[derive(Clone, Copy, Debug, PartialEq, Eq)]
+pub struct Joined {
+    pub number: u32,
+    pub value: u32,
+    pub past: usize,
 }
 
 // What a line that is no input makes of a trace of so many bytes.
@@ -55,8 +56,8 @@ fn put_input(
     count
 }
 
-// Whether the line at an offset is a further input of the call of that time.
-fn joining(trace: &[u8], at: usize, time: u64) -> Joins
+// The line at an offset, if it is a further input of the call of that time.
+fn joining(trace: &[u8], at: usize, time: u64) -> Option<Joined>
     requires { at ≤ length trace.now }
     ensures { JoinsIs trace.now at time result }
 {
@@ -67,15 +68,20 @@ fn joining(trace: &[u8], at: usize, time: u64) -> Joins
             line: 0,
         },
     ) else {
-        return Joins::No;
+        return None;
     };
     if stop != b'\n' {
-        return Joins::No;
+        return None;
     }
     if t == time {
-        return Joins::Yes(number, value, next.offset);
+        let past = next.offset;
+        return Some(Joined {
+            number,
+            value,
+            past,
+        });
     }
-    Joins::No
+    None
 }
 
 // What is next from a line's beginning; the inputs of a call are put into the lists, at most 17 of them, and the words behind them stay.
@@ -98,11 +104,9 @@ pub fn next_call(trace: &[u8], at: usize, numbers: &mut [u32], values: &mut [u32
     }
     let mut count = put_input(numbers, values, 0, number, value);
     let mut next = after.offset;
-    loop {
-        let Joins::Yes(n, v, past) = joining(trace, next, time) else {
-            return Next::Call(time, count, next);
-        };
-        count = put_input(numbers, values, count, n, v);
-        next = past;
+    while let Some(input) = joining(trace, next, time) {
+        count = put_input(numbers, values, count, input.number, input.value);
+        next = input.past;
     }
+    Next::Call(time, count, next)
 }

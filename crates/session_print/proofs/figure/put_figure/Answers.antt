@@ -8,9 +8,6 @@ use Rattle.session_print.proofs.figure.put_figure.Goals as goal
 pub loop-k-init : goal.loop-k-init
 loop-k-init c = decimals.storing_begun _ _ _ _
 
-pub overflow_sub-k : goal.overflow_sub-k
-overflow_sub-k c = omega (arith, c.loop-k-test.true)
-
 pub overflow_add-at : goal.overflow_add-at
 overflow_add-at c =
     let few = c.loop-k.invariant.few in

@@ -3,6 +3,3 @@ use Rattle.session_print.proofs.figure.put_figure.Given as goal
 
 abbrev pub invariant-loop-k : goal.invariant-loop-k
 invariant-loop-k l = decimals.Storing l.initial.out l.at l.n l.count l.out l.k l.rest
-
-abbrev pub decreases-loop-k : goal.decreases-loop-k
-decreases-loop-k l = l.k

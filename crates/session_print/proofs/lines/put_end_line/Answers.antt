@@ -6,7 +6,7 @@ use Rattle.session_print.proofs.lines.put_end_line.Goals as goal
 pub returns : goal.returns
 returns c =
     let a = c.args in
-    let front = c.put_front-a.ensures in
+    let front = rw c.from.ensures at c.put_front-a.ensures in
     let second = c.put_figure-b.ensures in (
       line.same_bytes (line.end_line_is a.code a.moment)
           (line.then_bytes front.0

@@ -7,7 +7,7 @@ pub returns : goal.returns
 returns c =
     let a = c.args in
     let front = c.put_front-a.ensures in
-    let second = c.put_figure-b.ensures in
+    let second = rw c.from.ensures at c.put_figure-b.ensures in
     let third = c.put_signed-c.ensures in (
       line.same_bytes (line.write_line_is (record { moment = a.moment; number = a.number; value = a.value }))
           (line.then_bytes front.0

@@ -1,49 +1,29 @@
 -- `session_print::put_write_lines` meets its contract.
-use mathlib.Core.Path.{ap}
+use mathlib.Core.Path.{◌≡◌}
+use mathlib.Core.Logic.{inl, inr}
 use native.Mathlib.Omega.{arith}
-use Rattle.session_print.proofs.LineBytes as line
+use borrow.Author.Rules.{rules}
 use Rattle.session_print.proofs.ListedWrites as listed
 use Rattle.session_print.proofs.lines.put_write_lines.Goals as goal
 
-pub loop-k-init : goal.loop-k-init
-loop-k-init c = listed.putting_begun _ _ _ _ _ _
-
-pub bounds-numbers-k : goal.bounds-numbers-k
-bounds-numbers-k c = omega (arith, c.loop-k-test.true, c.requires.2)
-
-pub bounds-values-k : goal.bounds-values-k
-bounds-values-k c = omega (arith, c.loop-k-test.true, c.requires.3)
+pub loop-number-init : goal.loop-number-init
+loop-number-init c =
+    let a = c.args in
+    let it = c.into_iter-number-iterator.result in
+    let numbers : it.a.rest.now ≡ a.numbers.now = search rules in
+    let values : it.b.rest.now ≡ a.values.now = search rules in
+    rw (numbers, values) (listed.putting_begun a.out.now a.at a.moment a.numbers.now a.values.now)
 
 pub put_write_line-place-requires : goal.put_write_line-place-requires
-put_write_line-place-requires c =
-    let few = c.loop-k.invariant.few in
-    let most = c.loop-k.invariant.most in
-    let pre = c.requires in
-    omega (arith, few, most, pre.0, pre.1)
+put_write_line-place-requires c = omega (arith, c.loop-number.invariant.few, c.requires.0, c.requires.1)
 
-pub overflow_add-k : goal.overflow_add-k
-overflow_add-k c = let l = c.loop-k-test.true in let pre = c.requires in record { fits = omega (arith, l, pre.1) }
-
-pub loop-k-smaller : goal.loop-k-smaller
-loop-k-smaller c = omega (arith, c.loop-k-test.true)
-
-pub loop-k-preserved : goal.loop-k-preserved
-loop-k-preserved c =
-    let a = c.args in
-    let pre = c.requires in
-    let v = c.loop-k in
-    let l = c.loop-k-test.true in
+pub loop-number-preserved : goal.loop-number-preserved
+loop-number-preserved c =
+    let next = c.in-Some.ensures.steps in
     let e = c.put_write_line-place.ensures in
-    listed.putting_on _ a.at a.moment _ _ a.count _ _ _ v.invariant l (omega (arith, l, pre.2)) (omega (arith, l, pre.3)) _ _ e.0 e.1
-
-pub shape_of-out : goal.shape_of-out
-shape_of-out c = listed.still_long c.loop-k.invariant.puts
+    listed.putting_on _ _ _ _ _ _ _ _ _ _ _ (rw (next.0, next.1) at c.loop-number.invariant) _ _ e.0 e.1
 
 pub returns : goal.returns
 returns c =
-    let a = c.args in
-    let v = c.loop-k in
-    let e = listed.ends v.invariant.most c.loop-k-test.false in (
-      line.same_bytes (ap (listed.lines_of a.moment a.numbers.now a.values.now) e) v.invariant.puts,
-      omega (arith, v.invariant.few, e),
-    )
+    listed.putting_done c.loop-number.invariant
+    (elim c.in-None.ensures.steps [ inl h ↦ listed.no_numbers _ _ _ h.1.0 | inr h ↦ listed.no_values _ _ _ h.1.0 ])

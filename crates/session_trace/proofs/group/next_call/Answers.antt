@@ -5,7 +5,8 @@ use native.Mathlib.Omega.{arith}
 use Rattle.session_trace.specs.Groups.{NextIs, JoinsIs}
 use Rattle.session_trace.specs.declared.group.Next.{Next}
 use Rattle.session_trace.specs.declared.group.Next.TheVariants.{Broken}
-use Rattle.session_trace.specs.declared.group.Joins.{Joins}
+use Rattle.std.specs.Prelude.{Option}
+use Rattle.session_trace.specs.declared.group.Joined.{Joined}
 use Rattle.session_trace.proofs.Groups as groups
 use Rattle.session_trace.proofs.Scripts as scripts
 use Rattle.session_trace.proofs.group.next_call.Goals as goal
@@ -45,7 +46,7 @@ returns-in_default-joining c =
     let s = a.trace.now in
     let v = c.loop-n in
     let time = c.in-Input.time in
-    let apart = subst (λ (r : Joins). JoinsIs s v.next time r) c.in_default-joining.is c.joining.ensures in
+    let apart = subst (λ (r : Option Joined). JoinsIs s v.next time r) c.in_default-joining.is c.joining.ensures in
     let put = c.put_input-count.ensures in
     groups.group_read v.invariant put apart
 
@@ -60,7 +61,7 @@ loop-n-smaller c =
     let s = a.trace.now in
     let v = c.loop-n in
     let time = c.in-Input.time in
-    let j = subst (λ (r : Joins). JoinsIs s v.next time r) c.in-Yes.is c.joining.ensures in
+    let j = subst (λ (r : Option Joined). JoinsIs s v.next time r) c.in-Yes.is c.joining.ensures in
     omega (arith, j.forward, j.inside)
 
 pub loop-n-preserved : goal.loop-n-preserved
@@ -69,5 +70,5 @@ loop-n-preserved c =
     let s = a.trace.now in
     let v = c.loop-n in
     let time = c.in-Input.time in
-    let j = subst (λ (r : Joins). JoinsIs s v.next time r) c.in-Yes.is c.joining.ensures in
+    let j = subst (λ (r : Option Joined). JoinsIs s v.next time r) c.in-Yes.is c.joining.ensures in
     groups.group_on v.invariant _ _ _ _ _ _ j c.put_input-count-in-loop-n.ensures

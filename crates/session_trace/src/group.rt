@@ -17,7 +17,7 @@ pub enum Next {
 }
 
 // A further input of a call: its number and value, and the offset of the line after it.
-#[derive(Clone, Copy, Debug, PartialEq, Eq)]
+#[derive(Clone, Copy)]
 pub struct Joined {
     pub number: u32,
     pub value: u32,

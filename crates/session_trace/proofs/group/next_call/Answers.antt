@@ -24,51 +24,45 @@ returns-then-stop-ne10 c =
     let s = a.trace.now in
     groups.nothing_read s a.at a.numbers.now a.values.now Broken (scripts.input_open s a.at _ _ _ _ _ (sym c.in-Input.is ∙ c.read_trace_line-line.ensures) c.if-stop-ne10.true)
 
-pub loop-n-init : goal.loop-n-init
-loop-n-init c =
+pub loop-input-init : goal.loop-input-init
+loop-input-init c =
     let a = c.args in
     let s = a.trace.now in
     let j = scripts.from_input s a.at _ _ _ _ _ (sym c.in-Input.is ∙ c.read_trace_line-line.ensures) c.if-stop-ne10.false in
     groups.group_begun s a.at _ _ _ _ _ _ _ _ _ j c.requires.1 c.requires.2 c.put_input-count.ensures
 
 pub joining-requires : goal.joining-requires
-joining-requires c = c.loop-n.invariant.inside
+joining-requires c = c.loop-input.invariant.inside
 
-pub shape_of-numbers-in_default-joining : goal.shape_of-numbers-in_default-joining
-shape_of-numbers-in_default-joining c = c.loop-n.invariant.same_numbers.size ∙ groups.put_numbers c.put_input-count.ensures
-
-pub shape_of-values-in_default-joining : goal.shape_of-values-in_default-joining
-shape_of-values-in_default-joining c = c.loop-n.invariant.same_values_lem.size ∙ groups.put_values c.put_input-count.ensures
-
-pub returns-in_default-joining : goal.returns-in_default-joining
-returns-in_default-joining c =
+pub returns : goal.returns
+returns c =
     let a = c.args in
     let s = a.trace.now in
-    let v = c.loop-n in
+    let v = c.loop-input in
     let time = c.in-Input.time in
     let apart = subst (λ (r : Option Joined). JoinsIs s v.next time r) c.in_default-joining.is c.joining.ensures in
     let put = c.put_input-count.ensures in
     groups.group_read v.invariant put apart
 
-pub put_input-count-requires-in-loop-n : goal.put_input-count-requires-in-loop-n
-put_input-count-requires-in-loop-n c =
-    let v = c.loop-n.invariant in
+pub put_input-count-requires-in-Some : goal.put_input-count-requires-in-Some
+put_input-count-requires-in-Some c =
+    let v = c.loop-input.invariant in
     (groups.group_few v, v.kept.long_numbers, v.kept.long_values)
 
-pub loop-n-smaller : goal.loop-n-smaller
-loop-n-smaller c =
+pub loop-input-smaller : goal.loop-input-smaller
+loop-input-smaller c =
     let a = c.args in
     let s = a.trace.now in
-    let v = c.loop-n in
+    let v = c.loop-input in
     let time = c.in-Input.time in
-    let j = subst (λ (r : Option Joined). JoinsIs s v.next time r) c.in-Yes.is c.joining.ensures in
+    let j = subst (λ (r : Option Joined). JoinsIs s v.next time r) c.in-Some.is c.joining.ensures in
     omega (arith, j.forward, j.inside)
 
-pub loop-n-preserved : goal.loop-n-preserved
-loop-n-preserved c =
+pub loop-input-preserved : goal.loop-input-preserved
+loop-input-preserved c =
     let a = c.args in
     let s = a.trace.now in
-    let v = c.loop-n in
+    let v = c.loop-input in
     let time = c.in-Input.time in
-    let j = subst (λ (r : Option Joined). JoinsIs s v.next time r) c.in-Yes.is c.joining.ensures in
-    groups.group_on v.invariant _ _ _ _ _ _ j c.put_input-count-in-loop-n.ensures
+    let j = subst (λ (r : Option Joined). JoinsIs s v.next time r) c.in-Some.is c.joining.ensures in
+    groups.group_on v.invariant _ _ _ _ _ _ j c.put_input-count-in-Some.ensures

@@ -3,8 +3,8 @@ use lib.ListN.{length}
 use Rattle.session_trace.proofs.Groups as groups
 use Rattle.session_trace.proofs.group.next_call.Given as goal
 
-abbrev pub invariant-loop-n : goal.invariant-loop-n
-invariant-loop-n l = groups.Grouped l.trace l.at l.time l.initial.numbers l.initial.values l.numbers l.values l.count l.next
+abbrev pub invariant-loop-input : goal.invariant-loop-input
+invariant-loop-input l = groups.Grouped l.trace l.at l.time l.initial.numbers l.initial.values l.numbers l.values l.count l.next
 
-abbrev pub decreases-loop-n : goal.decreases-loop-n
-decreases-loop-n l = length l.trace - l.next
+abbrev pub decreases-loop-input : goal.decreases-loop-input
+decreases-loop-input l = length l.trace - l.next

@@ -23,6 +23,10 @@ use Rattle.machine_words.specs.Tests.{Dues}
 use Rattle.machine_check.specs.Answer.{answer_of, check_of, Answered}
 use Rattle.machine_check.specs.declared.MachineCheck.{MachineCheck}
 use Rattle.machine_check.specs.declared.MachineCheck.TheVariants.{Running}
+use Rattle.std.specs.Prelude.{Result, Ok, Err, is_ok, ⊤}
+use Rattle.call_arguments.specs.Refusals.{number_of}
+use Rattle.call_arguments.specs.declared.questions.Refusal.{Refusal}
+use Rattle.call_arguments.specs.declared.questions.Refusal.TheVariants.{NotLater, Overdue, Inputs, Allowance}
 use Rattle.call_arguments.specs.Asked.{machine_refusal, long_enough, numbers_rise, asked, MachineAsked}
 use Rattle.call_arguments.proofs.Refusals.{read_by_refusal, due_by_answer, refusal_running}
 
@@ -90,7 +94,7 @@ unfolding allowed
 some_allowed a h = rw (le-leb _ _ h)
 
 -- ── 9 to 12, by the numbers that refuse ───────────────────────────────────────────────────────────
-pub refused_9 : (a : Bool) (rest next : Outcome) → a ≡ false → asked 9 next ≡ ask 9 a rest
+pub refused_9 : (a : Bool) (rest next : Outcome) → a ≡ false → asked (Err NotLater) next ≡ ask 9 a rest
 unfolding ask asked
 refused_9 a rest next e = rw e
 
@@ -98,19 +102,19 @@ module _ (a b c d : Bool) (next : Outcome) where
   abbrev pub Four : Outcome
   Four = ask 9 a (ask 10 (not b) (ask 11 c (ask 12 d next)))
 
-  pub refused_10 : a ≡ true → b ≡ true → asked 10 next ≡ Four
+  pub refused_10 : a ≡ true → b ≡ true → asked (Err Overdue) next ≡ Four
   unfolding ask asked
   refused_10 e f = rw (e, f)
 
-  pub refused_11 : a ≡ true → b ≡ false → c ≡ false → asked 11 next ≡ Four
+  pub refused_11 : a ≡ true → b ≡ false → c ≡ false → asked (Err Inputs) next ≡ Four
   unfolding ask asked
   refused_11 e f g = rw (e, f, g)
 
-  pub refused_12 : a ≡ true → b ≡ false → c ≡ true → d ≡ false → asked 12 next ≡ Four
+  pub refused_12 : a ≡ true → b ≡ false → c ≡ true → d ≡ false → asked (Err Allowance) next ≡ Four
   unfolding ask asked
   refused_12 e f g h = rw (e, f, g, h)
 
-  pub none_refused : a ≡ true → b ≡ false → c ≡ true → d ≡ true → asked 0 next ≡ Four
+  pub none_refused : a ≡ true → b ≡ false → c ≡ true → d ≡ true → asked (Ok tt) next ≡ Four
   unfolding ask asked
   none_refused e f g h = rw (e, f, g, h)
 
@@ -119,36 +123,40 @@ unfolding table_listing
 inputs_of_table table = sym (get_or-take 12288 table 0 0 (omega arith))
 
 -- ── 7 to 12 ───────────────────────────────────────────────────────────────────────────────────────
-refused_some : (o : Option Machine) (k : ℕ) (go : State → Outcome) → k ≡ machine_refusal o → (k ≡ 0 → ⊥) →
-    refused k ≡ found 7 o (λ (m : Machine). unstopped m go)
+refused_some : (o : Option Machine) (k : Refusal) (go : State → Outcome) → Err k ≡ machine_refusal o →
+    refused (number_of k) ≡ found 7 o (λ (m : Machine). unstopped m go)
 unfolding machine_refusal found unstopped
-refused_some none k go e h = rw e
-refused_some (some (halted j)) k go e h = rw e
-refused_some (some (running s)) k go e h = absurd (h e)
+refused_some none k go e = ap (λ (r : Result ⊤ Refusal). number r) e
+  where
+    number : Result ⊤ Refusal → Outcome
+    number (Ok passed) = refused 0
+    number (Err j) = refused (number_of j)
+refused_some (some (halted j)) k go e = ap (λ (r : Result ⊤ Refusal). number r) e
+  where
+    number : Result ⊤ Refusal → Outcome
+    number (Ok passed) = refused 0
+    number (Err j) = refused (number_of j)
+refused_some (some (running s)) k go e = let z : ◌≡◌ {A = ℕ} 0 1 = cc in absurd (omega arith)
 
 now_is : (listing : Listing) (w : List ℕ) → (state_of listing w).now ≡ moment_at w 1
 unfolding state_of state_from
 now_is listing w = refl
 
-asked_refused : (k : ℕ) (next : Outcome) → (k ≡ 0 → ⊥) → asked k next ≡ refused k
-unfolding asked
-asked_refused zero next h = absurd (h refl)
-asked_refused (suc k) next h = refl
-
 module _ (listing : Listing) (w : List ℕ) (t : ℕ) (ns : List ℕ) (allowance : ℕ) (dues : List ℕ) (places : length dues ≡ 65) where
-  pub machine_refused : (k : ℕ) → k ≡ machine_refusal (read_machine listing w) → (k ≡ 0 → ⊥) → MachineAsked listing w t ns allowance dues k
-  machine_refused k e h = record {
-    outcome = λ vs same. asked_refused k _ h ∙ refused_some (read_machine listing w) k _ e h;
-    each = λ z. absurd (h z);
+  pub machine_refused : (k : Refusal) → Err k ≡ machine_refusal (read_machine listing w) → MachineAsked listing w t ns allowance dues (Err k)
+  unfolding asked
+  machine_refused k e = record {
+    outcome = λ vs same. refused_some (read_machine listing w) k _ e;
+    each = λ z. let y : ◌≡◌ {A = ℕ} 0 1 = cc in absurd (omega arith);
     places = places;
   }
 
-  pub machine_passed : (r due : ℕ) → check_of (Running due) ≡ answer_of (read_machine listing w) →
+  pub machine_passed : (r : Result ⊤ Refusal) (due : ℕ) → check_of (Running due) ≡ answer_of (read_machine listing w) →
       ((next : Outcome) → asked r next ≡ Four (ltb (moment_at w 1) t) (due_before (due_at due) t) (numbers_rise listing.inputs 0 ns) (allowed allowance) next) →
       Dues (environment_size listing) w dues → MachineAsked listing w t ns allowance dues r
   unfolding found unstopped instant_from
   machine_passed r due answer asks each =
-      let read = read_by_refusal listing w (sym (refusal_running (read_machine listing w) due answer)) in
+      let read = read_by_refusal listing w (ap is_ok (sym (refusal_running (read_machine listing w) due answer))) in
       record {
         outcome = λ vs same.
             asks _ ∙ rw (read, rise_of_inputs listing.inputs 0 ns vs same, ← due_by_answer listing w due (state_of listing w) answer read, now_is listing w) refl;
@@ -157,7 +165,7 @@ module _ (listing : Listing) (w : List ℕ) (t : ℕ) (ns : List ℕ) (allowance
       }
 
 -- The same with the number of inputs read from a table that may be longer.
-pub machine_passed_with : (table w : List ℕ) (t : ℕ) (ns : List ℕ) (allowance : ℕ) {before : List ℕ} (dues : List ℕ) (r due : ℕ) (check : MachineCheck) →
+pub machine_passed_with : (table w : List ℕ) (t : ℕ) (ns : List ℕ) (allowance : ℕ) {before : List ℕ} (dues : List ℕ) (r : Result ⊤ Refusal) (due : ℕ) (check : MachineCheck) →
     Answered (table_listing (take 12288 table)) w before dues check → check ≡ Running due → (i : ℕ) → i ≡ get_or table 0 0 →
     ((next : Outcome) → asked r next ≡ Four (ltb (moment_at w 1) t) (due_before (due_at due) t) (numbers_rise i 0 ns) (allowed allowance) next) →
     MachineAsked (table_listing (take 12288 table)) w t ns allowance dues r

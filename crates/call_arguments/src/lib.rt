@@ -1,5 +1,8 @@
-// The tests of a call's arguments, each of one question: the lengths, a due write before t, the inputs' numbers, the allowance.
+// The tests of a call's arguments, each of one question: the lengths, a due write before t, the inputs' numbers, the allowance;
+// and the refusals, by the question that refuses.
 #![tactic(auto)]
+
+pub mod questions;
 
 ghost use Rattle.std.specs.Prelude.{◌≡◌};
 ghost use Rattle.walk.specs.Calls.{due_before, allowed};
@@ -7,6 +10,7 @@ ghost use Rattle.machine.specs.Due.{due_at};
 ghost use Rattle.call_arguments.specs.Asked.{long_enough, numbers_rise};
 
 use machine::MACHINE_WORDS;
+pub use questions::Refusal;
 use table::TABLE_WORDS;
 use words::{Moment, number};
 
@@ -43,9 +47,8 @@ pub fn numbers_rise(numbers: &[u32], inputs: usize) -> bool
     ensures { result ≡ numbers_rise inputs 0 numbers.now }
 {
     let mut least: usize = 0;
-    let mut k: usize = 0;
-    while k < numbers.len() {
-        let n = number(numbers[k]);
+    for input in numbers {
+        let n = number(*input);
         if n < least {
             return false;
         }
@@ -53,7 +56,6 @@ pub fn numbers_rise(numbers: &[u32], inputs: usize) -> bool
             return false;
         }
         least = n + 1;
-        k += 1;
     }
     true
 }

@@ -21,9 +21,9 @@ use Rattle.engine_run_laws.specs.declared.Left.{Left}
 use Rattle.engine_run_laws.specs.declared.Ran.{Ran}
 use Rattle.engine_run_laws.specs.declared.Ran.TheVariants.{Ended}
 use Rattle.engine_run_laws.specs.declared.Ran.TheVariants as ran-variants
-use Rattle.call_conclude.specs.declared.answers.Answer.{Answer}
-use Rattle.call_conclude.specs.declared.answers.Answer.TheVariants.{Stopped}
-use Rattle.call_conclude.specs.Answers.{result_of}
+use Rattle.std.specs.Prelude.{Err}
+use Rattle.call_conclude.specs.declared.answers.Failure.TheVariants.{Stopped}
+use Rattle.call_conclude.specs.Answers.{Answer, result_of}
 use Rattle.call_conclude.specs.Conclusions.{leaves_stopped, leaves_state, Concludes, MayFinish, FinishedAs, MayConclude}
 
 -- ── the cases of the same outcome ─────────────────────────────────────────────────────────────────
@@ -50,7 +50,7 @@ done_of_lem (same_done {d = d} A) σ environment left live woken e = record { gi
 -- ── a stop ────────────────────────────────────────────────────────────────────────────────────────
 module _ (t words : List ℕ) (moment allowance : ℕ) (ran : Ran) (may : MayConclude t words moment allowance ran) where
   pub concluded_stop : (k : ℕ) → ran ≡ ran-variants.Stopped k → (after numbers values : List ℕ) → after ≡ halted_words k ++ drop 12288 words →
-      Concludes (table_listing t) words numbers values after numbers values may.answer (Stopped k)
+      Concludes (table_listing t) words numbers values after numbers values may.answer (Err (Stopped k))
   unfolding ran_by result_of promises.result_of answered outcome_number outcome_place no_figures outcome_figures numbers_after values_after
   concluded_stop k e after numbers values h =
       let s : may.answer ≡ walk.stop k = stop_of_lem may.same k (ap (ran_by (environment_size (table_listing t)) words) e) in

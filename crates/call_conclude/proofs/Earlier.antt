@@ -8,7 +8,7 @@ use Rattle.listing.specs.Listing.{Listing}
 use Rattle.walk.specs.State as walk
 use Rattle.walk.specs.Instant.{Done}
 use Rattle.walk.specs.Calls.{halted_words}
-use Rattle.call_conclude.specs.declared.answers.Answer.{Answer}
+use Rattle.call_conclude.specs.Answers.{Answer}
 use Rattle.call_conclude.specs.Conclusions.{Leaves, leaves_stopped, leaves_state, Concludes}
 
 leaves_from : {listing : Listing} {w₀ w₂ w₃ : List ℕ} {o : walk.Result Done} → length w₂ ≡ length w₀ → drop 12288 w₂ ≡ drop 12288 w₀ →

@@ -8,8 +8,8 @@ use Prim.Native.Nat.{ℕ, zero, suc, ◌+◌, ◌≤◌, min}
 use native.Mathlib.Omega.{arith}
 use lib.ListN.{length, get_or, take, drop, length-drop}
 use Rattle.listing.specs.Listing.{Listing}
-use Rattle.walk.specs.State.{State, Variable}
-use Rattle.walk.specs.Instant.{Done, Write, environment_size, written_from, listed_if, written_outputs, next_due}
+use Rattle.walk.specs.State.{Variable}
+use Rattle.walk.specs.Instant.{Write, environment_size, written_from, listed_if, written_outputs, next_due}
 use Rattle.walk.specs.Calls.{Words32, running, answered, outcome_number, outcome_place, numbers_after, values_after, no_figures, outcome_figures}
 use Rattle.walk.specs.Promises as promises
 use Rattle.table.specs.Decode.{table_listing}
@@ -25,7 +25,7 @@ use Rattle.engine_finish.specs.Ended.{Ended}
 use Rattle.engine_finish.proofs.EndedIsRead.{ended_is_read}
 use Rattle.call_conclude.specs.declared.answers.Due.{Due}
 use Rattle.call_conclude.specs.declared.answers.Due.TheVariants.{Never, At}
-use Rattle.call_conclude.specs.declared.answers.Answer.TheVariants as answers
+use Rattle.std.specs.Prelude.{Ok}
 use Rattle.call_conclude.specs.Answers.{due_of, result_of}
 use Rattle.call_conclude.specs.Conclusions.{MayFinish, FinishedAs}
 
@@ -88,7 +88,7 @@ module _ (t before after : List ℕ) (moment : ℕ) (may : MayFinish t before mo
     due_is_lem = U ∙ (D ∙ (ap (λ (n : ℕ). next_due_of_rows (rows_of before) (environment_of n before)) size_is ∙ may.due))
 
     pub finished_as : FinishedAs t before numbers values after numbers' values' steps may.state
-        (answers.Done (record { steps = steps; listed = count; due = due }))
+        (Ok (record { steps = steps; listed = count; due = due }))
     unfolding result_of promises.result_of answered outcome_number outcome_place no_figures outcome_figures numbers_after values_after
     finished_as =
         record {

@@ -21,8 +21,7 @@ use Rattle.engine_run_laws.specs.Runs.{ran_by}
 use Rattle.engine_run_laws.specs.declared.Left.{Left}
 use Rattle.engine_run_laws.specs.declared.Ran.{Ran}
 use Rattle.engine_run_laws.specs.declared.Ran.TheVariants.{Ended}
-use Rattle.call_conclude.specs.declared.answers.Answer.{Answer}
-use Rattle.call_conclude.specs.Answers.{result_of}
+use Rattle.call_conclude.specs.Answers.{Answer, result_of}
 
 -- The machine's words after a call from these words, whose walk's answer is o.
 pub data Leaves (listing : Listing) (before after : List ℕ) : walk.Result Done → Type 0 where

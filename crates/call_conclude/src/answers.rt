@@ -1,4 +1,8 @@
 // The answer of a start or an instant call.
+ghost use Rattle.std.specs.Prelude.{◌≡◌};
+ghost use Rattle.call_conclude.specs.Failures.{refuses, number_of};
+
+use call_arguments::Refusal;
 
 // "the next moment due or none": a figure of the result, which the caller reads as a number.
 #[derive(Clone, Copy)]
@@ -15,10 +19,31 @@ pub struct Figures {
     pub due: Due,
 }
 
-// Refused or stopped under a number, or done.
-#[derive(Clone, Copy)]
-pub enum Answer {
-    Refused(u32),
+// Why a call did not go through.
+#[derive(Clone, Copy, Debug, PartialEq, Eq)]
+pub enum Failure {
+    // a question refused it before its run
+    Refused(Refusal),
+    // the run stopped under a number, and the machine with it
     Stopped(u32),
-    Done(Figures),
+}
+
+impl Failure {
+    // Document 01's number.
+    pub fn number(self) -> u32
+        ensures { result ≡ number_of self }
+    {
+        match self {
+            Failure::Refused(refusal) => refusal.number(),
+            Failure::Stopped(number) => number,
+        }
+    }
+}
+
+impl From<Refusal> for Failure {
+    ghost from_gives = { refuses };
+
+    fn from(refusal: Refusal) -> Failure {
+        Failure::Refused(refusal)
+    }
 }

@@ -6,7 +6,7 @@ ghost use Rattle.table.specs.Decode.{table_listing};
 ghost use Rattle.call_conclude.specs.Answers.{due_of};
 ghost use Rattle.call_conclude.specs.Conclusions.{Concludes, MayFinish, FinishedAs, MayConclude};
 
-use crate::answers::{Answer, Due, Figures};
+use crate::answers::{Due, Failure, Figures};
 use engine_run_laws::Ran;
 use table::{INPUTS, OUTPUTS};
 use words::{Moment, number};
@@ -29,7 +29,7 @@ fn finished(
     steps: u32,
     numbers: &mut [u32],
     values: &mut [u32],
-) -> Answer
+) -> Result<Figures, Failure>
     requires { TableLong table.now × (MayFinish table.now machine.old present.0) × (16 ≤ length numbers.old) × (16 ≤ length values.old) }
     ensures { (may : MayFinish table.now machine.old present.0) →
         FinishedAs table.now machine.old numbers.old values.old
@@ -39,7 +39,7 @@ fn finished(
     let outputs = number(table[OUTPUTS]);
     let listed = engine_outputs::list_outputs(machine, inputs, outputs, numbers, values);
     let due = due_at(engine_finish::finish(machine, present, inputs + outputs));
-    Answer::Done(Figures {
+    Ok(Figures {
         steps,
         listed: listed as u32,
         due,
@@ -55,7 +55,7 @@ pub fn conclude(
     ran: Ran,
     numbers: &mut [u32],
     values: &mut [u32],
-) -> Answer
+) -> Result<Figures, Failure>
     requires { TableLong table.now × (MayConclude table.now machine.old present.0 allowance ran) × (16 ≤ length numbers.old) × (16 ≤ length values.old) }
     ensures { (may : MayConclude table.now machine.old present.0 allowance ran) →
         Concludes (table_listing table.now) machine.old numbers.old values.old
@@ -64,7 +64,7 @@ pub fn conclude(
     match ran {
         Ran::Stopped(number) => {
             machine_halt::halt(machine, number);
-            return Answer::Stopped(number);
+            return Err(Failure::Stopped(number));
         }
         Ran::Ended(x) => {
             let left = x.left;

@@ -4,5 +4,5 @@
 pub mod answers;
 pub mod ending;
 
-pub use answers::{Answer, Due, Figures};
+pub use answers::{Due, Failure, Figures};
 pub use ending::conclude;

@@ -1,4 +1,4 @@
--- The questions of the whole calls. Letters: ns and vs the input lists, on and ov the output lists, r the number that refuses, 0 if none.
+-- The questions of the whole calls. Letters: ns and vs the input lists, on and ov the output lists, r the refusal, if there is one.
 use mathlib.Core.Path.{◌≡◌, refl}
 use mathlib.Core.Bool.{Bool, true, false}
 use mathlib.Core.List.{List}
@@ -11,6 +11,9 @@ use Rattle.walk.specs.Calls.{ask, found, allowed, start_on, start_long_enough, i
 use Rattle.table.specs.Question6.{is_table, read_table}
 use Rattle.table.specs.Decode.{table_listing}
 use Rattle.machine.proofs.Basics.{and_left, and_right}
+use Rattle.std.specs.Prelude.{Result, Ok, Err, ⊤}
+use Rattle.call_arguments.specs.declared.questions.Refusal.{Refusal}
+use Rattle.call_arguments.specs.declared.questions.Refusal.TheVariants.{Short, NoTable, Allowance}
 use Rattle.call_arguments.specs.Asked.{long_enough, asked, MachineAsked, InstantAsked, StartAsked}
 
 -- What question 1 gives of the lengths.
@@ -33,44 +36,44 @@ long a b c d e =
     }
 
 module _ (table machine : List ℕ) (t : ℕ) (ns vs on ov : List ℕ) (allowance : ℕ) (dues : List ℕ) (places : length dues ≡ 65) where
-  pub instant_short : long_enough (length table) (length machine) (length on) (length ov) ≡ false → InstantAsked table machine t ns vs on ov allowance dues 1
+  pub instant_short : long_enough (length table) (length machine) (length on) (length ov) ≡ false → InstantAsked table machine t ns vs on ov allowance dues (Err Short)
   unfolding instant_call instant_long_enough start_long_enough long_enough ask asked
-  instant_short e = record { outcome = rw e; each = λ z. absurd (omega arith); places = places }
+  instant_short e = record { outcome = rw e; each = λ z. let y : ◌≡◌ {A = ℕ} 0 1 = cc in absurd (omega arith); places = places }
 
   pub instant_unequal : long_enough (length table) (length machine) (length on) (length ov) ≡ true → (length ns ≡ length vs → ⊥) →
-      InstantAsked table machine t ns vs on ov allowance dues 1
+      InstantAsked table machine t ns vs on ov allowance dues (Err Short)
   unfolding instant_call instant_long_enough start_long_enough long_enough ask asked
-  instant_unequal e f = record { outcome = rw (e, ne_eqb _ _ f); each = λ z. absurd (omega arith); places = places }
+  instant_unequal e f = record { outcome = rw (e, ne_eqb _ _ f); each = λ z. let y : ◌≡◌ {A = ℕ} 0 1 = cc in absurd (omega arith); places = places }
 
   module _ (e : long_enough (length table) (length machine) (length on) (length ov) ≡ true) (f : length ns ≡ length vs) where
-    pub instant_no_table : is_table (first_words table) ≡ false → InstantAsked table machine t ns vs on ov allowance dues 6
+    pub instant_no_table : is_table (first_words table) ≡ false → InstantAsked table machine t ns vs on ov allowance dues (Err NoTable)
     unfolding instant_call instant_long_enough start_long_enough long_enough ask asked found read_table
-    instant_no_table g = record { outcome = rw (e, eq-eqb _ _ f, g); each = λ z. absurd (omega arith); places = places }
+    instant_no_table g = record { outcome = rw (e, eq-eqb _ _ f, g); each = λ z. let y : ◌≡◌ {A = ℕ} 0 1 = cc in absurd (omega arith); places = places }
 
-    pub instant_by_machine : is_table (first_words table) ≡ true → (r : ℕ) → MachineAsked (table_listing (first_words table)) (first_words machine) t ns allowance dues r →
+    pub instant_by_machine : is_table (first_words table) ≡ true → (r : Result ⊤ Refusal) → MachineAsked (table_listing (first_words table)) (first_words machine) t ns allowance dues r →
         InstantAsked table machine t ns vs on ov allowance dues r
     unfolding instant_call instant_long_enough start_long_enough long_enough ask found read_table
     instant_by_machine g r M = record { outcome = rw (e, eq-eqb _ _ f, g) (M.outcome vs f); each = M.each; places = M.places }
 
 module _ (table machine on ov : List ℕ) (allowance : ℕ) where
-  pub start_short : long_enough (length table) (length machine) (length on) (length ov) ≡ false → StartAsked table machine on ov allowance 1
+  pub start_short : long_enough (length table) (length machine) (length on) (length ov) ≡ false → StartAsked table machine on ov allowance (Err Short)
   unfolding start_call start_long_enough long_enough ask asked
   start_short e = record { outcome = rw e }
 
   module _ (e : long_enough (length table) (length machine) (length on) (length ov) ≡ true) where
-    pub start_no_table : is_table (first_words table) ≡ false → StartAsked table machine on ov allowance 6
+    pub start_no_table : is_table (first_words table) ≡ false → StartAsked table machine on ov allowance (Err NoTable)
     unfolding start_call start_long_enough long_enough ask asked found read_table
     start_no_table g = record { outcome = rw (e, g) }
 
-    pub start_by_allowance : is_table (first_words table) ≡ true → (x : Bool) (r : ℕ) → allowed allowance ≡ x →
+    pub start_by_allowance : is_table (first_words table) ≡ true → (x : Bool) (r : Result ⊤ Refusal) → allowed allowance ≡ x →
         ((next : _) → asked r next ≡ ask 12 x next) → StartAsked table machine on ov allowance r
     unfolding start_call start_on start_long_enough long_enough ask found read_table
     start_by_allowance g x r h k = record { outcome = rw (e, g, h) (k _) }
 
-    pub start_not_allowed : is_table (first_words table) ≡ true → allowed allowance ≡ false → StartAsked table machine on ov allowance 12
+    pub start_not_allowed : is_table (first_words table) ≡ true → allowed allowance ≡ false → StartAsked table machine on ov allowance (Err Allowance)
     unfolding ask asked
-    start_not_allowed g h = start_by_allowance g false 12 h (λ next. refl)
+    start_not_allowed g h = start_by_allowance g false (Err Allowance) h (λ next. refl)
 
-    pub start_passes : is_table (first_words table) ≡ true → allowed allowance ≡ true → StartAsked table machine on ov allowance 0
+    pub start_passes : is_table (first_words table) ≡ true → allowed allowance ≡ true → StartAsked table machine on ov allowance (Ok tt)
     unfolding ask asked
-    start_passes g h = start_by_allowance g true 0 h (λ next. refl)
+    start_passes g h = start_by_allowance g true (Ok tt) h (λ next. refl)

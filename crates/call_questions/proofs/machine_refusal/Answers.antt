@@ -1,14 +1,14 @@
 -- `call_questions::machine_refusal` meets its contract.
-use mathlib.Core.Path.{sym, ap, ◌∙◌}
-use Rattle.machine_check.specs.Answer.{check_of}
-use Rattle.call_arguments.proofs.Refusals.{refusal_none, refusal_stopped, refusal_running}
+use mathlib.Core.Path.{◌≡◌, sym, ◌∙◌}
+use borrow.Author.Rules.{rules}
+use Rattle.std.specs.Prelude.{Err}
+use Rattle.call_questions.proofs.Runs.{refuses, none_refuses}
 use Rattle.call_questions.proofs.machine_refusal.Goals as goal
 
-pub returns-in-NotAState : goal.returns-in-NotAState
-returns-in-NotAState c = refusal_none _ (ap check_of (sym c.in-NotAState.is) ∙ c.check_machine-check.ensures.answer)
+pub returns-in_err-running : goal.returns-in_err-running
+returns-in_err-running c =
+    let same : c.from_residual.result ≡ Err c.in_err-running.field-0.0 = search rules in
+    same ∙ refuses _ _ _ (sym c.in_err-running.was ∙ c.running.ensures) c.check_machine.ensures.answer
 
-pub returns-in-Stopped : goal.returns-in-Stopped
-returns-in-Stopped c = refusal_stopped _ _ (ap check_of (sym c.in-Stopped.is) ∙ c.check_machine-check.ensures.answer)
-
-pub returns-in-Running : goal.returns-in-Running
-returns-in-Running c = refusal_running _ _ (ap check_of (sym c.in-Running.is) ∙ c.check_machine-check.ensures.answer)
+pub returns : goal.returns
+returns c = none_refuses _ _ _ (sym c.in_ok-running.was ∙ c.running.ensures) c.check_machine.ensures.answer

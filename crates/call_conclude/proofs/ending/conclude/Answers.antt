@@ -1,6 +1,5 @@
 -- `call_conclude::ending::conclude` meets its contract.
 use Rattle.call_conclude.proofs.Concluded.{concluded_stop, left_within, may_finish, concluded_end}
-use borrow.Author.Rules.{rules}
 use Rattle.call_conclude.proofs.ending.conclude.Goals as goal
 
 pub returns-in-Stopped : goal.returns-in-Stopped

@@ -21,6 +21,10 @@ use Rattle.machine.specs.ReadMachine.{read_machine}
 use Rattle.layout.specs.Layout.{layout}
 use Rattle.call_arguments.specs.Asked.{machine_refusal}
 use Rattle.call_arguments.proofs.Refusals.{read_by_refusal}
+use Rattle.std.specs.Prelude.{Result, Ok, Err, is_ok, ⊤}
+use Rattle.call_arguments.specs.Refusals.{number_of}
+use Rattle.call_arguments.specs.declared.questions.Refusal.{Refusal}
+use Rattle.call_arguments.specs.declared.questions.Refusal.TheVariants.{NoState, Halted}
 use Rattle.call_alike.specs.Compared.{pair_refusal}
 
 -- ── the values ────────────────────────────────────────────────────────────────────────────────────
@@ -69,64 +73,38 @@ module _ (listing : Listing) (a b : List ℕ) where
   alike_by_values e = moments_by true (eq-eqb _ _ e)
 
 -- ── 7 and 8 for both ──────────────────────────────────────────────────────────────────────────────
-module _ (x y : ℕ) where
-  pub first_is_7 : x ≡ 7 → 7 ≡ pair_refusal x y
-  unfolding pair_refusal
-  first_is_7 e = rw (eq-eqb _ _ e)
-
-  pub second_is_7 : (x ≡ 7 → ⊥) → y ≡ 7 → 7 ≡ pair_refusal x y
-  unfolding pair_refusal
-  second_is_7 e f = rw (ne_eqb _ _ e, eq-eqb _ _ f)
-
-  pub second_decides : (x ≡ 7 → ⊥) → (y ≡ 7 → ⊥) → x ≡ 0 → y ≡ pair_refusal x y
-  unfolding pair_refusal
-  second_decides e f g = rw (ne_eqb _ _ e, ne_eqb _ _ f, eq-eqb _ _ g)
-
-  pub first_decides : (x ≡ 7 → ⊥) → (y ≡ 7 → ⊥) → (x ≡ 0 → ⊥) → x ≡ pair_refusal x y
-  unfolding pair_refusal
-  first_decides e f g = rw (ne_eqb _ _ e, ne_eqb _ _ f, ne_eqb _ _ g)
-
-pub refused_pair : (x y : Option Machine) → (pair_refusal (machine_refusal x) (machine_refusal y) ≡ 0 → ⊥) →
-    not_compared (pair_refusal (machine_refusal x) (machine_refusal y)) ≡ both_states x y
+pub refused_pair : (x y : Option Machine) (k : Refusal) → pair_refusal (machine_refusal x) (machine_refusal y) ≡ Err k → not_compared (number_of k) ≡ both_states x y
 unfolding pair_refusal machine_refusal both_states both_running
-refused_pair none y h = refl
-refused_pair (some (halted k)) none h = refl
-refused_pair (some (running s)) none h = refl
-refused_pair (some (halted k)) (some (halted j)) h = refl
-refused_pair (some (halted k)) (some (running u)) h = refl
-refused_pair (some (running s)) (some (halted j)) h = refl
-refused_pair (some (running s)) (some (running u)) h = absurd (h refl)
+refused_pair none y k e = let f : NoState ≡ k = cc in ap (λ (r : Refusal). not_compared (number_of r)) (sym f)
+refused_pair (some (halted j)) none k e = let f : NoState ≡ k = cc in ap (λ (r : Refusal). not_compared (number_of r)) (sym f)
+refused_pair (some (running s)) none k e = let f : NoState ≡ k = cc in ap (λ (r : Refusal). not_compared (number_of r)) (sym f)
+refused_pair (some (halted i)) (some (halted j)) k e = let f : Halted ≡ k = cc in ap (λ (r : Refusal). not_compared (number_of r)) (sym f)
+refused_pair (some (halted i)) (some (running u)) k e = let f : Halted ≡ k = cc in ap (λ (r : Refusal). not_compared (number_of r)) (sym f)
+refused_pair (some (running s)) (some (halted j)) k e = let f : Halted ≡ k = cc in ap (λ (r : Refusal). not_compared (number_of r)) (sym f)
+refused_pair (some (running s)) (some (running u)) k e = let z : ◌≡◌ {A = ℕ} 0 1 = cc in absurd (omega arith)
 
-pair_passes : (x y : ℕ) → pair_refusal x y ≡ 0 → (x ≡ 0) × (y ≡ 0)
-unfolding pair_refusal
-pair_passes x y e = go (eqb x 7) (eqb y 7) (eqb x 0) refl e
-  where
-    go : (p q r : Bool) → eqb x 0 ≡ r → cond p 7 (cond q 7 (cond r y x)) ≡ 0 → (x ≡ 0) × (y ≡ 0)
-    go true q r f e = absurd (omega arith)
-    go false true r f e = absurd (omega arith)
-    go false false true f e = (eqb-true _ _ f, e)
-    go false false false f e = absurd (eqb-false _ _ f e)
+pair_passes : (x y : Option Machine) → pair_refusal (machine_refusal x) (machine_refusal y) ≡ Ok tt → (is_ok (machine_refusal x) ≡ true) × (is_ok (machine_refusal y) ≡ true)
+unfolding pair_refusal machine_refusal
+pair_passes none y e = let z : ◌≡◌ {A = ℕ} 0 1 = cc in absurd (omega arith)
+pair_passes (some (halted j)) none e = let z : ◌≡◌ {A = ℕ} 0 1 = cc in absurd (omega arith)
+pair_passes (some (running s)) none e = let z : ◌≡◌ {A = ℕ} 0 1 = cc in absurd (omega arith)
+pair_passes (some (halted i)) (some (halted j)) e = let z : ◌≡◌ {A = ℕ} 0 1 = cc in absurd (omega arith)
+pair_passes (some (halted i)) (some (running u)) e = let z : ◌≡◌ {A = ℕ} 0 1 = cc in absurd (omega arith)
+pair_passes (some (running s)) (some (halted j)) e = let z : ◌≡◌ {A = ℕ} 0 1 = cc in absurd (omega arith)
+pair_passes (some (running s)) (some (running u)) e = (refl, refl)
 
-pub compared_states : (listing : Listing) (a b : List ℕ) (x : Bool) →
-    pair_refusal (machine_refusal (read_machine listing a)) (machine_refusal (read_machine listing b)) ≡ 0 →
-    x ≡ alike (state_of listing a) (state_of listing b) →
-    compared x ≡ both_states (read_machine listing a) (read_machine listing b)
-unfolding both_states both_running
-compared_states listing a b x e f =
-    let p = pair_passes _ _ e in
-    rw (read_by_refusal listing a p.0, read_by_refusal listing b p.1, f)
+-- The refusals as they were found one after the other.
+pub refused_by : (x y : Option Machine) (p q r : Result ⊤ Refusal) (k : Refusal) → p ≡ machine_refusal x → q ≡ machine_refusal y → r ≡ pair_refusal p q → r ≡ Err k →
+    not_compared (number_of k) ≡ both_states x y
+refused_by x y p q r k e f g h = refused_pair x y k (sym (ap₂ pair_refusal e f) ∙ (sym g ∙ h))
 
--- The numbers as they were found one after the other.
-pub refused_by : (x y : Option Machine) (p q n : ℕ) → p ≡ machine_refusal x → q ≡ machine_refusal y → n ≡ pair_refusal p q → (n ≡ 0 → ⊥) →
-    not_compared n ≡ both_states x y
-refused_by x y p q n e f g h =
-    let k : n ≡ pair_refusal (machine_refusal x) (machine_refusal y) = g ∙ ap₂ pair_refusal e f in
-    ap not_compared k ∙ refused_pair x y (λ z. h (k ∙ z))
-
-pub compared_by : (listing : Listing) (a b : List ℕ) (p q n : ℕ) (same : Bool) → p ≡ machine_refusal (read_machine listing a) →
-    q ≡ machine_refusal (read_machine listing b) → n ≡ pair_refusal p q → n ≡ 0 → same ≡ alike (state_of listing a) (state_of listing b) →
+pub compared_by : (listing : Listing) (a b : List ℕ) (p q r : Result ⊤ Refusal) (same : Bool) → p ≡ machine_refusal (read_machine listing a) →
+    q ≡ machine_refusal (read_machine listing b) → r ≡ pair_refusal p q → r ≡ Ok tt → same ≡ alike (state_of listing a) (state_of listing b) →
     compared same ≡ both_states (read_machine listing a) (read_machine listing b)
-compared_by listing a b p q n same e f g z h = compared_states listing a b same (sym (ap₂ pair_refusal e f) ∙ (sym g ∙ z)) h
+unfolding both_states both_running
+compared_by listing a b p q r same e f g z h =
+    let pass = pair_passes (read_machine listing a) (read_machine listing b) (sym (ap₂ pair_refusal e f) ∙ (sym g ∙ z)) in
+    rw (read_by_refusal listing a pass.0, read_by_refusal listing b pass.1, h)
 
 -- ── 1 and 6 ───────────────────────────────────────────────────────────────────────────────────────
 module _ (table a b : List ℕ) where

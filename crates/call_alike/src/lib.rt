@@ -12,29 +12,22 @@ ghost use Rattle.machine.specs.ReadMachine.{read_machine};
 ghost use Rattle.layout.specs.Layout.{layout};
 ghost use Rattle.call_alike.specs.Compared.{pair_refusal, compared_of};
 
+use call_arguments::Refusal;
 use call_questions::machine_refusal;
 use machine::{ENVIRONMENT_VARIABLES, MACHINE_WORDS, VARIABLE_WORDS};
 use table::TABLE_WORDS;
 use table_read::environment_size;
-
-#[derive(Clone, Copy)]
-pub enum Comparison {
-    Refused(u32),
-    Alike(bool),
-}
 
 // Have the first k environment variables the same values?
 fn same_values(a: &[u32], b: &[u32], k: usize) -> bool
     requires { HasMachine a.now × HasMachine b.now × (k ≤ 16) }
     ensures { result ≡ walk.same_values (variables_in (first_words a.now) 12112 k) (variables_in (first_words b.now) 12112 k) }
 {
-    let mut i: usize = 0;
-    while i < k {
+    for i in 0..k {
         let at = ENVIRONMENT_VARIABLES + i * VARIABLE_WORDS;
         if a[at] != b[at] {
             return false;
         }
-        i += 1;
     }
     true
 }
@@ -55,52 +48,45 @@ fn same_states(table: &[u32], a: &[u32], b: &[u32]) -> bool
 }
 
 // Which of two machines' refusals comes first: "then 7 for both machines, then 8 for both".
-fn pair_refusal(first: u32, second: u32) -> u32
+fn pair_refusal(
+    first: Result<(), Refusal>,
+    second: Result<(), Refusal>,
+) -> Result<(), Refusal>
     ensures { result ≡ pair_refusal first second }
 {
-    if first == 7 {
-        return 7;
-    }
-    if second == 7 {
-        return 7;
-    }
-    if first == 0 {
+    if let Err(Refusal::NoState) = second {
         return second;
     }
-    first
+    first.and(second)
 }
 
 // The comparison on a table that has passed question 6.
-fn compare(table: &[u32], a: &[u32], b: &[u32]) -> Comparison
+fn compare(table: &[u32], a: &[u32], b: &[u32]) -> Result<bool, Refusal>
     requires { HasTable table.now × HasMachine a.now × HasMachine b.now × (is_table (first_words table.now) ≡ true) }
     ensures { compared_of result ≡ walk.both_states (read_machine (table_listing (first_words table.now)) (first_words a.now))
         (read_machine (table_listing (first_words table.now)) (first_words b.now)) }
 {
     let first = machine_refusal(table, a);
     let second = machine_refusal(table, b);
-    let number = pair_refusal(first, second);
-    if number != 0 {
-        return Comparison::Refused(number);
-    }
-    let same = same_states(table, a, b);
-    Comparison::Alike(same)
+    pair_refusal(first, second)?;
+    Ok(same_states(table, a, b))
 }
 
 // Are the two machines on this table alike?
-pub fn alike(table: &[u32], a: &[u32], b: &[u32]) -> Comparison
+pub fn alike(table: &[u32], a: &[u32], b: &[u32]) -> Result<bool, Refusal>
     ensures { compared_of result ≡ walk.alike_call layout table.now a.now b.now }
 {
     if table.len() < TABLE_WORDS {
-        return Comparison::Refused(1);
+        return Err(Refusal::Short);
     }
     if a.len() < MACHINE_WORDS {
-        return Comparison::Refused(1);
+        return Err(Refusal::Short);
     }
     if b.len() < MACHINE_WORDS {
-        return Comparison::Refused(1);
+        return Err(Refusal::Short);
     }
     if !table_check::is_table(table) {
-        return Comparison::Refused(6);
+        return Err(Refusal::NoTable);
     }
     compare(table, a, b)
 }

@@ -4,7 +4,7 @@ use mathlib.Core.Path.{◌≡◌, refl, sym, ap, ◌∙◌}
 use mathlib.Core.Bool.{Bool, true, false, cond, not}
 use mathlib.Core.List.{List}
 use mathlib.Core.Option.{some, none}
-use Prim.Native.Nat.{ℕ, zero, suc, ◌≤◌, ◌<◌}
+use Prim.Native.Nat.{ℕ, ◌≤◌, ◌<◌}
 use native.Mathlib.Omega.{arith}
 use lib.Dec.{leb}
 use lib.ListN.{length}
@@ -25,29 +25,29 @@ use Rattle.machine.proofs.MachineWords.{running_first_word_is_0}
 use Rattle.layout.specs.Layout.{layout}
 use Rattle.call_engine.proofs.Ways.{StateWay, not_after, due_before_lem, not_rising_lem, walks, InstantWay, no_state, stopped_before, from_state, instant_way, start_way}
 use Rattle.call_engine.proofs.Ways as ways
-use Rattle.call_conclude.specs.declared.answers.Answer.{Answer}
-use Rattle.call_conclude.specs.declared.answers.Answer.TheVariants as answers
+use Rattle.std.specs.Prelude.{Result, Ok, Err, is_ok, ⊤}
+use Rattle.call_arguments.specs.Refusals.{number_of}
+use Rattle.call_arguments.specs.declared.questions.Refusal.{Refusal}
+use Rattle.call_conclude.specs.declared.answers.Failure.TheVariants.{Refused}
 use Rattle.call_arguments.specs.Asked.{long_enough, asked, InstantAsked, StartAsked}
-use Rattle.call_conclude.specs.Answers.{result_of}
+use Rattle.call_conclude.specs.Answers.{Answer, result_of}
 use Rattle.call_conclude.specs.Conclusions.{Leaves, leaves_stopped, leaves_state, Concludes}
 use Rattle.call_instant_work.specs.Works.{MayInstant}
 use Rattle.call_questions.proofs.Calling.{Long, long}
 
 -- ── a refusal ─────────────────────────────────────────────────────────────────────────────────────
 -- Nothing is touched, and the figures are 0.
-refusal_keeps : (table machine on ov : List ℕ) (o : Outcome) (k : ℕ) → o ≡ refused k → Keeps layout table machine on ov machine on ov o (result_of (answers.Refused k))
+refusal_keeps : (table machine on ov : List ℕ) (o : Outcome) (k : Refusal) → o ≡ refused (number_of k) → Keeps layout table machine on ov machine on ov o (result_of (Err (Refused k)))
 unfolding result_of promises.result_of outcome_number outcome_place no_figures outcome_figures numbers_after values_after
 refusal_keeps table machine on ov o k e = rw e (record { result = refl; machine_is = untouched refl; numbers_are = refl; values_are = refl })
 
-asked_refuses : (r : ℕ) (next o : Outcome) → asked r next ≡ o → (r ≡ 0 → ⊥) → o ≡ refused r
+asked_refuses : (r : Result ⊤ Refusal) (next o : Outcome) (k : Refusal) → asked r next ≡ o → r ≡ Err k → o ≡ refused (number_of k)
 unfolding asked
-asked_refuses zero next o e h = absurd (h refl)
-asked_refuses (suc k) next o e h = sym e
+asked_refuses r next o k e h = sym e ∙ ap (λ (x : Result ⊤ Refusal). asked x next) h
 
-asked_passes : (r : ℕ) (next o : Outcome) → asked r next ≡ o → r ≡ 0 → o ≡ next
+asked_passes : (r : Result ⊤ Refusal) (next o : Outcome) → asked r next ≡ o → r ≡ Ok tt → o ≡ next
 unfolding asked
-asked_passes zero next o e z = sym e
-asked_passes (suc k) next o e z = absurd (omega arith)
+asked_passes r next o e h = sym e ∙ ap (λ (x : Result ⊤ Refusal). asked x next) h
 
 never_refused : {A : Type 0} (k : ℕ) (x : walk.Result Done) → refused k ≡ answered x → A
 unfolding answered
@@ -146,14 +146,14 @@ module _ (table machine : List ℕ) (t : ℕ) (ns vs on ov : List ℕ) (allowanc
         outcome = g ∙ (p.is ∙ ap (λ (z : Listing). answered (instant z s t (inputs_of ns vs) allowance)) (sym b));
       }
 
-  pub instant_refused : (r : ℕ) → InstantAsked table machine t ns vs on ov allowance dues r → (r ≡ 0 → ⊥) →
-      Keeps layout table machine on ov machine on ov (instant_call layout table machine t ns vs on ov allowance) (result_of (answers.Refused r))
-  instant_refused r A h = refusal_keeps table machine on ov _ r (asked_refuses r _ _ A.outcome h)
+  pub instant_refused : (r : Result ⊤ Refusal) (k : Refusal) → InstantAsked table machine t ns vs on ov allowance dues r → r ≡ Err k →
+      Keeps layout table machine on ov machine on ov (instant_call layout table machine t ns vs on ov allowance) (result_of (Err (Refused k)))
+  instant_refused r k A h = refusal_keeps table machine on ov _ k (asked_refuses r _ _ k A.outcome h)
 
-  pub instant_accepted : (r : ℕ) → InstantAsked table machine t ns vs on ov allowance dues r → r ≡ 0 → Accepted table machine t ns vs on ov allowance dues
+  pub instant_accepted : (r : Result ⊤ Refusal) → InstantAsked table machine t ns vs on ov allowance dues r → r ≡ Ok tt → Accepted table machine t ns vs on ov allowance dues
   instant_accepted r A z =
       let e = asked_passes r _ _ A.outcome z in
-      by_way A.places (A.each z) (instant_way layout table machine t ns vs on ov allowance) _ e refl
+      by_way A.places (A.each (ap (λ (x : Result ⊤ Refusal). is_ok x) z)) (instant_way layout table machine t ns vs on ov allowance) _ e refl
 
 -- ── the start ─────────────────────────────────────────────────────────────────────────────────────
 pub record StartAccepted (table machine on ov : List ℕ) (allowance : ℕ) : Type 0 where
@@ -178,11 +178,11 @@ module _ (table machine on ov : List ℕ) (allowance : ℕ) where
         outcome = g ∙ ap (λ (z : Listing). answered (start z allowance)) (sym b);
       }
 
-  pub start_refused : (r : ℕ) → StartAsked table machine on ov allowance r → (r ≡ 0 → ⊥) →
-      Keeps layout table machine on ov machine on ov (start_call layout table machine on ov allowance) (result_of (answers.Refused r))
-  start_refused r A h = refusal_keeps table machine on ov _ r (asked_refuses r _ _ A.outcome h)
+  pub start_refused : (r : Result ⊤ Refusal) (k : Refusal) → StartAsked table machine on ov allowance r → r ≡ Err k →
+      Keeps layout table machine on ov machine on ov (start_call layout table machine on ov allowance) (result_of (Err (Refused k)))
+  start_refused r k A h = refusal_keeps table machine on ov _ k (asked_refuses r _ _ k A.outcome h)
 
-  pub start_accepted : (r : ℕ) → StartAsked table machine on ov allowance r → r ≡ 0 → StartAccepted table machine on ov allowance
+  pub start_accepted : (r : Result ⊤ Refusal) → StartAsked table machine on ov allowance r → r ≡ Ok tt → StartAccepted table machine on ov allowance
   start_accepted r A z =
       let e = asked_passes r _ _ A.outcome z in
       by_start_way (start_way layout table machine on ov allowance) _ e refl

@@ -3,7 +3,7 @@ ghost use Rattle.walk.specs.Promises.{InstantPromise};
 ghost use Rattle.layout.specs.Layout.{layout};
 ghost use Rattle.call_conclude.specs.Answers.{result_of};
 
-use call_conclude::Answer;
+use call_conclude::{Failure, Figures};
 use call_instant_work::instant_work;
 use call_questions::instant_question;
 use table::TABLE_WORDS;
@@ -19,13 +19,13 @@ pub fn instant(
     out_numbers: &mut [u32],
     out_values: &mut [u32],
     allowance: u32,
-) -> Answer
+) -> Result<Figures, Failure>
     ensures { InstantPromise layout table.now machine.old moment.0 in_numbers.now in_values.now
         out_numbers.old out_values.old allowance
         machine.new out_numbers.new out_values.new (result_of result) }
 {
     let mut dues: [u64; 65] = [0; 65];
-    let refusal = instant_question(
+    let asked = instant_question(
         table,
         machine,
         moment,
@@ -36,9 +36,7 @@ pub fn instant(
         allowance,
         &mut dues,
     );
-    if refusal != 0 {
-        return Answer::Refused(refusal);
-    }
+    asked?;
     instant_work(
         &table[0..TABLE_WORDS],
         machine,

@@ -4,6 +4,6 @@
 pub mod instant_call;
 pub mod start_call;
 
-pub use call_conclude::{Answer, Due, Figures};
+pub use call_conclude::{Due, Failure, Figures};
 pub use instant_call::instant;
 pub use start_call::start;

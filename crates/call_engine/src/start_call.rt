@@ -3,7 +3,7 @@ ghost use Rattle.walk.specs.Promises.{StartPromise};
 ghost use Rattle.layout.specs.Layout.{layout};
 ghost use Rattle.call_conclude.specs.Answers.{result_of};
 
-use call_conclude::Answer;
+use call_conclude::{Failure, Figures};
 use call_questions::start_question;
 use call_start_work::start_work;
 use table::TABLE_WORDS;
@@ -15,14 +15,11 @@ pub fn start(
     out_numbers: &mut [u32],
     out_values: &mut [u32],
     allowance: u32,
-) -> Answer
+) -> Result<Figures, Failure>
     ensures { StartPromise layout table.now machine.old out_numbers.old out_values.old allowance
         machine.new out_numbers.new out_values.new (result_of result) }
 {
-    let refusal = start_question(table, machine, out_numbers, out_values, allowance);
-    if refusal != 0 {
-        return Answer::Refused(refusal);
-    }
+    start_question(table, machine, out_numbers, out_values, allowance)?;
     start_work(
         &table[0..TABLE_WORDS],
         machine,

@@ -34,7 +34,7 @@ use Rattle.engine_run.specs.Whole.{MayBeginRun, RunsReady}
 use Rattle.engine_run_laws.specs.declared.Ran.{Ran}
 use Rattle.engine_begin.specs.Begun.{MayBegin, BegunFrom, Begun}
 use Rattle.engine_begin_laws.proofs.Filled.{table_fits}
-use Rattle.call_conclude.specs.declared.answers.Answer.{Answer}
+use Rattle.call_conclude.specs.Answers.{Answer}
 use Rattle.call_conclude.specs.Conclusions.{Concludes, MayConclude}
 use Rattle.call_conclude.proofs.Earlier.{concludes_from}
 use Rattle.call_conclude.proofs.Literals.{literals_are_words}

@@ -9,7 +9,7 @@ ghost use Rattle.table.specs.Decode.{table_listing};
 ghost use Rattle.call_conclude.specs.Conclusions.{Concludes};
 ghost use Rattle.call_instant_work.specs.Works.{MayInstant};
 
-use call_conclude::{Answer, conclude};
+use call_conclude::{Failure, Figures, conclude};
 use machine::LIVE;
 use words::Moment;
 
@@ -24,7 +24,7 @@ pub fn instant_work(
     numbers: &mut [u32],
     values: &mut [u32],
     allowance: u32,
-) -> Answer
+) -> Result<Figures, Failure>
     requires { TableLong table.now × (MayInstant table.now machine.old present.0 dues.now in_numbers.now in_values.now allowance)
         × (16 ≤ length numbers.old) × (16 ≤ length values.old) }
     ensures { (may : MayInstant table.now machine.old present.0 dues.now in_numbers.now in_values.now allowance) →

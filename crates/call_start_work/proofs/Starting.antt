@@ -24,7 +24,7 @@ use Rattle.engine_run_laws.specs.Runs.{MayRunOn, ran_by, RunsOn}
 use Rattle.engine_run_laws.specs.declared.Ran.{Ran}
 use Rattle.engine_begin_start.specs.Begun.{BegunStart}
 use Rattle.engine_begin_laws.proofs.Filled.{table_fits}
-use Rattle.call_conclude.specs.declared.answers.Answer.{Answer}
+use Rattle.call_conclude.specs.Answers.{Answer}
 use Rattle.call_conclude.specs.Conclusions.{Concludes, MayConclude}
 use Rattle.call_conclude.proofs.Earlier.{concludes_from}
 use Rattle.call_conclude.proofs.Literals.{literals_are_words}

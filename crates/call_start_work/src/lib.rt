@@ -9,7 +9,7 @@ ghost use Rattle.table.specs.Decode.{table_listing};
 ghost use Rattle.table.specs.Question6.{is_table};
 ghost use Rattle.call_conclude.specs.Conclusions.{Concludes};
 
-use call_conclude::{Answer, conclude};
+use call_conclude::{Failure, Figures, conclude};
 use words::Moment;
 
 // The start on a table's words, its questions answered: the instant 0.
@@ -19,7 +19,7 @@ pub fn start_work(
     numbers: &mut [u32],
     values: &mut [u32],
     allowance: u32,
-) -> Answer
+) -> Result<Figures, Failure>
     requires { TableLong table.now × (is_table table.now ≡ true) × HasMachine machine.old × (allowance ≤ 1000000)
         × (16 ≤ length numbers.old) × (16 ≤ length values.old) }
     ensures { Concludes (table_listing table.now) machine.old numbers.old values.old

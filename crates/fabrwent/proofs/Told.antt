@@ -12,7 +12,7 @@ use Rattle.layout.specs.Layout.{layout}
 use Rattle.text_questions.specs.Outcome.{outcome_of}
 use Rattle.text_questions.specs.declared.answer.Loaded.{Loaded}
 use Rattle.call_conclude.specs.Answers.{result_of}
-use Rattle.call_conclude.specs.declared.answers.Answer.{Answer}
+use Rattle.call_conclude.specs.Answers.{Answer}
 use Rattle.call_alike.specs.Compared.{compared_of}
 use Rattle.call_alike.specs.declared.Comparison.{Comparison}
 use Rattle.call_figures.specs.Figures.{result_in, DueTold, bit}

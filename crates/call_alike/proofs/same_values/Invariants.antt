@@ -5,6 +5,3 @@ use Rattle.call_alike.proofs.same_values.Given as goal
 
 abbrev pub invariant-loop-i : goal.invariant-loop-i
 invariant-loop-i l = (l.i ≤ l.k) × (SameFrom l.a l.b (12112 + l.i * 6) (l.k - l.i) ≡ SameFrom l.a l.b 12112 l.k)
-
-abbrev pub decreases-loop-i : goal.decreases-loop-i
-decreases-loop-i l = l.k - l.i

@@ -8,7 +8,7 @@ use native.Mathlib.Omega.{arith}
 use lib.Dec.{eqb, leb}
 use lib.ListN.{length, get_or, take}
 use lib.Seq.{get_or-take}
-use borrow.Author.Tests.{eqb-true, eqb-false, eq-eqb, ne_eqb, le-leb, lt-leb}
+use borrow.Author.Tests.{eq-eqb, ne_eqb, le-leb, lt-leb}
 use Rattle.listing.specs.Listing.{Listing}
 use Rattle.walk.specs.Instant.{environment_size}
 use Rattle.walk.specs.Calls.{Machine, halted, running, first_words}
@@ -22,10 +22,11 @@ use Rattle.layout.specs.Layout.{layout}
 use Rattle.call_arguments.specs.Asked.{machine_refusal}
 use Rattle.call_arguments.proofs.Refusals.{read_by_refusal}
 use Rattle.std.specs.Prelude.{Result, Ok, Err, is_ok, ⊤}
+use Rattle.std.specs.Result.{result_and}
 use Rattle.call_arguments.specs.Refusals.{number_of}
 use Rattle.call_arguments.specs.declared.questions.Refusal.{Refusal}
-use Rattle.call_arguments.specs.declared.questions.Refusal.TheVariants.{NoState, Halted}
-use Rattle.call_alike.specs.Compared.{pair_refusal}
+use Rattle.call_arguments.specs.declared.questions.Refusal.TheVariants.{Short, NoTable, NoState, Halted, NotLater, Overdue, Inputs, Allowance}
+use Rattle.call_alike.specs.Compared.{pair_refusal, is_no_state, first_or_second}
 
 -- ── the values ────────────────────────────────────────────────────────────────────────────────────
 abbrev pub SameFrom : List ℕ → List ℕ → ℕ → ℕ → Bool
@@ -73,8 +74,48 @@ module _ (listing : Listing) (a b : List ℕ) where
   alike_by_values e = moments_by true (eq-eqb _ _ e)
 
 -- ── 7 and 8 for both ──────────────────────────────────────────────────────────────────────────────
+either_way : {A : Type 0} (b : Bool) (x : A) → x ≡ cond b x x
+either_way true x = refl
+either_way false x = refl
+
+no_other : (k : Refusal) → (k ≡ NoState → ⊥) → is_no_state (Err k) ≡ false
+unfolding is_no_state
+no_other Short n = refl
+no_other NoTable n = refl
+no_other NoState n = absurd (n refl)
+no_other Halted n = refl
+no_other NotLater n = refl
+no_other Overdue n = refl
+no_other Inputs n = refl
+no_other Allowance n = refl
+
+pub second_passes : (x y : Result ⊤ Refusal) (passed : ⊤) → y ≡ Ok passed → x ≡ pair_refusal x y
+unfolding pair_refusal is_no_state first_or_second
+second_passes (Ok p) y passed e = rw e refl
+second_passes (Err k) y passed e = rw e (either_way (is_no_state (Err k)) (Err k))
+
+pub second_is_7 : (x y : Result ⊤ Refusal) (k : Refusal) → y ≡ Err k → k ≡ NoState → y ≡ pair_refusal x y
+unfolding pair_refusal is_no_state first_or_second
+second_is_7 x y k e f = rw (e, f) (go x)
+  where
+    go : (x : Result ⊤ Refusal) → Err NoState ≡ pair_refusal x (Err NoState)
+    go (Ok p) = refl
+    go (Err Short) = refl
+    go (Err NoTable) = refl
+    go (Err NoState) = refl
+    go (Err Halted) = refl
+    go (Err NotLater) = refl
+    go (Err Overdue) = refl
+    go (Err Inputs) = refl
+    go (Err Allowance) = refl
+
+pub second_is_8 : (x y : Result ⊤ Refusal) (k : Refusal) → y ≡ Err k → (k ≡ NoState → ⊥) → result_and x (Err k) ≡ pair_refusal x y
+unfolding pair_refusal is_no_state first_or_second
+second_is_8 (Ok p) y k e n = rw (e, no_other k n) refl
+second_is_8 (Err j) y k e n = rw (e, no_other k n) (either_way (is_no_state (Err j)) (Err j))
+
 pub refused_pair : (x y : Option Machine) (k : Refusal) → pair_refusal (machine_refusal x) (machine_refusal y) ≡ Err k → not_compared (number_of k) ≡ both_states x y
-unfolding pair_refusal machine_refusal both_states both_running
+unfolding pair_refusal is_no_state first_or_second machine_refusal both_states both_running
 refused_pair none y k e = let f : NoState ≡ k = cc in ap (λ (r : Refusal). not_compared (number_of r)) (sym f)
 refused_pair (some (halted j)) none k e = let f : NoState ≡ k = cc in ap (λ (r : Refusal). not_compared (number_of r)) (sym f)
 refused_pair (some (running s)) none k e = let f : NoState ≡ k = cc in ap (λ (r : Refusal). not_compared (number_of r)) (sym f)
@@ -84,7 +125,7 @@ refused_pair (some (running s)) (some (halted j)) k e = let f : Halted ≡ k = c
 refused_pair (some (running s)) (some (running u)) k e = let z : ◌≡◌ {A = ℕ} 0 1 = cc in absurd (omega arith)
 
 pair_passes : (x y : Option Machine) → pair_refusal (machine_refusal x) (machine_refusal y) ≡ Ok tt → (is_ok (machine_refusal x) ≡ true) × (is_ok (machine_refusal y) ≡ true)
-unfolding pair_refusal machine_refusal
+unfolding pair_refusal is_no_state first_or_second machine_refusal
 pair_passes none y e = let z : ◌≡◌ {A = ℕ} 0 1 = cc in absurd (omega arith)
 pair_passes (some (halted j)) none e = let z : ◌≡◌ {A = ℕ} 0 1 = cc in absurd (omega arith)
 pair_passes (some (running s)) none e = let z : ◌≡◌ {A = ℕ} 0 1 = cc in absurd (omega arith)

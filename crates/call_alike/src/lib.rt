@@ -48,16 +48,16 @@ fn same_states(table: &[u32], a: &[u32], b: &[u32]) -> bool
 }
 
 // Which of two machines' refusals comes first: "then 7 for both machines, then 8 for both".
-fn pair_refusal(
-    first: Result<(), Refusal>,
-    second: Result<(), Refusal>,
-) -> Result<(), Refusal>
+fn pair_refusal(first: Result<(), Refusal>, second: Result<(), Refusal>) -> Result<(), Refusal>
     ensures { result ≡ pair_refusal first second }
 {
-    if let Err(Refusal::NoState) = second {
-        return second;
+    let Err(refusal) = second else {
+        return first;
+    };
+    match refusal {
+        Refusal::NoState => second,
+        _ => first.and(second),
     }
-    first.and(second)
 }
 
 // The comparison on a table that has passed question 6.

@@ -7,8 +7,8 @@ pub mod loading;
 ghost use Rattle.std.specs.Prelude.{◌≡◌};
 ghost use Rattle.call_figures.specs.Answers.{turned_away, gone_through, of_answer, of_comparison};
 
-use call_alike::Comparison;
-use call_conclude::{Answer, Due, Figures};
+use call_arguments::Refusal;
+use call_conclude::{Due, Failure, Figures};
 pub use loading::{FabrwentLoad, load_figures};
 
 // Number, place, steps used, output writes listed; 1 and the next moment due, or 0 and 0 for none.
@@ -73,30 +73,29 @@ fn gone_through(figures: Figures) -> FabrwentCall
 }
 
 // The figures of a start's or an instant call's answer.
-pub fn figures_of(answer: Answer) -> FabrwentCall
+pub fn figures_of(answer: Result<Figures, Failure>) -> FabrwentCall
     ensures { result ≡ of_answer answer }
 {
     match answer {
-        Answer::Refused(number) => turned_away(number),
-        Answer::Stopped(number) => turned_away(number),
-        Answer::Done(figures) => gone_through(figures),
+        Ok(figures) => gone_through(figures),
+        Err(failure) => turned_away(failure.number()),
     }
 }
 
 // The figures of a comparison.
-pub fn alike_figures(answer: Comparison) -> FabrwentAlike
+pub fn alike_figures(answer: Result<bool, Refusal>) -> FabrwentAlike
     ensures { result ≡ of_comparison answer }
 {
     match answer {
-        Comparison::Refused(number) => FabrwentAlike {
-            number: number,
-            place: 0,
-            alike: 0,
-        },
-        Comparison::Alike(alike) => FabrwentAlike {
+        Ok(alike) => FabrwentAlike {
             number: 0,
             place: 0,
-            alike: alike as u32,
+            alike: u32::from(alike),
+        },
+        Err(refusal) => FabrwentAlike {
+            number: refusal.number(),
+            place: 0,
+            alike: 0,
         },
     }
 }

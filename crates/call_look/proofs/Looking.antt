@@ -1,5 +1,5 @@
 -- The look's answers by their cases.
-use mathlib.Core.Path.{◌≡◌, refl, sym}
+use mathlib.Core.Path.{◌≡◌, refl, sym, ap}
 use mathlib.Core.Bool.{Bool, true, false, ◌&&◌}
 use mathlib.Core.List.{List}
 use mathlib.Core.Option.{Option, none, some}
@@ -16,10 +16,15 @@ use Rattle.machine.specs.Records.{state_from}
 use Rattle.machine.specs.Words.{moment_at, state_of}
 use Rattle.machine.specs.Due.{due_at}
 use Rattle.machine.specs.ReadMachine.{read_machine}
-use Rattle.machine_check.specs.declared.MachineCheck.TheVariants.{NotAState, Stopped, Running}
+use Rattle.machine_check.specs.declared.MachineCheck.TheVariants.{Running}
 use Rattle.machine_check.specs.Answer.{check_of, answer_of}
 use Rattle.layout.specs.Layout.{layout}
 use Rattle.call_arguments.proofs.Refusals.{read_by_refusal, due_by_answer, refusal_running}
+use Rattle.std.specs.Prelude.{Err, is_ok}
+use Rattle.call_arguments.specs.Refusals.{number_of}
+use Rattle.call_arguments.specs.Asked.{machine_refusal}
+use Rattle.call_arguments.specs.declared.questions.Refusal.{Refusal}
+use Rattle.call_arguments.specs.declared.questions.Refusal.TheVariants.{NoState, Halted}
 use Rattle.call_look.specs.declared.Sight.{Sight}
 use Rattle.call_look.specs.Figures.{figures_of}
 use Rattle.call_look.specs.Look.{not_seen_lem, seen, seen_unstopped, seen_machine, seen_table, ask_looked, look_call}
@@ -36,23 +41,17 @@ some_due now zero e = absurd (e refl)
 some_due now (suc due) e = refl
 
 -- ── 7 and 8 ───────────────────────────────────────────────────────────────────────────────────────
-pub no_state : (o : Option Machine) → check_of NotAState ≡ answer_of o → not_seen_lem 7 ≡ seen_machine o
-unfolding answer_of check_of seen_machine
-no_state none e = refl
-no_state (some (halted k)) e = let z : ◌≡◌ {A = ℕ} 0 1 = cc in absurd (omega arith)
-no_state (some (running s)) e = let z : ◌≡◌ {A = ℕ} 0 1 = cc in absurd (omega arith)
-
-pub a_stop : (o : Option Machine) (k : ℕ) → check_of (Stopped k) ≡ answer_of o → not_seen_lem 8 ≡ seen_machine o
-unfolding answer_of check_of seen_machine seen_unstopped
-a_stop none j e = let z : ◌≡◌ {A = ℕ} 0 1 = cc in absurd (omega arith)
-a_stop (some (halted k)) j e = refl
-a_stop (some (running s)) j e = let z : ◌≡◌ {A = ℕ} 0 1 = cc in absurd (omega arith)
+pub not_seen_by : (o : Option Machine) (k : Refusal) → Err k ≡ machine_refusal o → not_seen_lem (number_of k) ≡ seen_machine o
+unfolding machine_refusal seen_machine seen_unstopped
+not_seen_by none k e = let f : k ≡ NoState = cc in rw f refl
+not_seen_by (some (halted j)) k e = let f : k ≡ Halted = cc in rw f refl
+not_seen_by (some (running s)) k e = let z : ◌≡◌ {A = ℕ} 0 1 = cc in absurd (omega arith)
 
 pub a_state : (listing : Listing) (w : List ℕ) (now due : ℕ) → check_of (Running due) ≡ answer_of (read_machine listing w) → now ≡ moment_at w 1
     → seen now (due_at due) ≡ seen_machine (read_machine listing w)
 unfolding seen_machine seen_unstopped state_of state_from
 a_state listing w now due e m =
-    let is = read_by_refusal listing w (sym (refusal_running (read_machine listing w) due e)) in
+    let is = read_by_refusal listing w (ap is_ok (sym (refusal_running (read_machine listing w) due e))) in
     rw (is, m, due_by_answer listing w due (state_of listing w) e is)
 
 -- ── 1 and 6 ───────────────────────────────────────────────────────────────────────────────────────

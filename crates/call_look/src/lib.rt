@@ -10,11 +10,13 @@ ghost use Rattle.machine.specs.Words.{HasMachine};
 ghost use Rattle.machine.specs.ReadMachine.{read_machine};
 ghost use Rattle.layout.specs.Layout.{layout};
 ghost use Rattle.machine.specs.Due.{due_at};
+ghost use Rattle.call_arguments.specs.Refusals.{number_of};
 ghost use Rattle.call_look.specs.Look.{not_seen_lem, seen, seen_machine, look_call};
 ghost use Rattle.call_look.specs.Figures.{figures_of};
 
+use call_arguments::Refusal;
+use call_questions::running;
 use machine::MACHINE_WORDS;
-use machine_check::MachineCheck;
 use table::TABLE_WORDS;
 
 // Number and place; 1 and the next moment due, or 0 and 0 for none; the present moment.
@@ -29,11 +31,11 @@ pub struct Sight {
 }
 
 // The figures of a refusal.
-fn refused(number: u32) -> Sight
-    ensures { result ≡ figures_of (not_seen_lem number) }
+fn refused(refusal: Refusal) -> Sight
+    ensures { result ≡ figures_of (not_seen_lem (number_of refusal)) }
 {
     Sight {
-        number,
+        number: refusal.number(),
         place: 0,
         due_known: 0,
         moment: 0,
@@ -69,11 +71,9 @@ fn look_at(table: &[u32], machine: &[u32]) -> Sight
     ensures { result ≡ figures_of (seen_machine (read_machine (table_listing (first_words table.now)) (first_words machine.now))) }
 {
     let mut dues: [u64; 65] = [0; 65];
-    let check = machine_check::check_machine(table, machine, &mut dues);
-    match check {
-        MachineCheck::NotAState => refused(7),
-        MachineCheck::Stopped(_) => refused(8),
-        MachineCheck::Running(due) => {
+    match running(machine_check::check_machine(table, machine, &mut dues)) {
+        Err(refusal) => refused(refusal),
+        Ok(due) => {
             let present = machine_words::present_moment(&machine[0..MACHINE_WORDS]);
             seen_at(present.0, due)
         }
@@ -85,13 +85,13 @@ pub fn look(table: &[u32], machine: &[u32]) -> Sight
     ensures { result ≡ figures_of (look_call layout table.now machine.now) }
 {
     if table.len() < TABLE_WORDS {
-        return refused(1);
+        return refused(Refusal::Short);
     }
     if machine.len() < MACHINE_WORDS {
-        return refused(1);
+        return refused(Refusal::Short);
     }
     if !table_check::is_table(table) {
-        return refused(6);
+        return refused(Refusal::NoTable);
     }
     look_at(table, machine)
 }

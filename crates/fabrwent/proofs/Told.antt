@@ -14,7 +14,8 @@ use Rattle.text_questions.specs.declared.answer.Loaded.{Loaded}
 use Rattle.call_conclude.specs.Answers.{result_of}
 use Rattle.call_conclude.specs.Answers.{Answer}
 use Rattle.call_alike.specs.Compared.{compared_of}
-use Rattle.call_alike.specs.declared.Comparison.{Comparison}
+use Rattle.std.specs.Prelude.{Bool, Result}
+use Rattle.call_arguments.specs.declared.questions.Refusal.{Refusal}
 use Rattle.call_figures.specs.Figures.{result_in, DueTold, bit}
 use Rattle.call_figures.specs.Answers.{of_answer, of_loaded, of_comparison}
 use Rattle.call_figures.specs.declared.loading.FabrwentLoad.{FabrwentLoad}
@@ -51,7 +52,7 @@ call_told table machine on ov machine' on' ov' o a kept r e = (
   subst DueTold (sym e) (due_told a),
 )
 
-pub alike_told : (table a b : List ℕ) (c : Comparison) → compared_of c ≡ alike_call layout table a b → (r : FabrwentAlike) → r ≡ of_comparison c → AlikeFigures table a b r
+pub alike_told : (table a b : List ℕ) (c : Result Bool Refusal) → compared_of c ≡ alike_call layout table a b → (r : FabrwentAlike) → r ≡ of_comparison c → AlikeFigures table a b r
 alike_told table a b c e r f =
     let says = comparison_says c in
     record {

@@ -6,7 +6,7 @@ ghost use Rattle.call_conclude.specs.Answers.{due_of, result_of};
 ghost use Rattle.session_calls.specs.Calls.{Tells, StartMade, InstantMade};
 
 use crate::clock::Clock;
-use call_engine::{Answer, Due, instant, start};
+use call_engine::{Due, Failure, Figures, instant, start};
 use words::Moment;
 
 // "allowance 10,000"
@@ -29,33 +29,25 @@ pub struct Told {
     pub due: Due,
 }
 
-fn tell(answer: Answer) -> Told
+fn tell(answer: Result<Figures, Failure>) -> Told
     ensures { (result.number ≡ (result_of answer).number) × (result.listed ≡ (result_of answer).listed) × (due_of result.due ≡ (result_of answer).due) }
 {
     match answer {
-        Answer::Refused(number) => Told {
-            number,
+        Ok(figures) => Told {
+            number: 0,
+            listed: figures.listed,
+            due: figures.due,
+        },
+        Err(failure) => Told {
+            number: failure.number(),
             listed: 0,
             due: Due::Never,
         },
-        Answer::Stopped(number) => Told {
-            number,
-            listed: 0,
-            due: Due::Never,
-        },
-        Answer::Done(f) => {
-            let due = f.due;
-            Told {
-                number: 0,
-                listed: f.listed,
-                due,
-            }
-        }
     }
 }
 
 // What came of a call at a time, of its answer.
-fn told_at(answer: Answer, time: u64) -> Called
+fn told_at(answer: Result<Figures, Failure>, time: u64) -> Called
     ensures { Tells (result_of answer) time result }
 {
     let result = tell(answer);

@@ -33,7 +33,7 @@ pub fn print_called(
             Made::Ended(n)
         }
         Called::Went(clock, listed) => {
-            let n = put_write_lines(out, 0, time, numbers, values, listed);
+            let n = put_write_lines(out, 0, time, &numbers[..listed], &values[..listed]);
             Made::Went(clock, n)
         }
     }

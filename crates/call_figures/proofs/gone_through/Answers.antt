@@ -1,7 +1,6 @@
 -- `call_figures::gone_through` meets its contract.
 use mathlib.Core.Path.{sym, ap}
 use Rattle.call_figures.specs.Answers.{gone_through}
-use borrow.Author.Rules.{rules}
 use Rattle.call_figures.proofs.gone_through.Goals as goal
 
 pub returns-in-Never : goal.returns-in-Never

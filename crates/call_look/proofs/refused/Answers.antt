@@ -5,4 +5,4 @@ use Rattle.call_look.proofs.refused.Goals as goal
 
 pub returns : goal.returns
 unfolding figures_of
-returns c = refl
+returns c = rw c.number.ensures refl

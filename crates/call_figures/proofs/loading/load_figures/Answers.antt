@@ -1,6 +1,5 @@
 -- `call_figures::load_figures` meets its contract.
 use mathlib.Core.Path.{sym, ap}
-use borrow.Author.Rules.{rules}
 use Rattle.call_figures.specs.Answers.{of_loaded}
 use Rattle.call_figures.proofs.loading.load_figures.Goals as goal
 

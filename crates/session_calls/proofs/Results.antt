@@ -6,7 +6,7 @@ use Prim.Native.Nat.{ℕ, suc, ◌≤◌, ◌<◌}
 use borrow.Author.Tests.{le-ltb}
 use native.Mathlib.Omega.{arith}
 use Rattle.walk.specs.Calls.{due_before}
-use Rattle.call_conclude.specs.Answers.{due_of, result_of}
+use Rattle.call_conclude.specs.Answers.{Answer, due_of, result_of}
 use Rattle.walk.specs.Promises.{Result}
 use Rattle.session_calls.specs.Clock.{Soon, due_at_lem, none_due}
 use Rattle.session_calls.specs.Calls.{Tells}
@@ -16,8 +16,9 @@ use Rattle.session_calls.specs.declared.calls.Called.TheVariants.{Ended, Went}
 use Rattle.call_conclude.specs.declared.answers.Due.{Due}
 use Rattle.call_conclude.specs.declared.answers.Due.TheVariants.{Never, At}
 use Rattle.call_conclude.specs.declared.answers.Figures.{Figures}
-use Rattle.call_conclude.specs.declared.answers.Answer.{Answer}
-use Rattle.call_conclude.specs.declared.answers.Answer.TheVariants.{Refused, Stopped, Done}
+use Rattle.call_conclude.specs.declared.answers.Failure.{Failure}
+use Rattle.call_conclude.specs.Failures.{number_of}
+use Rattle.std.specs.Prelude.{Ok, Err}
 
 pub soon_at : (d : Due) (m t : ℕ) → d ≡ At m → m < t → Soon (due_of d) t (At m)
 unfolding due_of
@@ -35,15 +36,11 @@ soon_never d t e = none_due (rw e)
 abbrev Gives : Answer → ℕ → ℕ → Due → Type 0
 Gives a number listed due = (number ≡ (result_of a).number) × (listed ≡ (result_of a).listed) × (due_of due ≡ (result_of a).due)
 
-pub refused_tells : (a : Answer) (k : ℕ) → a ≡ Refused k → Gives a k 0 Never
+pub failed_tells : (a : Answer) (failure : Failure) (k : ℕ) → a ≡ Err failure → k ≡ number_of failure → Gives a k 0 Never
 unfolding due_of result_of
-refused_tells a k e = rw e (refl, refl, refl)
+failed_tells a failure k e f = rw e (f, refl, refl)
 
-pub stopped_tells : (a : Answer) (k : ℕ) → a ≡ Stopped k → Gives a k 0 Never
-unfolding due_of result_of
-stopped_tells a k e = rw e (refl, refl, refl)
-
-pub done_tells : (a : Answer) (f : Figures) → a ≡ Done f → Gives a 0 f.listed f.due
+pub done_tells : (a : Answer) (f : Figures) → a ≡ Ok f → Gives a 0 f.listed f.due
 unfolding due_of result_of
 done_tells a f e = rw e (refl, refl, refl)
 

@@ -1,6 +1,5 @@
 -- `fabrwent::fabrwent_alike` meets its contract.
 use Rattle.fabrwent.proofs.Told as told
-use borrow.Author.Rules.{rules}
 use Rattle.fabrwent.proofs.calls.fabrwent_alike.Goals as goal
 
 pub returns : goal.returns

@@ -1,6 +1,5 @@
 -- `fabrwent::fabrwent_instant` meets its contract.
 use Rattle.fabrwent.proofs.Told as told
-use borrow.Author.Rules.{rules}
 use Rattle.fabrwent.proofs.calls.fabrwent_instant.Goals as goal
 
 pub returns : goal.returns

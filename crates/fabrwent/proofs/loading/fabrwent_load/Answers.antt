@@ -1,6 +1,5 @@
 -- `fabrwent::fabrwent_load` meets its contract.
 use Rattle.fabrwent.proofs.Told as told
-use borrow.Author.Rules.{rules}
 use Rattle.fabrwent.proofs.loading.fabrwent_load.Goals as goal
 
 pub returns : goal.returns

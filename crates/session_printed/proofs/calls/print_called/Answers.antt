@@ -12,10 +12,16 @@ put_write_lines-n-requires c =
     (omega arith, omega (arith, size, few))
 
 pub slice_bounds-put_write_lines-end : goal.slice_bounds-put_write_lines-end
-slice_bounds-put_write_lines-end c = omega (arith, listed_of_lem _ _ _ _ c.in-Went.is c.requires.3, c.requires.0)
+slice_bounds-put_write_lines-end c =
+    let few = listed_of_lem _ _ _ _ c.in-Went.is c.requires.3 in
+    let size = length-take-le c.in-Went.listed c.args.numbers.now (omega (arith, few, c.requires.0)) in
+    omega (arith, size, few, c.requires.0)
 
 pub slice_bounds-put_write_lines-end-in-Went : goal.slice_bounds-put_write_lines-end-in-Went
-slice_bounds-put_write_lines-end-in-Went c = omega (arith, listed_of_lem _ _ _ _ c.in-Went.is c.requires.3, c.requires.1)
+slice_bounds-put_write_lines-end-in-Went c =
+    let few = listed_of_lem _ _ _ _ c.in-Went.is c.requires.3 in
+    let size = length-take-le c.in-Went.listed c.args.values.now (omega (arith, few, c.requires.1)) in
+    omega (arith, size, few, c.requires.1)
 
 pub shape_of-out-in-Ended : goal.shape_of-out-in-Ended
 shape_of-out-in-Ended c = c.out-1.given

@@ -2,7 +2,7 @@
 // Every byte that it prints is printed by `session_replay::advance`, whose steps from the opening to the end print the session.
 #![tactic(auto)]
 
-ghost use Rattle.std.specs.Prelude.{◌≡◌, length, true};
+ghost use Rattle.std.specs.Prelude.{◌≡◌, length, true, IfSome};
 ghost use Rattle.std.specs.Io.KnownBytes.{Appends};
 ghost use Rattle.streams.specs.Counts.{IsPrefixLen};
 ghost use Rattle.walk.specs.Calls.{memory_words};
@@ -39,16 +39,10 @@ fn piece() -> [u8; 1100]
     [0; 1100]
 }
 
-// What was read of a file: whether it could be opened, and how many bytes were put into the lent ones.
-#[derive(Clone, Copy)]
-struct Taken {
-    is_read: bool,
-    count: usize,
-}
-
-// Reads the file that an argument names; having said why, if it cannot. Which bytes a file has, std does not promise.
-fn read_argument<R: Env + Files>(rt: &R, errors: Stderr, i: usize, text: &mut [u8]) -> Taken
-    ensures { IsPrefixLen result.count text.new }
+// Reads the file that an argument names: how many bytes were put into the lent ones, or nothing, having said why, if it cannot.
+// Which bytes a file has, std does not promise.
+fn read_argument<R: Env + Files>(rt: &R, errors: Stderr, i: usize, text: &mut [u8]) -> Option<usize>
+    ensures { IfSome result (λ count. IsPrefixLen count text.new) }
 {
     let mut path = buffer();
     let Ok(length) = rt.arg(i, &mut path) else {
@@ -56,22 +50,13 @@ fn read_argument<R: Env + Files>(rt: &R, errors: Stderr, i: usize, text: &mut [u
             &errors,
             b"session: two file names are wanted, the listing's and the trace's\n",
         );
-        return Taken {
-            is_read: false,
-            count: 0,
-        };
+        return None;
     };
     match read_file(rt, &path[..length], text) {
-        Ok(count) => Taken {
-            is_read: true,
-            count,
-        },
+        Ok(count) => Some(count),
         Err(why) => {
             say_failed(&errors, &path[..length], why);
-            Taken {
-                is_read: false,
-                count: 0,
-            }
+            None
         }
     }
 }
@@ -214,16 +199,12 @@ pub fn play_files<R: Env + Files, W: Write>(
     ensures bytes { FilesWritten result (W.contents writer.old) (W.contents writer.new) }
 {
     let mut listing = text();
-    let one = read_argument(rt, errors, first, &mut listing);
-    if !one.is_read {
+    let Some(listed) = read_argument(rt, errors, first, &mut listing) else {
         return Ending::NotRead;
-    }
+    };
     let mut trace = text();
-    let other = read_argument(rt, errors, second, &mut trace);
-    if !other.is_read {
+    let Some(traced) = read_argument(rt, errors, second, &mut trace) else {
         return Ending::NotRead;
-    }
-    let m = one.count;
-    let n = other.count;
-    play(writer, errors, &listing[..m], &trace[..n])
+    };
+    play(writer, errors, &listing[..listed], &trace[..traced])
 }

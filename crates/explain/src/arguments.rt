@@ -8,10 +8,10 @@ use explain_listing::said::{put_file, put_usage};
 use std::fs::Files;
 use std::io::Stderr;
 
-// Between two arguments: the number of the listing's, 0 if there is none yet; and whether a trace comes next.
-#[derive(Clone, Copy)]
+// Between two arguments: the number of the listing's, if there is one yet; and whether a trace comes next.
+#[derive(Clone, Copy, Debug, PartialEq, Eq)]
 pub struct Held {
-    pub listing: usize,
+    pub listing: Option<usize>,
     pub flagged: bool,
 }
 
@@ -46,7 +46,7 @@ pub fn held_after(k: usize, word: &[u8], held: Held) -> Held
         };
     }
     Held {
-        listing: k,
+        listing: Some(k),
         flagged: false,
     }
 }
@@ -63,10 +63,10 @@ pub fn put_word<R: Files>(
     ensures { WordSaid held word.now name.now out.old out.new result × (result ≤ 50000) }
 {
     if held.flagged {
-        if held.listing == 0 {
-            return put_usage(out);
-        }
-        return put_traced(files, errors, out, word, name);
+        return match held.listing {
+            Some(_) => put_traced(files, errors, out, word, name),
+            None => put_usage(out),
+        };
     }
     if is_flag(word) {
         return 0;

@@ -13,20 +13,21 @@ fn main(rt: HostRuntime) -> io::Result<()> {
     let errors = rt.stderr();
     let count = argument_count(&rt);
     let mut held = Held {
-        listing: 0,
+        listing: None,
         flagged: false,
     };
-    let mut k: usize = 1;
-    while k < count {
+    for k in 1..count {
         let mut word = buffer();
         let length = argument(&rt, k, &mut word);
         let mut name = buffer();
-        let named = argument(&rt, held.listing, &mut name);
+        let named = match held.listing {
+            Some(listing) => argument(&rt, listing, &mut name),
+            None => 0,
+        };
         let mut out = large_buffer();
         let n = put_word(&rt, errors, &mut out, &word[..length], &name[..named], held);
         rt.write_all(&out[..n])?;
         held = held_after(k, &word[..length], held);
-        k += 1;
     }
     let mut out = large_buffer();
     let n = put_end(&mut out, count, held);

@@ -3,7 +3,7 @@ ghost use Rattle.std.specs.Prelude.{◌≤◌, length};
 ghost use Rattle.explain.specs.Traced.{PlayedSaid, TraceSaid};
 
 use explain_listing::said::{put_named, text};
-use explain_listing::verdict::{Verdict, judge, read_listing};
+use explain_listing::verdict::{Refusal, judge, read_listing};
 use explain_session::put_session;
 use std::fs::Files;
 use std::io::Stderr;
@@ -20,15 +20,14 @@ fn put_played(
     ensures { PlayedSaid path.now trace.now listing_path.now listing.now out.old out.new result
         × (result ≤ 50000) }
 {
-    let answer = judge(listing);
-    match answer {
-        Verdict::TooLong => put_named(
+    match judge(listing) {
+        Ok(()) => put_session(out, path, trace, listing_path, listing),
+        Err(Refusal::TooLong) => put_named(
             out,
             path,
             b": It is not played: the listing does not load.\n",
         ),
-        Verdict::Loads => put_session(out, path, trace, listing_path, listing),
-        Verdict::Fails(_, _) => put_named(
+        Err(Refusal::Fails(_, _)) => put_named(
             out,
             path,
             b": It is not played: the listing does not load.\n",
@@ -47,16 +46,12 @@ pub fn put_traced<R: Files>(
     ensures { TraceSaid path.now listing_path.now out.old out.new result × (result ≤ 50000) }
 {
     let mut listing = text();
-    let one = read_listing(files, errors, listing_path, &mut listing);
-    let m = one.count;
-    if !one.readable {
+    let Some(m) = read_listing(files, errors, listing_path, &mut listing) else {
         return 0;
-    }
+    };
     let mut trace = text();
-    let other = read_listing(files, errors, path, &mut trace);
-    let n = other.count;
-    if !other.readable {
+    let Some(n) = read_listing(files, errors, path, &mut trace) else {
         return 0;
-    }
+    };
     put_played(out, path, &trace[..n], listing_path, &listing[..m])
 }

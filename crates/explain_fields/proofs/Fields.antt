@@ -1,64 +1,33 @@
 -- The pieces of a field, one after another.
-use mathlib.Core.Path.{◌≡◌, refl, sym, ap, ◌∙◌}
-use mathlib.Core.Bool.{Bool, true, false, cond}
-use mathlib.Core.List.{List, [], ◌∷◌}
-use Prim.Native.Nat.{ℕ, ◌+◌, ◌-◌, ◌≤◌, ◌<◌}
-use native.Mathlib.Omega.{arith}
-use lib.Dec.{eqb}
-use lib.ListN.{length, take, drop}
-use borrow.Author.Tests.{eq-eqb, ne_eqb, eqb-true, eqb-false}
+use mathlib.Core.Path.{◌≡◌, sym, ap, ◌∙◌}
+use mathlib.Core.List.{[]}
+use Prim.Native.Nat.{ℕ, ◌+◌, ◌≤◌, ◌<◌}
+use lib.ListN.{length, get_or, drop}
+use Rattle.std.specs.Prelude.{Option, Some, None, Result, Ok, Err}
+use Rattle.std.proofs.lemmas.List.{at_drop_all}
 use Rattle.listing.specs.Bytes.{Bytes, split}
-use Rattle.explain_parts.specs.Parts.{first_part_lem, part_end}
-use Rattle.explain_parts.proofs.Parts.{parts_on, parts_last, part_taken}
-use Rattle.explain_fields.specs.Fields.{told_of_lem, ended_why, walked, field_fault}
-use Rattle.explain_fields.specs.declared.piece.Told.{Told}
+use Rattle.explain_parts.proofs.Parts.{next_part}
+use Rattle.explain_fields.specs.Fields.{told_of_lem, ended_why, whole_field, found_or, walked, field_fault}
+use Rattle.explain_fields.specs.declared.reasons.Reason.{Reason}
 use Rattle.explain_fields.specs.declared.field.Role.{Role}
 use Rattle.explain_fields.specs.declared.field.Found.{Found}
 
--- the pieces from an offset on decide as the whole field does
-pub record Walking (role : Role) (field : Bytes) (at held number : ℕ) : Type 0 where
-  pub inside : at ≤ length field
-  pub few : number ≤ at + 1
-  pub same : walked role held number (split 32 (drop at field)) ≡ field_fault role field
+-- the pieces from the one with so many before it on decide as the whole field does
+module _ (role : Role) (field : Bytes) (held number n : ℕ) (same : walked role held number (drop n (split 32 field)) ≡ field_fault role field) where
+  module _ (piece : Bytes) (t : (n < length (split 32 field)) × (piece ≡ get_or (split 32 field) n piece)) where
+    abbrev after : Result ℕ Reason → Option Found
+    after r = found_or r number (λ next. walked role next (number + 1) (drop (n + 1) (split 32 field)))
 
-pub walking_begun : (role : Role) (field : Bytes) → Walking role field 0 0 1
-walking_begun role field = record { inside = omega arith; few = omega arith; same = refl }
+    one : after (told_of_lem role held piece) ≡ field_fault role field
+    unfolding walked
+    one = sym (next_part (walked role held number) (split 32 field) n piece t) ∙ same
 
-module _ (role : Role) (field : Bytes) (at held number end : ℕ) (t : Told) (v : Walking role field at held number) (e : end ≡ part_end 32 field at)
-    (is : t ≡ told_of_lem role held (take (end - at) (drop at field))) where
-  told_is : t ≡ told_of_lem role held (first_part_lem 32 (drop at field))
-  told_is = is ∙ ap (told_of_lem role held) (part_taken 32 field at end v.inside e)
+    pub wrong_here : (why : Reason) → Err why ≡ told_of_lem role held piece → Some (record { why = why; piece = Some number }) ≡ field_fault role field
+    wrong_here why e = ap after e ∙ one
 
-  abbrev one : List Bytes → Found
-  one rest = cond (eqb t.why 0) (walked role t.held (number + 1) rest) (record { why = t.why; piece = number })
+    pub fine_here : (next m : ℕ) → Ok next ≡ told_of_lem role held piece → m ≡ n + 1 → walked role next (number + 1) (drop m (split 32 field)) ≡ field_fault role field
+    fine_here next m e l = ap (λ (k : ℕ). walked role next (number + 1) (drop k (split 32 field))) l ∙ ap after e ∙ one
 
-  one_step : (rest : List Bytes) → walked role held number (first_part_lem 32 (drop at field) ∷ rest) ≡ one rest
+  pub all_fine : length (split 32 field) ≤ n → (o : Option Reason) → o ≡ ended_why role held → whole_field o ≡ field_fault role field
   unfolding walked
-  one_step rest = rw (← told_is)
-
-  stopped : (rest : List Bytes) → (t.why ≡ 0 → ⊥) → one rest ≡ record { why = t.why; piece = number }
-  stopped rest n = rw (ne_eqb t.why 0 n)
-
-  pub found_here : end ≤ length field → (t.why ≡ 0 → ⊥) → record { why = t.why; piece = number } ≡ field_fault role field
-  found_here h n = sym (sym v.same ∙ go (eqb end (length field)) refl)
-    where
-      go : (b : Bool) → eqb end (length field) ≡ b → walked role held number (split 32 (drop at field)) ≡ record { why = t.why; piece = number }
-      go true q = ap (walked role held number) (parts_last 32 field at end v.inside e (eqb-true end (length field) q)) ∙ one_step [] ∙ stopped [] n
-      go false q =
-          ap (walked role held number) (parts_on 32 field at end v.inside e (let m = eqb-false end (length field) q in omega (arith, h, m)))
-          ∙ one_step (split 32 (drop (end + 1) field)) ∙ stopped (split 32 (drop (end + 1) field)) n
-
-  pub ended_here : end ≡ length field → t.why ≡ 0 → record { why = ended_why role t.held; piece = 0 } ≡ field_fault role field
-  unfolding walked
-  ended_here h z =
-      sym (sym v.same ∙ ap (walked role held number) (parts_last 32 field at end v.inside e h) ∙ one_step [] ∙ rw (eq-eqb t.why 0 z))
-
-  pub walking_on : end < length field → t.why ≡ 0 → Walking role field (end + 1) t.held (number + 1)
-  walking_on h z =
-      record {
-        inside = omega (arith, h);
-        few = omega (arith, v.few, e);
-        same =
-            sym (sym v.same ∙ ap (walked role held number) (parts_on 32 field at end v.inside e h)
-            ∙ one_step (split 32 (drop (end + 1) field)) ∙ rw (eq-eqb t.why 0 z));
-      }
+  all_fine h o e = ap whole_field e ∙ sym (at_drop_all (walked role held number) (split 32 field) n h) ∙ same

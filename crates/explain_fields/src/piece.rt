@@ -2,13 +2,11 @@
 ghost use Rattle.std.specs.Prelude.{◌≡◌};
 ghost use Rattle.listing.specs.Form.{read_kind, read_kinds};
 ghost use Rattle.listing.specs.Lists.{is_some};
-ghost use Rattle.explain_fields.specs.Pieces.{why_bad, figure_why, kinds_why, weighed};
+ghost use Rattle.explain_fields.specs.Pieces.{strange_byte, strange_in, strange_field, why_bad, figure_why, kinds_why, weighed};
 ghost use Rattle.listing.specs.Expressions.{read_piece};
 
-use crate::reasons::{
-    BAD_FIGURE, BAD_KINDS, BAD_PIECE, CARRIAGE_RETURN, EMPTY_PIECE, FINE, LACKS_OPERAND,
-    NINTH_VALUE, NOT_ASCII,
-};
+use crate::reasons::{Reason, Strange};
+use explain_parts::part_end;
 use listing_effect::Effect;
 use text_piece::{Figure, effect_of, figure_of, piece_of};
 
@@ -18,52 +16,69 @@ const MOST_HELD: u8 = 8;
 // The first byte that is not ASCII, from 0.
 const ASCII: u8 = 128;
 
-// The reason of a piece, and what is held after it: values of an expression, or pieces.
-#[derive(Clone, Copy)]
-pub struct Told {
-    pub why: u32,
-    pub held: u8,
+// What is strange in a byte.
+fn strange_byte(b: u8) -> Option<Strange>
+    ensures { result ≡ strange_byte b }
+{
+    if b == b'\r' {
+        return Some(Strange::CarriageReturn);
+    }
+    if b >= ASCII {
+        return Some(Strange::NotAscii);
+    }
+    None
 }
 
-// Why a piece is out of form: nothing is there, a byte is strange, or otherwise.
-pub fn why_bad(piece: &[u8], otherwise: u32) -> u32
-    ensures { result ≡ why_bad otherwise piece.now }
+// What is strange in the bytes of a piece: that nothing is there, or the first byte that is strange.
+pub fn strange_in(piece: &[u8]) -> Option<Strange>
+    ensures { result ≡ strange_in piece.now }
 {
     if piece.len() == 0 {
-        return EMPTY_PIECE;
+        return Some(Strange::Nothing);
     }
-    let mut i: usize = 0;
-    while i < piece.len() {
-        let b = piece[i];
-        if b == b'\r' {
-            return CARRIAGE_RETURN;
+    for b in piece {
+        if let Some(strange) = strange_byte(*b) {
+            return Some(strange);
         }
-        if b >= ASCII {
-            return NOT_ASCII;
-        }
-        i += 1;
     }
-    otherwise
+    None
+}
+
+// What is strange in a field that is one piece: spaces in it, or its bytes.
+pub fn strange_field(field: &[u8]) -> Option<Strange>
+    ensures { result ≡ strange_field field.now }
+{
+    if part_end(field, b' ', 0) < field.len() {
+        return Some(Strange::SpacesForTabs);
+    }
+    strange_in(field)
+}
+
+// Why a piece is out of form: something is strange, or otherwise.
+pub fn why_bad(piece: &[u8], otherwise: Reason) -> Reason
+    ensures { result ≡ why_bad otherwise piece.now }
+{
+    match strange_in(piece) {
+        Some(strange) => Reason::Strange(strange),
+        None => otherwise,
+    }
 }
 
 // Why a piece is no figure.
-pub fn figure_why(piece: &[u8]) -> u32
+pub fn figure_why(piece: &[u8]) -> Option<Reason>
     ensures { result ≡ figure_why piece.now }
 {
     let f = figure_of(piece, 0, piece.len());
     match f {
-        Figure::Value(_) => FINE,
-        Figure::Bad => why_bad(piece, BAD_FIGURE),
+        Figure::Value(_) => None,
+        Figure::Bad => Some(why_bad(piece, Reason::BadFigure)),
     }
 }
 
 fn is_kind(b: u8) -> bool
     ensures { result ≡ is_some (read_kind b) }
 {
-    if b == b'r' {
-        return true;
-    }
-    b == b'v'
+    b == b'r' || b == b'v'
 }
 
 // Whether a piece is a row of kinds, or a dash alone.
@@ -76,60 +91,37 @@ fn is_kinds(piece: &[u8]) -> bool
     if piece[0] == b'-' {
         return piece.len() == 1;
     }
-    let mut i: usize = 0;
-    while i < piece.len() {
-        if is_kind(piece[i]) {
-            i += 1;
-        } else {
-            return false;
-        }
-    }
-    true
+    piece.iter().all(|b| is_kind(*b))
 }
 
 // Why a piece is no row of kinds.
-pub fn kinds_why(piece: &[u8]) -> u32
+pub fn kinds_why(piece: &[u8]) -> Option<Reason>
     ensures { result ≡ kinds_why piece.now }
 {
     if is_kinds(piece) {
-        return FINE;
+        return None;
     }
-    why_bad(piece, BAD_KINDS)
+    Some(why_bad(piece, Reason::BadKinds))
 }
 
-// Why a piece may not come in an expression that holds so many values, and how many are held after it.
-pub fn weigh(held: u8, piece: &[u8]) -> Told
+// How many values an expression holds after a piece that comes when it holds so many; or why the piece may not come.
+pub fn weigh(held: u8, piece: &[u8]) -> Result<u8, Reason>
     ensures { result ≡ weighed held (read_piece piece.now) piece.now }
 {
     let effect = effect_of(piece_of(piece, 0, piece.len()));
     match effect {
         Effect::Adds => {
             if held < MOST_HELD {
-                return Told {
-                    why: FINE,
-                    held: held + 1,
-                };
+                return Ok(held + 1);
             }
-            Told {
-                why: NINTH_VALUE,
-                held: held,
-            }
+            Err(Reason::NinthValue)
         }
         Effect::Joins => {
             if held < 2 {
-                return Told {
-                    why: LACKS_OPERAND,
-                    held: held,
-                };
+                return Err(Reason::LacksOperand);
             }
-            Told {
-                why: FINE,
-                held: held - 1,
-            }
+            Ok(held - 1)
         }
-        Effect::Unknown => Told {
-            why: why_bad(piece, BAD_PIECE),
-            held: held,
-        },
+        Effect::Unknown => Err(why_bad(piece, Reason::BadPiece)),
     }
 }

@@ -1,68 +1,87 @@
-// The numbers of the reasons; specs/Reasons has their sentences.
-pub const FINE: u32 = 0;
+// The reasons why a listing does not load (document 01, "The listing", "Limits" and "The questions").
+ghost use Rattle.std.specs.Prelude.{◌≡◌};
+ghost use Rattle.explain_fields.specs.Fields.{about};
 
-pub const EMPTY_PIECE: u32 = 1;
+// What is strange in a text, whatever it should hold: nothing is there ("fields parted by one tab .., pieces inside a field by one space"), a carriage return
+// ("each line closed by a line feed"), a byte that is not ASCII ("Plain ASCII"), or spaces for tabs.
+#[derive(Clone, Copy, Debug, PartialEq, Eq)]
+pub enum Strange {
+    Nothing,
+    CarriageReturn,
+    NotAscii,
+    SpacesForTabs,
+}
 
-pub const CARRIAGE_RETURN: u32 = 2;
+// Why a listing does not load.
+#[derive(Clone, Copy, Debug, PartialEq, Eq)]
+pub enum Reason {
+    // question 2: a line's form
+    Strange(Strange),
+    // the letters of the records
+    NoSuchLetter,
+    FieldCount,
+    // "forks 1 to 8 children"
+    ChildCount,
+    // "Figures are decimal without leading zeros."
+    BadFigure,
+    SecondPiece,
+    // "a letter per argument, `r` by reference or `v` by value, or is `-` for none"
+    BadKinds,
+    // "the pieces `#v` (a signed 32-bit literal), `n` (a name's value), `@n` .., `+ - * <`"; document 02: "Expressions gain `/` and `%`"
+    BadPiece,
+    // "It leaves one value and never holds more than 8; both belong to its form."
+    LacksOperand,
+    NinthValue,
+    LeavesSeveral,
+    // "waits on 1 to 4 names"
+    FifthName,
+    // "By form `P` stands on line 1 only, and line 2, if any, is an `R`."
+    PortsLater,
+    FirstLine,
+    SecondLine,
+    // "does the last end in a line feed? An empty listing: place 1."
+    NoLineFeed,
+    EmptyListing,
+    // question 3: "listing 49,152 bytes; 64 routines; 512 instructions in all; 16 names a routine; 4,096 pieces"
+    ManyBytes,
+    ManyRoutines,
+    ManyNames,
+    ManyInstructions,
+    ManyPieces,
+    // question 5: "Has every routine a line .., the last being `E` or `G`?"
+    NoInstruction,
+    NoEnd,
+    // question 4: "Does every name, routine, jump and argument count point to something there? Is main as stated ..?"; with how many there are
+    NoName(usize),
+    NoJump(usize),
+    NoRoutine(usize),
+    ArgumentCount,
+    // "routine 0 is main"; "Main has i + o arguments, all `r`"
+    NoMain,
+    MainAsStated,
+}
 
-pub const NOT_ASCII: u32 = 3;
+// Where in its line a reason applies: to all of it, a field, or a piece in a field, by their numbers from 1.
+#[derive(Clone, Copy, Debug, PartialEq, Eq)]
+pub enum Spot {
+    Line,
+    Field(usize),
+    Piece(usize, usize),
+}
 
-pub const SPACES_FOR_TABS: u32 = 4;
+// What is wrong in a line.
+#[derive(Clone, Copy)]
+pub struct Fault<R> {
+    pub why: R,
+    pub spot: Spot,
+}
 
-pub const NO_SUCH_LETTER: u32 = 5;
-
-pub const FIELD_COUNT: u32 = 6;
-
-pub const CHILD_COUNT: u32 = 7;
-
-pub const BAD_FIGURE: u32 = 8;
-
-pub const SECOND_PIECE: u32 = 9;
-
-pub const BAD_KINDS: u32 = 10;
-
-pub const BAD_PIECE: u32 = 11;
-
-pub const LACKS_OPERAND: u32 = 12;
-
-pub const NINTH_VALUE: u32 = 13;
-
-pub const LEAVES_SEVERAL: u32 = 14;
-
-pub const FIFTH_NAME: u32 = 15;
-
-pub const PORTS_LATER: u32 = 16;
-
-pub const FIRST_LINE: u32 = 17;
-
-pub const SECOND_LINE: u32 = 18;
-
-pub const NO_LINE_FEED: u32 = 19;
-
-pub const EMPTY_LISTING: u32 = 20;
-
-pub const MANY_BYTES: u32 = 21;
-
-pub const MANY_ROUTINES: u32 = 22;
-
-pub const MANY_NAMES: u32 = 23;
-
-pub const MANY_INSTRUCTIONS: u32 = 24;
-
-pub const MANY_PIECES: u32 = 25;
-
-pub const NO_INSTRUCTION: u32 = 26;
-
-pub const NO_END: u32 = 27;
-
-pub const NO_NAME: u32 = 28;
-
-pub const NO_JUMP: u32 = 29;
-
-pub const NO_ROUTINE: u32 = 30;
-
-pub const ARGUMENT_COUNT: u32 = 31;
-
-pub const NO_MAIN: u32 = 32;
-
-pub const MAIN_AS_STATED: u32 = 33;
+// A reason that is about a whole line.
+pub fn about<R>(why: R) -> Fault<R>
+    ensures { result ≡ about why }
+{
+    Fault {
+        why,
+        spot: Spot::Line,
+    }
+}

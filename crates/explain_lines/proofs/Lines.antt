@@ -1,70 +1,42 @@
 -- The fields of a line, one after another.
 use mathlib.Core.Path.{◌≡◌, sym, ap, ◌∙◌}
-use mathlib.Core.Bool.{Bool, true, false}
-use mathlib.Core.List.{[], ◌∷◌}
+use mathlib.Core.Bool.{true, false}
 use Prim.Native.Nat.{ℕ, suc, ◌+◌, ◌-◌, ◌≤◌, ◌<◌}
 use native.Mathlib.Omega.{arith}
-use lib.Dec.{eqb}
 use lib.ListN.{length, get_or}
-use borrow.Author.Tests.{eq-eqb, ne_eqb}
-use Rattle.listing.specs.Bytes.{Bytes, extend, split}
-use Rattle.listing.proofs.Splits.{split_has_part}
+use Rattle.std.specs.Prelude.{Option, Some, None, option_map}
+use Rattle.std.specs.Option.{option_or}
+use Rattle.listing.specs.Bytes.{Bytes, split}
 use Rattle.explain_parts.specs.Parts.{part_of}
-use Rattle.explain_fields.specs.Fields.{field_fault}
+use Rattle.explain_fields.specs.Fields.{field_fault, fault_in, about}
 use Rattle.explain_fields.specs.declared.field.Found.{Found}
+use Rattle.explain_fields.specs.declared.reasons.Reason.{Reason}
+use Rattle.explain_fields.specs.declared.reasons.Fault.{Fault}
+use Rattle.explain_fields.specs.declared.reasons.Spot.TheVariants as PV
 use Rattle.explain_lines.specs.Letters.{role_of, fits_letter, stands_why, count_why, letter_why}
-use Rattle.explain_lines.specs.Lines.{faultless, or_later, fields_fault, line_fault}
-use Rattle.explain_lines.specs.declared.line.Fault.{Fault}
-
--- every line has a field
-pub some_field : (q : ℕ) (line : Bytes) → 1 ≤ length (split q line)
-some_field q line = let p = split_has_part q line in rw p.is (omega arith)
-
--- and no more fields than bytes and one
-pub few_fields : (q : ℕ) (line : Bytes) → length (split q line) ≤ length line + 1
-unfolding split extend
-few_fields q [] = omega arith
-few_fields q (b ∷ line) = go (eqb b q) (few_fields q line)
-  where
-    go : (t : Bool) → length (split q line) ≤ length line + 1 → length (extend t b (split q line)) ≤ suc (length line) + 1
-    go true i = omega arith
-    go false i = let p = split_has_part q line in let j : length (p.head ∷ p.rest) ≤ length line + 1 = rw p.is at i in rw p.is (omega (arith, j))
+use Rattle.explain_lines.specs.Lines.{fields_fault, line_fault}
 
 -- the fields from a number on decide as all of them do
-pub record Looking (letter : ℕ) (line : Bytes) (count number : ℕ) : Type 0 where
-  pub most : number ≤ count + 1
-  pub same : fields_fault letter line number (count + 1 - number) ≡ fields_fault letter line 1 count
-
-pub looking_begun : (letter : ℕ) (line : Bytes) (count : ℕ) → Looking letter line count 1
-looking_begun letter line count =
-    record { most = omega arith; same = ap (fields_fault letter line 1) (let z : count + 1 - 1 ≡ count = omega arith in z) }
-
-module _ (letter : ℕ) (line : Bytes) (count number : ℕ) (v : Looking letter line count number) where
-  pub looked_through : count < number → faultless ≡ fields_fault letter line 1 count
+module _ (letter : ℕ) (line : Bytes) (count number : ℕ) (same : fields_fault letter line number (count + 1 - number) ≡ fields_fault letter line 1 count) where
+  pub looked_through : count + 1 ≤ number → None ≡ fields_fault letter line 1 count
   unfolding fields_fault
-  looked_through h = ap (fields_fault letter line number) (let z : 0 ≡ count + 1 - number = omega (arith, h) in z) ∙ v.same
+  looked_through h = ap (fields_fault letter line number) (let z : 0 ≡ count + 1 - number = omega (arith, h) in z) ∙ same
 
-  module _ (h : number ≤ count) (found : Found) (e : found ≡ field_fault (role_of letter number) (part_of 9 line number)) where
-    abbrev here : Fault
-    here = record { why = found.why; field = number + 1; piece = found.piece }
-
-    one_field : fields_fault letter line 1 count ≡ or_later here (fields_fault letter line (number + 1) (count - number))
+  module _ (h : number < count + 1) (o : Option Found) (e : o ≡ field_fault (role_of letter number) (part_of 9 line number)) where
+    one_field : option_or (option_map (λ (found : Found). fault_in found (number + 1)) o) (fields_fault letter line (number + 1) (count - number)) ≡ fields_fault letter line 1 count
     unfolding fields_fault
     one_field =
-        sym v.same ∙ ap (fields_fault letter line number) (let z : count + 1 - number ≡ suc (count - number) = omega (arith, h) in z)
-        ∙ ap (λ (f : Found). or_later (record { why = f.why; field = number + 1; piece = f.piece }) (fields_fault letter line (number + 1) (count - number))) (sym e)
+        ap (λ (f : Option Found). option_or (option_map (λ (found : Found). fault_in found (number + 1)) f) (fields_fault letter line (number + 1) (count - number))) e
+        ∙ ap (fields_fault letter line number) (let z : suc (count - number) ≡ count + 1 - number = omega (arith, h) in z) ∙ same
 
-    pub wrong_here : (found.why ≡ 0 → ⊥) → here ≡ fields_fault letter line 1 count
-    wrong_here n = sym (one_field ∙ rw (ne_eqb found.why 0 n))
+    pub wrong_here : (found : Found) → o ≡ Some found → Some (fault_in found (number + 1)) ≡ fields_fault letter line 1 count
+    wrong_here found s =
+        ap (λ (f : Option Found). option_or (option_map (λ (x : Found). fault_in x (number + 1)) f) (fields_fault letter line (number + 1) (count - number))) (sym s) ∙ one_field
 
-    pub looking_on : found.why ≡ 0 → Looking letter line count (number + 1)
-    looking_on z =
-        record {
-          most = omega (arith, h);
-          same =
-              ap (fields_fault letter line (number + 1)) (let y : count + 1 - (number + 1) ≡ count - number = omega arith in y)
-              ∙ sym (one_field ∙ rw (eq-eqb found.why 0 z));
-        }
+    pub looking_on : o ≡ None → fields_fault letter line (number + 1) (count + 1 - (number + 1)) ≡ fields_fault letter line 1 count
+    looking_on n =
+        ap (fields_fault letter line (number + 1)) (let y : count + 1 - (number + 1) ≡ count - number = omega arith in y)
+        ∙ ap (λ (f : Option Found). option_or (option_map (λ (x : Found). fault_in x (number + 1)) f) (fields_fault letter line (number + 1) (count - number))) (sym n) ∙ one_field
 
 -- ── a whole line ─────────────────────────────────────────────────────────────────
 module _ (number : ℕ) (line : Bytes) where
@@ -74,20 +46,20 @@ module _ (number : ℕ) (line : Bytes) where
   abbrev count : ℕ
   count = length (split 9 line) - 1
 
-  pub letter_wrong : (why : ℕ) → why ≡ letter_why (part_of 9 line 0) → (why ≡ 0 → ⊥) → record { why = why; field = 1; piece = 0 } ≡ line_fault number line
+  pub letter_wrong : (why : Reason) → letter_why (part_of 9 line 0) ≡ Some why → Some (record { why = why; spot = PV.Field 1 }) ≡ line_fault number line
   unfolding line_fault
-  letter_wrong why e n = rw (← e, ne_eqb why 0 n)
+  letter_wrong why e = rw e
 
-  module _ (fine : letter_why (part_of 9 line 0) ≡ 0) where
-    pub count_wrong : fits_letter letter count ≡ false → record { why = count_why letter; field = 0; piece = 0 } ≡ line_fault number line
+  module _ (fine : letter_why (part_of 9 line 0) ≡ None) where
+    pub count_wrong : fits_letter letter count ≡ false → Some (about (count_why letter)) ≡ line_fault number line
     unfolding line_fault
     count_wrong f = rw (fine, f)
 
-    module _ (fault : Fault) (e : fault ≡ fields_fault letter line 1 count) (f : fits_letter letter count ≡ true) where
-      pub field_wrong : (fault.why ≡ 0 → ⊥) → fault ≡ line_fault number line
+    module _ (f : fits_letter letter count ≡ true) where
+      pub field_wrong : (fault : Fault Reason) → fields_fault letter line 1 count ≡ Some fault → Some fault ≡ line_fault number line
       unfolding line_fault
-      field_wrong n = rw (fine, f, ← e, ne_eqb fault.why 0 n)
+      field_wrong fault e = rw (fine, f, e)
 
-      pub all_fine : fault.why ≡ 0 → record { why = stands_why number letter; field = 0; piece = 0 } ≡ line_fault number line
+      pub all_fine : fields_fault letter line 1 count ≡ None → option_map (λ (w : Reason). about w) (stands_why number letter) ≡ line_fault number line
       unfolding line_fault
-      all_fine z = rw (fine, f, ← e, eq-eqb fault.why 0 z)
+      all_fine e = rw (fine, f, e)

@@ -2,31 +2,23 @@
 ghost use Rattle.std.specs.Prelude.{◌≡◌, ◌≤◌, length, get_or};
 ghost use Rattle.explain_lines.specs.Letters.{fields_after, is_letter_field, fits_letter, first_role, later_role, role_of, letter_why, count_why, stands_why};
 
-use explain_fields::reasons::{
-    CHILD_COUNT, FIELD_COUNT, FINE, FIRST_LINE, NO_SUCH_LETTER, PORTS_LATER, SECOND_LINE,
-    SPACES_FOR_TABS,
-};
-use explain_fields::{Role, why_bad};
-use explain_parts::part_end;
+use explain_fields::{Reason, Role, strange_field};
 
-// No record begins with this byte.
-const NONE: usize = 255;
-
-// How many fields come after a letter, of an `F` at most.
-fn fields_after(letter: u8) -> usize
+// How many fields come after a letter, of an `F` at most; none if no record begins so.
+fn fields_after(letter: u8) -> Option<usize>
     ensures { result ≡ fields_after letter }
 {
     match letter {
-        b'P' => 2,
-        b'R' => 2,
-        b'S' => 2,
-        b'A' => 3,
-        b'U' => 2,
-        b'G' => 1,
-        b'W' => 1,
-        b'F' => 8,
-        b'E' => 0,
-        _ => NONE,
+        b'P' => Some(2),
+        b'R' => Some(2),
+        b'S' => Some(2),
+        b'A' => Some(3),
+        b'U' => Some(2),
+        b'G' => Some(1),
+        b'W' => Some(1),
+        b'F' => Some(8),
+        b'E' => Some(0),
+        _ => None,
     }
 }
 
@@ -45,22 +37,22 @@ fn is_letter_field(field: &[u8]) -> bool
     ensures { result ≡ is_letter_field field.now }
 {
     if field.len() == 1 {
-        return fields_after(first_byte(field)) < NONE;
+        return fields_after(first_byte(field)).is_some();
     }
     false
 }
 
 // Why a line's first field is no letter of a record.
-pub fn letter_why(field: &[u8]) -> u32
+pub fn letter_why(field: &[u8]) -> Option<Reason>
     ensures { result ≡ letter_why field.now }
 {
     if is_letter_field(field) {
-        return FINE;
+        return None;
     }
-    if part_end(field, b' ', 0) < field.len() {
-        return SPACES_FOR_TABS;
+    match strange_field(field) {
+        Some(strange) => Some(Reason::Strange(strange)),
+        None => Some(Reason::NoSuchLetter),
     }
-    why_bad(field, NO_SUCH_LETTER)
 }
 
 // Whether so many fields may come after a letter.
@@ -73,17 +65,20 @@ pub fn fits_letter(letter: u8, count: usize) -> bool
         }
         return count <= 8;
     }
-    count == fields_after(letter)
+    match fields_after(letter) {
+        Some(fields) => count == fields,
+        None => false,
+    }
 }
 
 // Why so many may not.
-pub fn count_why(letter: u8) -> u32
+pub fn count_why(letter: u8) -> Reason
     ensures { result ≡ count_why letter }
 {
     if letter == b'F' {
-        return CHILD_COUNT;
+        return Reason::ChildCount;
     }
-    FIELD_COUNT
+    Reason::FieldCount
 }
 
 // What the first field after a letter holds, and what a later one does.
@@ -128,23 +123,23 @@ pub fn role_of(letter: u8, number: usize) -> Role
 }
 
 // Why a record may not stand on a line.
-pub fn stands_why(number: usize, letter: u8) -> u32
+pub fn stands_why(number: usize, letter: u8) -> Option<Reason>
     ensures { result ≡ stands_why number letter }
 {
     if letter == b'P' {
         if number == 1 {
-            return FINE;
+            return None;
         }
-        return PORTS_LATER;
+        return Some(Reason::PortsLater);
     }
     if number <= 1 {
-        return FIRST_LINE;
+        return Some(Reason::FirstLine);
     }
     if letter == b'R' {
-        return FINE;
+        return None;
     }
     if number <= 2 {
-        return SECOND_LINE;
+        return Some(Reason::SecondLine);
     }
-    FINE
+    None
 }

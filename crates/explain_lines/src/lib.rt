@@ -4,4 +4,4 @@
 pub mod letter;
 pub mod line;
 
-pub use line::{Fault, line_fault};
+pub use line::line_fault;

@@ -1,17 +1,15 @@
 -- What the program says of a listing, and how it is called.
-use Rattle.std.specs.Prelude.{◌≡◌, List, [], ◌∷◌, ◌++◌, ℕ, zero, suc, ◌-◌, ◌≤◌}
+use Rattle.std.specs.Prelude.{◌≡◌, List, [], ◌∷◌, ◌++◌, ℕ, zero, suc, ◌-◌, ◌≤◌, Result, Ok, Err}
 use Rattle.listing.specs.Bytes.{Bytes, bytes_of, figure, line_feed, space}
 use Rattle.session_print.specs.Puts.{Puts}
 use Rattle.explain_parts.specs.Parts.{part_of}
 use Rattle.explain_parts.specs.Shown.{shown}
 use Rattle.explain_reasons.specs.Faults.{fault_at}
-use Rattle.explain_there.specs.There.{allowed_at}
-use Rattle.explain_said.specs.Reasons.{allowed_text}
 use Rattle.explain_said.specs.Spots.{fault_text}
 use Rattle.explain_said.specs.Sentences.{sentence_of}
 use Rattle.explain_listing.specs.Verdicts.{VerdictOn}
-use Rattle.explain_listing.specs.declared.verdict.Verdict.{Verdict}
-use Rattle.explain_listing.specs.declared.verdict.Verdict.TheVariants as VV
+use Rattle.explain_listing.specs.declared.verdict.Refusal.{Refusal}
+use Rattle.explain_listing.specs.declared.verdict.Refusal.TheVariants as RV
 
 -- the sentences for a question as a line
 abbrev pub rule_line : ℕ → Bytes
@@ -25,12 +23,10 @@ question_line number = bytes_of "\nQuestion " ++ (figure number ++ (bytes_of ": 
 unfoldable pub headline : Bytes → ℕ → Bytes
 headline path place = shown 4096 path ++ (bytes_of ":" ++ (figure place ++ bytes_of ": "))
 
--- the reason at a line with what would be allowed, the line as it is shown, and the rule
+-- the reason at a line, the line as it is shown, and the rule
 unfoldable pub reasoned : Bytes → ℕ → ℕ → Bytes → Bytes
 reasoned listing number place line =
-    let fault = fault_at listing number place line in
-    fault_text line fault
-    ++ (allowed_text fault.why (allowed_at listing place fault.why) ++ (bytes_of "\n    " ++ (shown 120 line ++ question_line number)))
+    fault_text line (fault_at listing number place line) ++ (bytes_of "\n    " ++ (shown 120 line ++ question_line number))
 
 -- a question that fails: where (the first line has no lines before it), why, and its rule
 unfoldable pub refusal : Bytes → Bytes → ℕ → ℕ → Bytes
@@ -41,13 +37,13 @@ abbrev pub named : Bytes → Bytes → Bytes
 named path text = shown 4096 path ++ text
 
 -- what is said of a listing
-unfoldable pub verdict_line : Bytes → Bytes → Verdict → Bytes
-verdict_line path listing VV.TooLong = named path (bytes_of ": The file is too long: a listing has at most 49,152 bytes. A session ends with code 3.\n")
-verdict_line path listing VV.Loads = named path (bytes_of ": It loads.\n")
-verdict_line path listing (VV.Fails number place) = refusal path listing number place
+unfoldable pub verdict_line : Bytes → Bytes → Result (Unit {0}) Refusal → Bytes
+verdict_line path listing (Err RV.TooLong) = named path (bytes_of ": The file is too long: a listing has at most 49,152 bytes. A session ends with code 3.\n")
+verdict_line path listing (Ok u) = named path (bytes_of ": It loads.\n")
+verdict_line path listing (Err (RV.Fails number place)) = refusal path listing number place
 
 pub record VerdictSaid (path listing before after : Bytes) (count : ℕ) : Type 0 where
-  pub verdict : Verdict
+  pub verdict : Result (Unit {0}) Refusal
   pub is : VerdictOn listing verdict
   pub puts : Puts before 0 (verdict_line path listing verdict) after count
   pub few : count ≤ 50000

@@ -4,12 +4,10 @@ ghost use Rattle.session_print.specs.Puts.{Puts};
 ghost use Rattle.explain_parts.specs.Shown.{shown};
 ghost use Rattle.explain_listing.specs.Said.{rule_line, question_line, headline, reasoned, refusal, named, usage, VerdictSaid, FileSaid};
 
-use crate::verdict::{Verdict, judge, read_listing};
-use explain_parts::{part_after, put_shown};
-use explain_reasons::reason::lines_before;
+use crate::verdict::{Refusal, judge, read_listing};
+use explain_parts::{part_of, put_shown};
 use explain_reasons::reason_at;
-use explain_said::{put_allowed, put_fault, put_sentence};
-use explain_there::allowed_at;
+use explain_said::{put_fault, put_sentence};
 use session_print::figure::{put_byte, put_figure};
 use std::fs::Files;
 use std::io::Stderr;
@@ -81,12 +79,10 @@ fn put_reasoned(
     ensures { Puts out.old at (reasoned listing.now number place line.now) out.new result × (result ≤ at + 6000) }
 {
     let fault = reason_at(listing, number, place, line);
-    let why = fault.why;
     let a = put_fault(out, at, line, fault);
-    let b = put_allowed(out, a, why, allowed_at(listing, place, why));
-    let c = put_text(out, b, b"\n    ");
-    let d = put_shown(out, c, line, LINE_SHOWN);
-    put_question(out, d, number)
+    let b = put_text(out, a, b"\n    ");
+    let c = put_shown(out, b, line, LINE_SHOWN);
+    put_question(out, c, number)
 }
 
 // A question that fails: where, why, and its rule; how many bytes.
@@ -95,10 +91,8 @@ fn put_refusal(out: &mut [u8], path: &[u8], listing: &[u8], number: u32, place: 
     ensures { Puts out.old 0 (refusal path.now listing.now number place) out.new result × (result ≤ 50000) }
 {
     let a = put_head(out, path, place);
-    let line = part_after(listing, b'\n', lines_before(place));
-    let from = line.from;
-    let to = line.to;
-    put_reasoned(out, a, listing, number, place, &listing[from..to])
+    let line = part_of(listing, b'\n', place.saturating_sub(1));
+    put_reasoned(out, a, listing, number, place, line)
 }
 
 // A file's name and what is said of it; how many bytes.
@@ -115,15 +109,14 @@ fn put_verdict(out: &mut [u8], path: &[u8], listing: &[u8]) -> usize
     requires { length listing.now ≤ 49153 }
     ensures { VerdictSaid path.now listing.now out.old out.new result }
 {
-    let answer = judge(listing);
-    match answer {
-        Verdict::TooLong => put_named(
+    match judge(listing) {
+        Ok(()) => put_named(out, path, b": It loads.\n"),
+        Err(Refusal::TooLong) => put_named(
             out,
             path,
             b": The file is too long: a listing has at most 49,152 bytes. A session ends with code 3.\n",
         ),
-        Verdict::Loads => put_named(out, path, b": It loads.\n"),
-        Verdict::Fails(number, place) => put_refusal(out, path, listing, number, place),
+        Err(Refusal::Fails(number, place)) => put_refusal(out, path, listing, number, place),
     }
 }
 
@@ -132,12 +125,10 @@ pub fn put_file<R: Files>(files: &R, errors: Stderr, out: &mut [u8], path: &[u8]
     ensures { FileSaid path.now out.old out.new result × (result ≤ 50000) }
 {
     let mut bytes = text();
-    let got = read_listing(files, errors, path, &mut bytes);
-    let count = got.count;
-    if !got.readable {
-        return 0;
+    match read_listing(files, errors, path, &mut bytes) {
+        Some(count) => put_verdict(out, path, &bytes[..count]),
+        None => 0,
     }
-    put_verdict(out, path, &bytes[..count])
 }
 
 // How to call the program: all rules, in the order in which they are asked; how many bytes.
@@ -149,12 +140,10 @@ pub fn put_usage(out: &mut [u8]) -> usize
         0,
         b"usage: explain LISTING [-t TRACE] ..\nLISTING and TRACE are files. A listing is loaded only if all of these hold, asked in this order:\n",
     );
-    let mut done: u32 = 0;
-    while done < QUESTIONS {
-        done += 1;
-        let a = put_figure(out, at, done as u64);
+    for done in 0..QUESTIONS {
+        let a = put_figure(out, at, (done + 1) as u64);
         put_byte(out, a, b' ');
-        at = put_rule(out, a + 1, done);
+        at = put_rule(out, a + 1, done + 1);
     }
     at
 }

@@ -1,19 +1,30 @@
 -- The parts of a text, one after another. Letters: q the separator, l a text.
-use mathlib.Core.Path.{◌≡◌, refl, sym, ap, ◌∙◌}
+use mathlib.Core.Path.{◌≡◌, refl, sym, ap, subst, ◌∙◌}
 use mathlib.Core.Bool.{Bool, true, false, cond}
 use mathlib.Core.List.{List, [], ◌∷◌}
 use Prim.Native.Nat.{ℕ, zero, suc, ◌+◌, ◌-◌, ◌≤◌, ◌<◌}
 use native.Mathlib.Omega.{arith}
 use native.Mathlib.Numerals.{add-one}
-use lib.Dec.{eqb}
+use lib.Dec.{eqb, ltb}
 use lib.ListN.{length, get_or, take, drop, length-drop}
-use lib.Seq.{drop-drop, drop-cons, length-take-le}
-use borrow.Author.Tests.{eq-eqb, ne_eqb}
+use lib.Seq.{drop-drop}
+use Rattle.std.specs.Prelude.{Option, Some, None, slice_get, option_map}
+use Rattle.std.specs.Slice.Iter.{split_rest, split_done, split_callee, split_steps}
+use Rattle.std.specs.List.{position_or_len, slice_split, onto_first}
+use Rattle.std.specs.Fn.{CalledAt}
+use Rattle.std.proofs.lemmas.Iterator.{YieldsList}
+use Rattle.std.specs.Iterator.{Yields}
+use Rattle.std.proofs.lemmas.Iterator.Consumers.{YieldsList-turn, YieldsList-end}
+use Rattle.std.proofs.lemmas.Iterator.Splits.{YieldsList-from_slice_split}
+use Rattle.std.proofs.lemmas.List.{at_drop_more}
+use Rattle.std.proofs.lemmas.List.Recursion.{is_position_or_len}
+use denote.Ref.{Bor}
+use denote.Param.Members.{Mut}
+use borrow.Author.Tests.{ltb-true, ltb-false}
 use Rattle.listing.specs.Bytes.{Bytes, extend, split}
 use Rattle.listing.proofs.Splits.{split_has_part}
 use Rattle.text_place.specs.Texts.{before}
-use Rattle.explain_parts.specs.Parts.{part_of, first_part_lem, part_end, IsPart}
-use Rattle.explain_parts.specs.declared.part.Part.{Part}
+use Rattle.explain_parts.specs.Parts.{part_of, first_part_lem, part_end}
 
 module _ (q : ℕ) where
   -- a text with a separator: its first part, and the parts after it
@@ -49,15 +60,15 @@ module _ (q : ℕ) where
       go true i = refl
       go false i = rw i
 
-  -- the part that it begins with
-  first_of : (l : Bytes) → get_or (split q l) 0 [] ≡ first_part_lem q l
-  unfolding before split extend
-  first_of [] = refl
-  first_of (b ∷ l) = go (eqb b q) (first_of l)
+  -- which is no longer than the text
+  pub first_most : (l : Bytes) → length (first_part_lem q l) ≤ length l
+  unfolding before
+  first_most [] = omega arith
+  first_most (b ∷ l) = go (eqb b q) (first_most l)
     where
-      go : (t : Bool) → get_or (split q l) 0 [] ≡ first_part_lem q l → get_or (extend t b (split q l)) 0 [] ≡ cond t [] (b ∷ first_part_lem q l)
-      go true i = refl
-      go false i = let p = split_has_part q l in let h : p.head ≡ first_part_lem q l = rw p.is at i in rw (p.is, h)
+      go : (t : Bool) → length (first_part_lem q l) ≤ length l → length (cond t [] (b ∷ first_part_lem q l)) ≤ length (b ∷ l)
+      go true i = omega arith
+      go false i = omega (arith, i)
 
   -- ── from an offset on ──────────────────────────────────────────────────────────
   module _ (s : Bytes) (at end : ℕ) (inside : at ≤ length s) (e : end ≡ part_end q s at) where
@@ -78,82 +89,101 @@ module _ (q : ℕ) where
         let d : end - at ≡ length (first_part_lem q (drop at s)) = omega (arith, e) in
         ap (λ (n : ℕ). take n (drop at s)) d ∙ first_taken (drop at s)
 
-  -- ── a search from part to part: the part with `left` parts before it from an offset on is the one that is sought ──
-  pub record Seeking (s : Bytes) (parts at left : ℕ) : Type 0 where
-    pub inside : at ≤ length s
-    pub sought : part_of q (drop at s) left ≡ part_of q s parts
-
-  pub begins : (s : Bytes) (parts : ℕ) → Seeking s parts 0 parts
-  begins s parts = record { inside = omega arith; sought = refl }
-
-  module _ (s : Bytes) (parts at left end : ℕ) (k : Seeking s parts at left) (e : end ≡ part_end q s at) where
-    pub turn : end < length s → 0 < left → Seeking s parts (end + 1) (left - 1)
-    turn h more = on left more k.sought
-      where
-        on : (left : ℕ) → 0 < left → part_of q (drop at s) left ≡ part_of q s parts → Seeking s parts (end + 1) (left - 1)
-        on zero more i = absurd (let z : ⊥ = omega (arith, more) in z)
-        on (suc n) more i = record {
-          inside = omega (arith, h);
-          sought =
-              ap (part_of q (drop (end + 1) s)) (let z : suc n - 1 ≡ n = omega arith in z)
-              ∙ sym (ap (λ (l : List Bytes). get_or l (suc n) []) (parts_on s at end k.inside e h)) ∙ i;
-        }
-
-    pub missing : end ≡ length s → 0 < left → IsPart q s parts (record { from = end; to = end })
-    missing h more = record { rising = omega arith; inside = omega (arith, h); is = rw (let z : end - end ≡ 0 = omega arith in z) (sym (none left more k.sought)) }
-      where
-        none : (left : ℕ) → 0 < left → part_of q (drop at s) left ≡ part_of q s parts → part_of q s parts ≡ []
-        none zero more i = absurd (let z : ⊥ = omega (arith, more) in z)
-        none (suc n) more i = sym i ∙ ap (λ (l : List Bytes). get_or l (suc n) []) (parts_last s at end k.inside e h)
-
-    pub found : end ≤ length s → left ≡ 0 → IsPart q s parts (record { from = at; to = end })
-    found h none = record {
-      rising = omega (arith, e);
-      inside = h;
-      is = part_taken s at end k.inside e ∙ sym (first_of (drop at s)) ∙ rw (← none) k.sought;
-    }
-
-  -- ── counting ───────────────────────────────────────────────────────────────────
-  -- one more part behind a separator, none more behind another byte
-  counted_more : (t : Bool) (b : ℕ) (l : Bytes) → length (extend t b (split q l)) ≡ cond t 1 0 + length (split q l)
-  unfolding extend
-  counted_more true b l = omega arith
-  counted_more false b l = let p = split_has_part q l in rw p.is (omega arith)
-
-  pub record Counting (s : Bytes) (count i : ℕ) : Type 0 where
-    pub inside : i ≤ length s
-    pub few : count ≤ i + 1
-    pub sum : count + length (split q (drop i s)) ≡ suc (length (split q s))
-
-  pub counting_begun : (s : Bytes) → Counting s 1 0
-  counting_begun s = record { inside = omega arith; few = omega arith; sum = omega arith }
-
-  one_on : (s : Bytes) (i : ℕ) → i < length s → length (split q (drop i s)) ≡ cond (eqb (get_or s i 0) q) 1 0 + length (split q (drop (i + 1) s))
-  unfolding split
-  one_on s i h = rw (drop-cons s i 0 h, add-one) (counted_more (eqb (get_or s i 0) q) (get_or s i 0) (drop (suc i) s))
-
-  pub counted_one : (s : Bytes) (count i : ℕ) → Counting s count i → i < length s → get_or s i 0 ≡ q → Counting s (count + 1) (i + 1)
-  counted_one s count i v h e =
-      record { inside = omega (arith, h); few = omega (arith, v.few); sum = omega (arith, v.sum, rw (eq-eqb (get_or s i 0) q e) at (one_on s i h)) }
-
-  pub counted_none : (s : Bytes) (count i : ℕ) → Counting s count i → i < length s → (get_or s i 0 ≡ q → ⊥) → Counting s count (i + 1)
-  counted_none s count i v h n =
-      record { inside = omega (arith, h); few = omega (arith, v.few); sum = omega (arith, v.sum, rw (ne_eqb (get_or s i 0) q n) at (one_on s i h)) }
-
-  pub counted_all : (s : Bytes) (count i : ℕ) → Counting s count i → length s ≤ i → count ≡ length (split q s)
-  unfolding split
-  counted_all s count i v h =
-      let none : length (drop i s) ≡ 0 = omega (arith, length-drop i s) in
-      let empty : drop i s ≡ [] = nothing (drop i s) none in
-      omega (arith, v.sum, ap (λ (l : Bytes). length (split q l)) empty)
+  -- ── the same by the library's words ────────────────────────────────────────────
+  -- where the first part ends
+  first_length : (l : Bytes) → length (first_part_lem q l) ≡ position_or_len (λ byte. eqb byte q) l
+  unfolding before
+  first_length = is_position_or_len (λ (l : Bytes). length (first_part_lem q l)) (λ (byte : ℕ). eqb byte q) refl (λ b l. go (eqb b q) b l)
     where
-      nothing : (l : Bytes) → length l ≡ 0 → l ≡ []
-      nothing [] e = refl
-      nothing (b ∷ l) e = absurd (let z : ⊥ = omega (arith, e) in z)
+      go : (t : Bool) (b : ℕ) (l : Bytes) → length (cond t [] (b ∷ first_part_lem q l)) ≡ cond t 0 (1 + length (first_part_lem q l))
+      go true b l = refl
+      go false b l = omega arith
 
--- a part is no longer than its text
-pub part_size : (q : ℕ) (text : Bytes) (parts : ℕ) (p : Part) → IsPart q text parts p → length (take (p.to - p.from) (drop p.from text)) ≤ length text
-part_size q text parts p is =
-    let left = length-drop p.from text in
-    let size = length-take-le (p.to - p.from) (drop p.from text) (omega (arith, left, is.rising, is.inside)) in
-    omega (arith, size, is.rising, is.inside)
+  module _ (s : Bytes) (at : ℕ) (inside : at ≤ length s) (r : Option ℕ)
+      (e : r ≡ cond (ltb (position_or_len (λ (byte : ℕ). eqb byte q) (drop at s)) (length (drop at s))) (Some (position_or_len (λ (byte : ℕ). eqb byte q) (drop at s))) None) where
+    abbrev first : ℕ
+    first = position_or_len (λ (byte : ℕ). eqb byte q) (drop at s)
+
+    rest_left : length (drop at s) ≡ length s - at
+    rest_left = length-drop at s
+
+    pub ends_at : (k : ℕ) → r ≡ Some k → (at + k ≡ part_end q s at) × (at ≤ at + k) × (at + k ≤ length s)
+    ends_at k h = go (ltb first (length (drop at s))) refl (sym h ∙ e)
+      where
+        go : (t : Bool) → ltb first (length (drop at s)) ≡ t → Some k ≡ cond t (Some first) None → (at + k ≡ part_end q s at) × (at ≤ at + k) × (at + k ≤ length s)
+        go true l i =
+            let same : k ≡ first = cc in
+            (omega (arith, same, first_length (drop at s)), omega arith, omega (arith, same, rest_left, inside, ltb-true first (length (drop at s)) l))
+        go false l i = absurd (cc)
+
+    pub ends_with : r ≡ None → (length s ≡ part_end q s at) × (at ≤ length s) × (length s ≤ length s)
+    ends_with h = go (ltb first (length (drop at s))) refl (sym h ∙ e)
+      where
+        go : (t : Bool) → ltb first (length (drop at s)) ≡ t → None ≡ cond t (Some first) None → (length s ≡ part_end q s at) × (at ≤ length s) × (length s ≤ length s)
+        go true l i = absurd (cc)
+        go false l i = (omega (arith, first_length (drop at s), rest_left, inside, ltb-false first (length (drop at s)) l, first_most (drop at s)), inside, omega arith)
+
+  -- the parts
+  pub parts_are : (s : Bytes) → slice_split (λ byte. eqb byte q) s ≡ split q s
+  unfolding split extend
+  parts_are [] = refl
+  parts_are (b ∷ s) = go (eqb b q) (parts_are s)
+    where
+      onto : (l : List Bytes) → onto_first b l ≡ extend false b l
+      onto [] = refl
+      onto (part ∷ parts) = refl
+
+      go : (t : Bool) → slice_split (λ byte. eqb byte q) s ≡ split q s → cond t ([] ∷ slice_split (λ byte. eqb byte q) s) (onto_first b (slice_split (λ byte. eqb byte q) s)) ≡ extend t b (split q s)
+      go true i = rw i refl
+      go false i = rw i (onto (split q s))
+
+  -- an iterator over them
+  pub yields_parts : {F : Type 0} {it : _} (g : Mut F (Bor ℕ × Unit {0}) Bool) {f : F} (s : Bytes) → split_rest it ≡ s → split_done it ≡ false → split_callee it ≡ f →
+      ((byte : ℕ) (b : Bool) (r : F) → CalledAt g f byte b r → (r ≡ f) × (b ≡ eqb byte q)) → YieldsList (split_steps g) (λ x. x.now) it (split q s)
+  yields_parts g s rest done closure tests =
+      subst (YieldsList (split_steps g) (λ x. x.now) _) (parts_are s) (YieldsList-from_slice_split g (λ byte. eqb byte q) s rest done closure tests)
+
+  -- in a loop over them, so many of which are done: the part that comes next, and that none is left
+  module _ {F : Type 0} {it it' : _} {g : Mut F (Bor ℕ × Unit {0}) Bool} {f : F} (t u : _) (done : List (Bor Bytes)) (r : Option (Bor Bytes)) (s : Bytes)
+      (so_far : Yields (split_steps g) it' done t) (goes : split_steps g t r u) (same : it' ≡ it) (rest : split_rest it ≡ s) (more : split_done it ≡ false) (closure : split_callee it ≡ f)
+      (tests : (byte : ℕ) (b : Bool) (r : F) → CalledAt g f byte b r → (r ≡ f) × (b ≡ eqb byte q)) where
+    pub part_turn : (part : Bor Bytes) → r ≡ Some part → (length done < length (split q s)) × (part.now ≡ get_or (split q s) (length done) part.now)
+    part_turn part e = YieldsList-turn (subst (λ i. YieldsList (split_steps g) (λ x. x.now) i (split q s)) (sym same) (yields_parts g s rest more closure tests)) done t so_far r u part e goes
+
+    pub parts_end : r ≡ None → length (split q s) ≤ length done
+    parts_end e = let z : length done ≡ length (split q s) = (YieldsList-end (subst (λ i. YieldsList (split_steps g) (λ x. x.now) i (split q s)) (sym same) (yields_parts g s rest more closure tests)) done t so_far r u e goes).1 in omega (arith, z)
+
+  -- the part that is read by its number
+  pub part_there : (s : Bytes) (n : ℕ) (r : Option (Bor Bytes)) (part : Bor Bytes) → r ≡ Some part → option_map (λ x. x.now) r ≡ slice_get (split q s) n → part.now ≡ part_of q s n
+  part_there s n r part h e = go (split q s) n (rw h at e)
+    where
+      go : (l : List Bytes) (n : ℕ) → Some part.now ≡ slice_get l n → part.now ≡ get_or l n []
+      go [] n e = absurd (cc)
+      go (x ∷ l) zero e = cc
+      go (x ∷ l) (suc n) e = go l n e
+
+  pub part_none : (s : Bytes) (n : ℕ) (r : Option (Bor Bytes)) → r ≡ None → option_map (λ x. x.now) r ≡ slice_get (split q s) n → ◌≡◌ {A = Bytes} [] (part_of q s n)
+  part_none s n r h e = go (split q s) n (rw h at e)
+    where
+      go : (l : List Bytes) (n : ℕ) → None ≡ slice_get l n → ◌≡◌ {A = Bytes} [] (get_or l n [])
+      go [] n e = refl
+      go (x ∷ l) zero e = absurd (cc)
+      go (x ∷ l) (suc n) e = go l n e
+
+-- every text has a part, and no more parts than bytes and one
+pub some_part : (q : ℕ) (s : Bytes) → 1 ≤ length (split q s)
+some_part q s = let p = split_has_part q s in rw p.is (omega arith)
+
+pub few_parts : (q : ℕ) (s : Bytes) → length (split q s) ≤ length s + 1
+unfolding split extend
+few_parts q [] = omega arith
+few_parts q (b ∷ s) = go (eqb b q) (few_parts q s)
+  where
+    go : (t : Bool) → length (split q s) ≤ length s + 1 → length (extend t b (split q s)) ≤ suc (length s) + 1
+    go true i = omega arith
+    go false i = let p = split_has_part q s in let j : length (p.head ∷ p.rest) ≤ length s + 1 = rw p.is at i in rw p.is (omega (arith, j))
+
+-- a walk over the parts from one on begins with that one
+pub next_part : {Y : Type 0} (F : List Bytes → Y) (parts : List Bytes) (n : ℕ) (part : Bytes) → (n < length parts) × (part ≡ get_or parts n part) →
+    F (drop n parts) ≡ F (part ∷ drop (n + 1) parts)
+next_part F parts n part h = at_drop_more F parts n part h.0 ∙ ap (λ (x : Bytes). F (x ∷ drop (n + 1) parts)) (sym h.1)

@@ -7,7 +7,9 @@ use native.Mathlib.Omega.{arith}
 use native.Mathlib.Numerals.{add-one}
 use lib.Dec.{leb, ltb}
 use lib.ListN.{length, get_or, set, take}
-use lib.Seq.{take-suc, take_all}
+use lib.Seq.{take-suc, take_all, length-take-le}
+use Rattle.std.proofs.Common.{min}
+use Rattle.std.proofs.lemmas.Bool.Decides.{nat_tests}
 use borrow.Author.Tests.{ne_eqb, le-leb, lt-leb, lt-ltb, le-ltb}
 use Rattle.listing.specs.Bytes.{Bytes}
 use Rattle.session_print.specs.Puts.{Puts}
@@ -51,22 +53,18 @@ escaped_more [] b = append-nil (escaped b)
 escaped_more (x ∷ a) b = ap (λ (l : Bytes). escaped x ++ l) (escaped_more a b) ∙ sym (append_assoc (escaped x) (escaped_all a) (escaped b))
 
 -- so many bytes are shown by now
-pub record Showing (before : Bytes) (at : ℕ) (bytes : Bytes) (most : ℕ) (after : Bytes) (past k : ℕ) : Type 0 where
-  pub inside : k ≤ length bytes
-  pub up_to : k ≤ most
+pub record Showing (before : Bytes) (at : ℕ) (bytes : Bytes) (after : Bytes) (past k : ℕ) : Type 0 where
   pub few : past ≤ at + 4 * k
   pub puts : Puts before at (escaped_all (take k bytes)) after past
 
-pub showing_begun : (before : Bytes) (at : ℕ) (bytes : Bytes) (most : ℕ) → Showing before at bytes most before at 0
+pub showing_begun : (before : Bytes) (at : ℕ) (bytes : Bytes) → Showing before at bytes before at 0
 unfolding escaped_all
-showing_begun before at bytes most = record { inside = omega arith; up_to = omega arith; few = omega arith; puts = record { past = omega arith; stored = refl } }
+showing_begun before at bytes = record { few = omega arith; puts = record { past = omega arith; stored = refl } }
 
-pub showing_on : {before bytes m m₁ : Bytes} {at most past next k : ℕ} → Showing before at bytes most m past k → k < length bytes → (k ≡ most → ⊥) →
-    Puts m past (escaped (get_or bytes k 0)) m₁ next × (next ≤ past + 4) → Showing before at bytes most m₁ next (k + 1)
-showing_on {bytes = bytes} {k = k} v h n p =
+pub showing_on : {before bytes m m₁ : Bytes} {at past next k : ℕ} → Showing before at bytes m past k → k < length bytes →
+    Puts m past (escaped (get_or bytes k 0)) m₁ next × (next ≤ past + 4) → Showing before at bytes m₁ next (k + 1)
+showing_on {bytes = bytes} {k = k} v h p =
     record {
-      inside = omega (arith, h);
-      up_to = omega (arith, v.up_to, n);
       few = omega (arith, v.few, p.1);
       puts =
           same_bytes
@@ -74,21 +72,25 @@ showing_on {bytes = bytes} {k = k} v h n p =
           (then_bytes v.puts p.0);
     }
 
-module _ {before bytes m : Bytes} {at most past k : ℕ} (v : Showing before at bytes most m past k) where
-  pub shown_cut : {m₁ m₂ : Bytes} → k < length bytes → k ≡ most → m₁ ≡ set m past 46 → m₂ ≡ set m₁ (past + 1) 46 →
+-- the first so many bytes, all of which are shown
+module _ {before m : Bytes} {at past k : ℕ} (bytes : Bytes) (most few : ℕ) (is : few ≡ min most (length bytes)) (v : Showing before at (take few bytes) m past k)
+    (h : length (take few bytes) ≤ k) (below : k ≤ length (take few bytes)) where
+  size : length (take few bytes) ≡ few
+  size = length-take-le few bytes (rw is (grind (arith, nat_tests)))
+
+  pub shown_cut : {m₁ m₂ : Bytes} → most < length bytes → m₁ ≡ set m past 46 → m₂ ≡ set m₁ (past + 1) 46 →
       Puts before at (shown most bytes) m₂ (past + 2) × (past + 2 ≤ at + 4 * most + 2)
   unfolding shown dots
-  shown_cut h e a b =
+  shown_cut cut a b =
+      let e : few ≡ most = is ∙ (grind (arith, nat_tests)) in
       let all = then_bytes v.puts (two_put a b) in
-      let cut : most < length bytes = omega (arith, h, e) in
-      (same_bytes (rw (e, lt-ltb most (length bytes) cut)) all, omega (arith, v.few, v.up_to))
+      (same_bytes (rw (lt-ltb most (length bytes) cut, take_all k (take few bytes) h, e)) all, omega (arith, v.few, size, e, below))
 
-  pub shown_whole : length bytes ≤ k → Puts before at (shown most bytes) m past × (past ≤ at + 4 * most + 2)
+  pub shown_whole : length bytes ≤ most → Puts before at (shown most bytes) m past × (past ≤ at + 4 * most + 2)
   unfolding shown dots
-  shown_whole h =
-      let all : length bytes ≤ most = omega (arith, v.inside, v.up_to, h) in
-      (same_bytes (whole all) v.puts, omega (arith, v.few, v.up_to))
+  shown_whole all =
+      let e : few ≡ length bytes = is ∙ (grind (arith, nat_tests)) in (same_bytes (whole e) v.puts, omega (arith, v.few, all, size, e, below))
     where
-      whole : length bytes ≤ most → escaped_all (take k bytes) ≡ escaped_all (take most bytes) ++ dots (ltb most (length bytes))
-      whole all =
-          rw (le-ltb most (length bytes) all, take_all k bytes h, take_all most bytes all) (sym (append-nil (escaped_all bytes)))
+      whole : few ≡ length bytes → escaped_all (take k (take few bytes)) ≡ escaped_all (take most bytes) ++ dots (ltb most (length bytes))
+      whole e =
+          rw (le-ltb most (length bytes) all, take_all k (take few bytes) h, e, take_all (length bytes) bytes (omega arith), take_all most bytes all) (sym (append-nil (escaped_all bytes)))

@@ -1,8 +1,7 @@
 -- A part of a text by its number. Document 01: "fields parted by one tab .., pieces inside a field by one space, each line closed by a line feed".
-use Rattle.std.specs.Prelude.{◌≡◌, [], ℕ, ◌+◌, ◌-◌, ◌≤◌, eqb, length, get_or, take, drop}
+use Rattle.std.specs.Prelude.{[], ℕ, ◌+◌, eqb, length, get_or, drop}
 use Rattle.listing.specs.Bytes.{Bytes, split}
 use Rattle.text_place.specs.Texts.{before}
-use Rattle.explain_parts.specs.declared.part.Part.{Part}
 
 -- the part of a text with so many parts before it; nothing if there is no such part
 abbrev pub part_of : ℕ → Bytes → ℕ → Bytes
@@ -14,9 +13,3 @@ first_part_lem separator text = before (λ byte. eqb byte separator) text
 
 abbrev pub part_end : ℕ → Bytes → ℕ → ℕ
 part_end separator text at = at + length (first_part_lem separator (drop at text))
-
--- the bytes of the text between the two offsets are that part
-pub record IsPart (separator : ℕ) (text : Bytes) (parts : ℕ) (part : Part) : Type 0 where
-  pub rising : part.from ≤ part.to
-  pub inside : part.to ≤ length text
-  pub is : take (part.to - part.from) (drop part.from text) ≡ part_of separator text parts

@@ -4,5 +4,5 @@
 pub mod part;
 pub mod shown;
 
-pub use part::{Part, count_parts, part_after, part_end};
+pub use part::{count_parts, part_end, part_of};
 pub use shown::put_shown;

@@ -53,16 +53,15 @@ pub fn put_shown(out: &mut [u8], at: usize, bytes: &[u8], most: usize) -> usize
     requires { (at ≤ 60000) × (most ≤ 4096) }
     ensures { Puts out.old at (shown most bytes.now) out.new result × (result ≤ at + 4 * most + 2) }
 {
+    let kept = &bytes[..most.min(bytes.len())];
     let mut past = at;
-    let mut k: usize = 0;
-    while k < bytes.len() {
-        if k == most {
-            put_byte(out, past, b'.');
-            put_byte(out, past + 1, b'.');
-            return past + 2;
-        }
-        past = put_escaped(out, past, bytes[k]);
-        k += 1;
+    for b in kept {
+        past = put_escaped(out, past, *b);
+    }
+    if bytes.len() > most {
+        put_byte(out, past, b'.');
+        put_byte(out, past + 1, b'.');
+        return past + 2;
     }
     past
 }

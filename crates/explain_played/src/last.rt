@@ -7,7 +7,7 @@ ghost use Rattle.listing.specs.Expressions.{word_range};
 ghost use Rattle.session_trace_lines.specs.Figures.{below_answer};
 ghost use Rattle.explain_played.specs.Endings.{LastStep, number_in, leading_figure};
 
-use explain_parts::part_after;
+use explain_parts::part_of;
 use session_replay::{Advanced, Phase, advance};
 use session_trace_lines::figure::{Bounded, MOST_32, figure_up_to};
 
@@ -72,8 +72,5 @@ fn number_in(piece: &[u8]) -> u32
 pub fn leading_figure(line: &[u8]) -> u32
     ensures { result ≡ leading_figure line.now }
 {
-    let part = part_after(line, b'\t', 1);
-    let from = part.from;
-    let to = part.to;
-    number_in(&line[from..to])
+    number_in(part_of(line, b'\t', 1))
 }

@@ -9,18 +9,18 @@ use lib.ListN.{length, get_or, take, drop, length-drop}
 use lib.Seq.{length-take-le}
 use Rattle.listing.specs.Bytes.{Bytes, split}
 use Rattle.explain_parts.specs.Parts.{first_part_lem, part_end}
-use Rattle.explain_parts.proofs.Parts.{parts_on, parts_last, part_taken}
-use Rattle.explain_lines.proofs.Lines.{few_fields}
+use Rattle.explain_parts.proofs.Parts.{parts_on, parts_last, part_taken, few_parts}
 use Rattle.explain_reasons.specs.Tallies.{Small, nothing, tally_line, tallied, tally_of}
 use Rattle.explain_reasons.specs.Faults.{unclosed_why}
+use Rattle.explain_fields.specs.declared.reasons.Reason.TheVariants as WV
 use Rattle.explain_reasons.specs.declared.tally.Tally.{Tally}
 
-pub empty_text : (s : Bytes) → length s ≡ 0 → 20 ≡ unclosed_why s
+pub empty_text : (s : Bytes) → length s ≡ 0 → WV.EmptyListing ≡ unclosed_why s
 unfolding unclosed_why
 empty_text [] e = refl
 empty_text (b ∷ s) e = absurd (let z : ⊥ = omega (arith, e) in z)
 
-pub some_text : (s : Bytes) → (length s ≡ 0 → ⊥) → 19 ≡ unclosed_why s
+pub some_text : (s : Bytes) → (length s ≡ 0 → ⊥) → WV.NoLineFeed ≡ unclosed_why s
 unfolding unclosed_why
 some_text [] n = absurd (n refl)
 some_text (b ∷ s) n = refl
@@ -54,7 +54,7 @@ bounded_on held at line b = go (eqb (get_or line 0 0) 80) (eqb (get_or line 0 0)
           bytes = omega (arith, b.bytes);
           routines = omega (arith, b.routines);
           instructions = omega (arith, b.instructions);
-          pieces = omega (arith, b.pieces, few_fields 9 line, few_fields 32 line);
+          pieces = omega (arith, b.pieces, few_parts 9 line, few_parts 32 line);
         }
 
 -- the lines from an offset on add what is left
@@ -96,12 +96,12 @@ module _ (s : Bytes) (lines at left : ℕ) (held : Tally) (v : Tallying s lines 
         go zero more i = absurd (let z : ⊥ = omega (arith, more) in z)
         go (suc n) more i = sym (ap (tallied held (suc n)) (parts_last 10 s at end v.inside e h) ∙ one_line n [] ∙ none_left n) ∙ i
 
-    pub tallying_on : end < length s → 0 < left → Tallying s lines (end + 1) (left - 1) t
-    tallying_on h more =
+    pub tallying_on : end < length s → 0 < left → (less : ℕ) → less ≡ left - 1 → Tallying s lines (end + 1) less t
+    tallying_on h more less e' =
         record {
           inside = omega (arith, h);
           bounded = bound;
-          same = go left more v.same;
+          same = ap (λ (k : ℕ). tallied t k (split 10 (drop (end + 1) s))) e' ∙ go left more v.same;
         }
       where
         size : length (take (end - at) (drop at s)) ≡ end - at

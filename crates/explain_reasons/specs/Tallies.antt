@@ -4,7 +4,8 @@ use Rattle.std.specs.Prelude.{cond, List, [], ◌∷◌, ℕ, zero, suc, ◌+◌
 use Prim.Native.Char.{code}
 use Rattle.listing.specs.Bytes.{Bytes, tab, line_feed, space, split}
 use Rattle.listing.specs.Limits.{byte_limit, routine_limit, instruction_limit, piece_limit}
-use Rattle.explain_fields.specs.Reasons.{many_bytes, many_routines, many_names, many_instructions, many_pieces}
+use Rattle.explain_fields.specs.declared.reasons.Reason.{Reason}
+use Rattle.explain_fields.specs.declared.reasons.Reason.TheVariants as WV
 use Rattle.explain_reasons.specs.declared.tally.Tally.{Tally}
 
 -- few enough to be counted on
@@ -41,13 +42,13 @@ abbrev pub tally_of : Bytes → ℕ → Tally
 tally_of text lines = tallied nothing lines (split line_feed text)
 
 -- which limit is passed; if no other is, that of names
-unfoldable pub limit_of : Tally → ℕ
+unfoldable pub limit_of : Tally → Reason
 limit_of held =
-    cond (ltb byte_limit held.bytes) many_bytes
-    (cond (ltb routine_limit held.routines) many_routines
-    (cond (ltb instruction_limit held.instructions) many_instructions
-    (cond (ltb piece_limit held.pieces) many_pieces many_names)))
+    cond (ltb byte_limit held.bytes) WV.ManyBytes
+    (cond (ltb routine_limit held.routines) WV.ManyRoutines
+    (cond (ltb instruction_limit held.instructions) WV.ManyInstructions
+    (cond (ltb piece_limit held.pieces) WV.ManyPieces WV.ManyNames)))
 
 -- "Limits (the place is the line that passes one)"
-abbrev pub limit_why : Bytes → ℕ → ℕ
+abbrev pub limit_why : Bytes → ℕ → Reason
 limit_why text place = limit_of (tally_of text place)

@@ -2,9 +2,7 @@
 ghost use Rattle.std.specs.Prelude.{◌≡◌, ◌≤◌, length};
 ghost use Rattle.explain_reasons.specs.Tallies.{Small, tally_line, tally_of, limit_why, limit_of};
 
-use explain_fields::reasons::{
-    MANY_BYTES, MANY_INSTRUCTIONS, MANY_NAMES, MANY_PIECES, MANY_ROUTINES,
-};
+use explain_fields::Reason;
 use explain_lines::letter::first_byte;
 use explain_parts::{count_parts, part_end};
 
@@ -24,26 +22,20 @@ fn tally_line(held: Tally, line: &[u8]) -> Tally
     let bytes = held.bytes + line.len() + 1;
     let letter = first_byte(line);
     if letter == b'P' {
-        return Tally {
-            bytes: bytes,
-            routines: held.routines,
-            instructions: held.instructions,
-            pieces: held.pieces,
-        };
+        return Tally { bytes, ..held };
     }
     if letter == b'R' {
         return Tally {
-            bytes: bytes,
+            bytes,
             routines: held.routines + 1,
-            instructions: held.instructions,
-            pieces: held.pieces,
+            ..held
         };
     }
     Tally {
-        bytes: bytes,
-        routines: held.routines,
+        bytes,
         instructions: held.instructions + 1,
         pieces: held.pieces + (count_parts(line, b'\t') - 1) + (count_parts(line, b' ') - 1),
+        ..held
     }
 }
 
@@ -53,46 +45,44 @@ fn tally_lines(listing: &[u8], lines: usize) -> Tally
     ensures { result ≡ tally_of listing.now lines }
 {
     let mut at: usize = 0;
-    let mut left = lines;
     let mut held = Tally {
         bytes: 0,
         routines: 0,
         instructions: 0,
         pieces: 0,
     };
-    while left > 0 {
+    for done in 0..lines {
         let end = part_end(listing, b'\n', at);
         held = tally_line(held, &listing[at..end]);
         if end == listing.len() {
             return held;
         }
         at = end + 1;
-        left -= 1;
     }
     held
 }
 
 // Which limit is passed; if no other is, that of names.
-fn limit_of(held: Tally) -> u32
+fn limit_of(held: Tally) -> Reason
     ensures { result ≡ limit_of held }
 {
     if held.bytes > 49152 {
-        return MANY_BYTES;
+        return Reason::ManyBytes;
     }
     if held.routines > 64 {
-        return MANY_ROUTINES;
+        return Reason::ManyRoutines;
     }
     if held.instructions > 512 {
-        return MANY_INSTRUCTIONS;
+        return Reason::ManyInstructions;
     }
     if held.pieces > 4096 {
-        return MANY_PIECES;
+        return Reason::ManyPieces;
     }
-    MANY_NAMES
+    Reason::ManyNames
 }
 
 // Which limit a line passes.
-pub fn limit_why(listing: &[u8], place: usize) -> u32
+pub fn limit_why(listing: &[u8], place: usize) -> Reason
     requires { length listing.now ≤ 100000 }
     ensures { result ≡ limit_why listing.now place }
 {

@@ -5,6 +5,6 @@ pub mod reason;
 pub mod sentences;
 pub mod spot;
 
-pub use reason::{put_allowed, put_reason};
+pub use reason::{put_line, put_reason, put_with_figure, sentence, strange_sentence};
 pub use sentences::put_sentence;
-pub use spot::put_fault;
+pub use spot::{put_fault, put_spot};

@@ -12,13 +12,12 @@ use Rattle.listing.specs.Bytes.{Bytes, split}
 use Rattle.listing.specs.Lists.{is_some}
 use Rattle.listing.specs.Expressions.{bind, when}
 use Rattle.listing.specs.Form.{fields_of, next_field_lem, none_left_lem, read_number}
-use Rattle.explain_parts.specs.Parts.{first_part_lem}
-use Rattle.explain_fields.specs.Pieces.{why_bad}
+use Rattle.std.specs.Option.{is_none}
 use Rattle.schedule.specs.Calendar.{is_real_date}
 use Rattle.schedule.specs.Schedule.{is_window}
 use Rattle.schedule.specs.Form.{date_fields, window_fields, read_date, read_window}
-use Rattle.explain_schedule.specs.Lines.{count_why, figures_fault, date_fault, window_fault}
-use Rattle.explain_schedule.proofs.Numbers.{Fielded, unread, read, fielded, bad_reason, date_numbers, window_numbers}
+use Rattle.explain_schedule.specs.Lines.{figures_fault, date_fault, window_fault}
+use Rattle.explain_schedule.proofs.Numbers.{Fielded, unread, read, fielded, date_numbers, window_numbers}
 
 -- ── readings that fail ───────────────────────────────────────────────────────────
 fails : {A B : Type 0} (o : Option A) (next : A → Option B) → ((a : A) → next a ≡ none) → bind o next ≡ none
@@ -29,30 +28,20 @@ tested : {A : Type 0} (t : Bool) (a : A) → is_some (when t a) ≡ t
 tested true a = refl
 tested false a = refl
 
--- too few or too many fields are a reason
-module _ (why : ℕ) (some-reason : eqb why 0 ≡ false) (line : Bytes) where
-  count_reason : eqb (count_why why line) 0 ≡ false
-  unfolding count_why
-  count_reason = go (ltb (length (first_part_lem 32 line)) (length line))
-    where
-      go : (t : Bool) → eqb (cond t 4 (why_bad why line)) 0 ≡ false
-      go true = refl
-      go false = bad_reason why some-reason line
-
 -- ── the date's line ──────────────────────────────────────────────────────────────
 module _ (line : Bytes) where
   abbrev Decided : Type 0
-  Decided = eqb (date_fault line).why 0 ≡ is_some (read_date line)
+  Decided = is_none (date_fault line) ≡ is_some (read_date line)
 
   miscounted : (parts : List Bytes) → split 9 line ≡ parts → (length parts ≡ 3 → ⊥) → date_fields (map (split 32) parts) ≡ none → Decided
   unfolding date_fault read_date fields_of
-  miscounted parts e n bad = rw (e, ne_eqb (length parts) 3 n, bad) (count_reason 5 refl line)
+  miscounted parts e n bad = rw (e, ne_eqb (length parts) 3 n, bad)
 
   three : (a b d : Bytes) → split 9 line ≡ a ∷ b ∷ d ∷ [] → Fielded a → Fielded b → Fielded d → Decided
   unfolding date_fault read_date fields_of figures_fault next_field_lem none_left_lem
-  three a b d e (unread p q) y z = simp (e, p, q)
-  three a b d e (read y p q v) (unread p2 q2) z = simp (e, p, q, p2, q2)
-  three a b d e (read y p q v) (read m p2 q2 v2) (unread p3 q3) = simp (e, p, q, p2, q2, p3, q3)
+  three a b d e (unread u p q) y z = simp (e, p, q)
+  three a b d e (read y p q v) (unread u p2 q2) z = simp (e, p, q, p2, q2)
+  three a b d e (read y p q v) (read m p2 q2 v2) (unread u p3 q3) = simp (e, p, q, p2, q2, p3, q3)
   three a b d e (read y p q v) (read m p2 q2 v2) (read n p3 q3 v3) =
       simp (e, p, q, p2, q2, p3, q3, v, v2, v3) (date_numbers y m n ∙ sym (tested (is_real_date (record { year = y; month = m; day = n })) _))
 
@@ -73,18 +62,18 @@ module _ (line : Bytes) where
 -- ── a window's line ──────────────────────────────────────────────────────────────
 module _ (line : Bytes) where
   abbrev Settled : Type 0
-  Settled = eqb (window_fault line).why 0 ≡ is_some (read_window line)
+  Settled = is_none (window_fault line) ≡ is_some (read_window line)
 
   misnumbered : (parts : List Bytes) → split 9 line ≡ parts → (length parts ≡ 4 → ⊥) → window_fields (map (split 32) parts) ≡ none → Settled
   unfolding window_fault read_window fields_of
-  misnumbered parts e n bad = rw (e, ne_eqb (length parts) 4 n, bad) (count_reason 6 refl line)
+  misnumbered parts e n bad = rw (e, ne_eqb (length parts) 4 n, bad)
 
   four : (a b d f : Bytes) → split 9 line ≡ a ∷ b ∷ d ∷ f ∷ [] → Fielded a → Fielded b → Fielded d → Fielded f → Settled
   unfolding window_fault read_window fields_of figures_fault next_field_lem none_left_lem
-  four a b d f e (unread p q) x y z = simp (e, p, q)
-  four a b d f e (read i p q v) (unread p2 q2) y z = simp (e, p, q, p2, q2)
-  four a b d f e (read i p q v) (read w p2 q2 v2) (unread p3 q3) z = simp (e, p, q, p2, q2, p3, q3)
-  four a b d f e (read i p q v) (read w p2 q2 v2) (read o p3 q3 v3) (unread p4 q4) = simp (e, p, q, p2, q2, p3, q3, p4, q4)
+  four a b d f e (unread u p q) x y z = simp (e, p, q)
+  four a b d f e (read i p q v) (unread u p2 q2) y z = simp (e, p, q, p2, q2)
+  four a b d f e (read i p q v) (read w p2 q2 v2) (unread u p3 q3) z = simp (e, p, q, p2, q2, p3, q3)
+  four a b d f e (read i p q v) (read w p2 q2 v2) (read o p3 q3 v3) (unread u p4 q4) = simp (e, p, q, p2, q2, p3, q3, p4, q4)
   four a b d f e (read i p q v) (read w p2 q2 v2) (read o p3 q3 v3) (read c p4 q4 v4) =
       simp (e, p, q, p2, q2, p3, q3, p4, q4, v, v2, v3, v4)
       (window_numbers i w o c ∙ sym (tested (is_window (record { input = i; weekday = w; opening = o; closing = c })) _))

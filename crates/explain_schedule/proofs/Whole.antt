@@ -13,7 +13,8 @@ use Rattle.listing.specs.Questions.{closed_lines, unclosed, is_closed}
 use Rattle.listing.proofs.Splits.{split_has_part}
 use Rattle.explain_parts.specs.Parts.{part_of}
 use Rattle.schedule.specs.Form.{read_window, line_answers, place19}
-use Rattle.explain_schedule.specs.Faults.{line_fault, unclosed_why, fault_at, schedule_fault}
+use Rattle.explain_schedule.specs.Faults.{line_fault, fault_at, schedule_fault}
+use Rattle.std.specs.Option.{is_none}
 use Rattle.explain_schedule.proofs.Complete.{date_complete, window_complete}
 
 -- ── the first answer that is no: one of these, or the one behind them ────────────
@@ -58,18 +59,12 @@ mapped_at (line ∷ lines) zero h = refl
 mapped_at (line ∷ lines) (suc i) h = mapped_at lines i (omega (arith, h))
 
 -- a line where the answer is no has a reason
-line_reason_lem : (lines : List Bytes) (i : ℕ) → i < length lines → get_or (line_answers lines) i true ≡ false → eqb (line_fault (1 + i) (get_or lines i [])).why 0 ≡ false
+line_reason_lem : (lines : List Bytes) (i : ℕ) → i < length lines → get_or (line_answers lines) i true ≡ false → is_none (line_fault (1 + i) (get_or lines i [])) ≡ false
 unfolding line_answers line_fault
 line_reason_lem [] i h e = absurd (let z : ⊥ = omega (arith, h) in z)
 line_reason_lem (line ∷ lines) zero h e = date_complete line ∙ e
 line_reason_lem (line ∷ lines) (suc i) h e =
     rw (ne_eqb (1 + suc i) 1 (λ z. omega (arith, z))) (window_complete (get_or lines i []) ∙ sym (mapped_at lines i (omega (arith, h))) ∙ e)
-
--- what is not closed is a reason
-unclosed_reason : (text : Bytes) → eqb (unclosed_why text) 0 ≡ false
-unfolding unclosed_why
-unclosed_reason [] = refl
-unclosed_reason (b ∷ text) = refl
 
 -- ── a text ───────────────────────────────────────────────────────────────────────
 module _ (text : Bytes) where
@@ -83,11 +78,11 @@ module _ (text : Bytes) where
     abbrev here : Bytes
     here = part_of 10 text (place - 1)
 
-    has_reason : FirstNo 1 (line_answers lines) place → eqb (fault_at text place here).why 0 ≡ false
+    has_reason : FirstNo 1 (line_answers lines) place → is_none (fault_at text place here) ≡ false
     unfolding fault_at
     has_reason (behind is) =
         let past : length (split 10 text) ≤ place = omega (arith, is, parts_count, answers_length lines) in
-        rw (le-leb _ _ past) (unclosed_reason text)
+        rw (le-leb _ _ past)
     has_reason (at_line i is h no-there) =
         let inside : i < length lines = omega (arith, h, answers_length lines) in
         let before_end : place < length (split 10 text) = omega (arith, is, parts_count, inside) in
@@ -99,11 +94,11 @@ module _ (text : Bytes) where
   unfolding place19
   asked = refl
 
-  pub schedule_complete : eqb (schedule_fault text).why 0 ≡ eqb (place19 text) 0
+  pub schedule_complete : is_none (schedule_fault text) ≡ eqb (place19 text) 0
   unfolding schedule_fault
   schedule_complete = go (eqb (place19 text) 0) refl
     where
-      go : (t : Bool) → eqb (place19 text) 0 ≡ t → eqb (schedule_fault text).why 0 ≡ eqb (place19 text) 0
+      go : (t : Bool) → eqb (place19 text) 0 ≡ t → is_none (schedule_fault text) ≡ eqb (place19 text) 0
       go true e = rw e
       go false e =
           let n : place19 text ≡ 0 → ⊥ = eqb-false (place19 text) 0 e in

@@ -1,4 +1,3 @@
-pub mod Reasons
 pub mod Ranges
 pub mod Lines
 pub mod Faults

@@ -7,4 +7,4 @@ pub mod ranges;
 pub mod reasons;
 
 pub use place::{reason_at, refused_line};
-pub use ranges::LineFault;
+pub use reasons::Reason;

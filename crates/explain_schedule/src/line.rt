@@ -1,12 +1,14 @@
 // Why a line is no date's and no window's.
 ghost use Rattle.std.specs.Prelude.{◌≡◌, ◌≤◌, length};
 ghost use Rattle.text_piece.specs.Pieces.{figure_answer};
-ghost use Rattle.explain_schedule.specs.Lines.{count_why, figures_fault, value_in, number_at, date_fault, window_fault};
+ghost use Rattle.explain_schedule.specs.Lines.{count_why, formed, figures_fault, value_in, number_at, date_fault, window_fault};
 
-use crate::ranges::{LineFault, about, date_range, fine, window_range};
-use crate::reasons::{DATE_COUNT, FINE, SPACES_FOR_TABS, WINDOW_COUNT};
-use explain_fields::{Role, field_fault, why_bad};
-use explain_parts::{count_parts, part_after, part_end};
+use crate::ranges::{date_range, window_range};
+use crate::reasons::Reason;
+use explain_fields::{
+    Fault, Found, Reason as FormReason, Role, about, fault_in, field_fault, strange_field,
+};
+use explain_parts::{count_parts, part_of};
 use text_piece::{Figure, figure_of};
 
 // The fields of a date, year, month and day; and of a window, input, weekday, opening and closing minute.
@@ -15,37 +17,41 @@ const DATE_FIELDS: usize = 3;
 const WINDOW_FIELDS: usize = 4;
 
 // Why a line has too few or too many fields.
-fn count_why(why: u32, line: &[u8]) -> u32
+fn count_why(why: Reason, line: &[u8]) -> Reason
     ensures { result ≡ count_why why line.now }
 {
-    if part_end(line, b' ', 0) < line.len() {
-        return SPACES_FOR_TABS;
+    match strange_field(line) {
+        Some(strange) => Reason::Form(FormReason::Strange(strange)),
+        None => why,
     }
-    why_bad(line, why)
+}
+
+// What is wrong in a field, as a fault of the line.
+fn formed(found: Found, field: usize) -> Fault<Reason>
+    ensures { result ≡ formed found field }
+{
+    let fault = fault_in(found, field);
+    Fault {
+        why: Reason::Form(fault.why),
+        spot: fault.spot,
+    }
 }
 
 // The first of so many fields that is no figure.
-fn figures_fault(line: &[u8], count: usize) -> LineFault
+fn figures_fault(line: &[u8], count: usize) -> Option<Fault<Reason>>
     requires { (length line.now ≤ 100000) × (count ≤ 200000) }
     ensures { result ≡ figures_fault line.now 0 count }
 {
-    let mut before: usize = 0;
-    while before < count {
-        let part = part_after(line, b'\t', before);
-        let from = part.from;
-        let to = part.to;
-        let found = field_fault(&line[from..to], Role::Number);
-        if found.why != FINE {
-            return LineFault {
-                why: found.why,
-                field: before + 1,
-                piece: found.piece,
-                allowed: 0,
-            };
+    for before in 0..count {
+        let field = part_of(line, b'\t', before);
+        match field_fault(field, Role::Number) {
+            Some(found) => {
+                return Some(formed(found, before + 1));
+            }
+            None => {}
         }
-        before += 1;
     }
-    fine()
+    None
 }
 
 // The number of a figure; 0 for none.
@@ -63,38 +69,33 @@ fn figure_value(piece: &[u8]) -> u64
 fn number_at(line: &[u8], before: usize) -> u64
     ensures { result ≡ number_at line.now before }
 {
-    let part = part_after(line, b'\t', before);
-    let from = part.from;
-    let to = part.to;
-    figure_value(&line[from..to])
+    figure_value(part_of(line, b'\t', before))
 }
 
 // Why a line is no date's.
-pub fn date_fault(line: &[u8]) -> LineFault
+pub fn date_fault(line: &[u8]) -> Option<Fault<Reason>>
     requires { length line.now ≤ 100000 }
     ensures { result ≡ date_fault line.now }
 {
     if count_parts(line, b'\t') != DATE_FIELDS {
-        return about(count_why(DATE_COUNT, line));
+        return Some(about(count_why(Reason::DateCount, line)));
     }
-    let fault = figures_fault(line, DATE_FIELDS);
-    if fault.why != FINE {
-        return fault;
+    if let Some(fault) = figures_fault(line, DATE_FIELDS) {
+        return Some(fault);
     }
     date_range(number_at(line, 0), number_at(line, 1), number_at(line, 2))
 }
 
 // Why a line is no window's.
-pub fn window_fault(line: &[u8]) -> LineFault
+pub fn window_fault(line: &[u8]) -> Option<Fault<Reason>>
     requires { length line.now ≤ 100000 }
     ensures { result ≡ window_fault line.now }
 {
     if count_parts(line, b'\t') != WINDOW_FIELDS {
-        return about(count_why(WINDOW_COUNT, line));
+        return Some(about(count_why(Reason::WindowCount, line)));
     }
-    let fault = figures_fault(line, WINDOW_FIELDS);
-    if fault.why != FINE {
-        return fault;
+    if let Some(fault) = figures_fault(line, WINDOW_FIELDS) {
+        return Some(fault);
     }
     let input = number_at(line, 0);
     let weekday = number_at(line, 1);

@@ -4,8 +4,8 @@ ghost use Rattle.schedule.specs.Form.{place19};
 ghost use Rattle.explain_schedule.specs.Faults.{line_fault, unclosed_why, fault_at};
 
 use crate::line::{date_fault, window_fault};
-use crate::ranges::{LineFault, about};
-use crate::reasons::{NO_DATE, NO_LINE_FEED};
+use crate::reasons::Reason;
+use explain_fields::{Fault, about};
 use explain_parts::count_parts;
 use schedule_read::read_schedule;
 
@@ -18,7 +18,7 @@ pub fn refused_line(text: &[u8]) -> usize
 }
 
 // Why a line is refused: line 1 is the date's.
-fn line_fault(place: usize, line: &[u8]) -> LineFault
+fn line_fault(place: usize, line: &[u8]) -> Option<Fault<Reason>>
     requires { length line.now ≤ 100000 }
     ensures { result ≡ line_fault place line.now }
 {
@@ -29,22 +29,22 @@ fn line_fault(place: usize, line: &[u8]) -> LineFault
 }
 
 // Why a text is not closed.
-fn unclosed_why(text: &[u8]) -> u32
+fn unclosed_why(text: &[u8]) -> Reason
     ensures { result ≡ unclosed_why text.now }
 {
     if text.len() == 0 {
-        return NO_DATE;
+        return Reason::NoDate;
     }
-    NO_LINE_FEED
+    Reason::NoLineFeed
 }
 
 // The reason at a place, whose line is lent too.
-pub fn reason_at(text: &[u8], place: usize, line: &[u8]) -> LineFault
+pub fn reason_at(text: &[u8], place: usize, line: &[u8]) -> Option<Fault<Reason>>
     requires { (length text.now ≤ 100000) × (length line.now ≤ 100000) }
     ensures { result ≡ fault_at text.now place line.now }
 {
     if count_parts(text, b'\n') <= place {
-        return about(unclosed_why(text));
+        return Some(about(unclosed_why(text)));
     }
     line_fault(place, line)
 }

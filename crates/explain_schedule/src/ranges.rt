@@ -1,8 +1,9 @@
 // Why the numbers of a line are no date or no window.
 ghost use Rattle.std.specs.Prelude.{◌≡◌};
-ghost use Rattle.explain_schedule.specs.Ranges.{faultless, about, outside, date_range, window_range};
+ghost use Rattle.explain_schedule.specs.Ranges.{outside, date_range, window_range};
 
-use crate::reasons::{FINE, NO_DAY, NO_INPUT, NO_MINUTE, NO_MONTH, NO_WEEKDAY, NO_YEAR, NOT_BELOW};
+use crate::reasons::Reason;
+use explain_fields::{Fault, Spot};
 use schedule_calendar::month_days;
 
 // "year 2000 to 2199"
@@ -19,90 +20,60 @@ const WEEKDAYS: u64 = 7;
 
 const DAY_MINUTES: u64 = 1440;
 
-// The reason, 0 if there is none; the field and its piece, each from 1, 0 if it is about the whole line; the figure behind the reason.
-#[derive(Clone, Copy)]
-pub struct LineFault {
-    pub why: u32,
-    pub field: usize,
-    pub piece: usize,
-    pub allowed: u64,
-}
-
-// Nothing is wrong.
-pub fn fine() -> LineFault
-    ensures { result ≡ faultless }
+// A number that is wrong: the only piece of its field.
+fn outside(why: Reason, field: usize) -> Fault<Reason>
+    ensures { result ≡ outside why field }
 {
-    about(FINE)
-}
-
-// A reason that is about a whole line.
-pub fn about(why: u32) -> LineFault
-    ensures { result ≡ about why }
-{
-    LineFault {
+    Fault {
         why,
-        field: 0,
-        piece: 0,
-        allowed: 0,
-    }
-}
-
-// A number that is wrong.
-fn outside(why: u32, field: usize, allowed: u64) -> LineFault
-    ensures { result ≡ outside why field allowed }
-{
-    LineFault {
-        why,
-        field,
-        piece: 1,
-        allowed,
+        spot: Spot::Piece(field, 1),
     }
 }
 
 // The numbers of a date.
-pub fn date_range(year: u64, month: u64, day: u64) -> LineFault
+pub fn date_range(year: u64, month: u64, day: u64) -> Option<Fault<Reason>>
     ensures { result ≡ date_range year month day }
 {
     if year < FIRST_YEAR {
-        return outside(NO_YEAR, 1, 0);
+        return Some(outside(Reason::NoYear, 1));
     }
     if year > LAST_YEAR {
-        return outside(NO_YEAR, 1, 0);
+        return Some(outside(Reason::NoYear, 1));
     }
     if month < 1 {
-        return outside(NO_MONTH, 2, 0);
+        return Some(outside(Reason::NoMonth, 2));
     }
     if month > MONTHS {
-        return outside(NO_MONTH, 2, 0);
+        return Some(outside(Reason::NoMonth, 2));
     }
     let days = month_days(year, month);
     if day < 1 {
-        return outside(NO_DAY, 3, days);
+        return Some(outside(Reason::NoDay(days), 3));
     }
     if day > days {
-        return outside(NO_DAY, 3, days);
+        return Some(outside(Reason::NoDay(days), 3));
     }
-    fine()
+    None
 }
 
 // The numbers of a window.
-pub fn window_range(input: u64, weekday: u64, opening: u64, closing: u64) -> LineFault
+pub fn window_range(input: u64, weekday: u64, opening: u64, closing: u64) -> Option<Fault<Reason>>
     ensures { result ≡ window_range input weekday opening closing }
 {
     if input >= INPUTS {
-        return outside(NO_INPUT, 1, 0);
+        return Some(outside(Reason::NoInput, 1));
     }
     if weekday < 1 {
-        return outside(NO_WEEKDAY, 2, 0);
+        return Some(outside(Reason::NoWeekday, 2));
     }
     if weekday > WEEKDAYS {
-        return outside(NO_WEEKDAY, 2, 0);
+        return Some(outside(Reason::NoWeekday, 2));
     }
     if closing > DAY_MINUTES {
-        return outside(NO_MINUTE, 4, 0);
+        return Some(outside(Reason::NoMinute, 4));
     }
     if opening >= closing {
-        return outside(NOT_BELOW, 3, closing);
+        return Some(outside(Reason::NotBelow(closing), 3));
     }
-    fine()
+    None
 }

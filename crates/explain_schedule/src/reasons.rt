@@ -1,26 +1,27 @@
-// The numbers of the reasons; specs/Reasons says what each is of. Up to 4, 8 and 9 they are those of explain_fields.
-pub const FINE: u32 = 0;
+// The reasons why question 19 says no at a line of a schedule (document 02, Change 5).
+use explain_fields::Reason as FormReason;
 
-pub const SPACES_FOR_TABS: u32 = 4;
-
-pub const DATE_COUNT: u32 = 5;
-
-pub const WINDOW_COUNT: u32 = 6;
-
-pub const NO_DATE: u32 = 7;
-
-pub const NO_LINE_FEED: u32 = 10;
-
-pub const NO_YEAR: u32 = 11;
-
-pub const NO_MONTH: u32 = 12;
-
-pub const NO_INPUT: u32 = 13;
-
-pub const NO_WEEKDAY: u32 = 14;
-
-pub const NO_MINUTE: u32 = 15;
-
-pub const NO_DAY: u32 = 16;
-
-pub const NOT_BELOW: u32 = 17;
+#[derive(Clone, Copy, Debug, PartialEq, Eq)]
+pub enum Reason {
+    // "lines in the listing's style": those of a listing's line or field
+    Form(FormReason),
+    // "in three such fields the Gregorian date (year 2000 to 2199, month, day)"
+    DateCount,
+    // "input number, weekday .., opening and closing minute .., parted by tabs"
+    WindowCount,
+    // "A first line (19 without it)"
+    NoDate,
+    // "each line closed by a line feed"
+    NoLineFeed,
+    // "an input below 16, and a real date or minute"
+    NoYear,
+    NoMonth,
+    NoInput,
+    // "weekday 1 (Monday) to 7"
+    NoWeekday,
+    // "opening and closing minute, 0 to 1,440 with opening below closing"
+    NoMinute,
+    // with the days of the month, and with the closing minute
+    NoDay(u64),
+    NotBelow(u64),
+}

@@ -4,26 +4,11 @@ use mathlib.Core.List.{[]}
 use Prim.Native.Nat.{ℕ, ◌-◌, ◌≤◌, ◌<◌}
 use lib.ListN.{length}
 use borrow.Author.Tests.{lt-ltb, le-ltb, eq-eqb, ne_eqb}
-use Rattle.listing.specs.Bytes.{Bytes, bytes_of, split, extend, join, figure}
+use Rattle.listing.specs.Bytes.{Bytes, bytes_of}
 use Rattle.explain_parts.specs.Parts.{part_of}
 use Rattle.schedule.specs.Form.{place19}
 use Rattle.explain_schedule.specs.Faults.{fault_at, schedule_fault}
-use Rattle.explain_schedule_said.specs.Reasons.{reason_texts, reason_text, joined_reasons, allowed_text}
 use Rattle.explain_schedule_said.specs.Said.{plain_text, refused_text, schedule_text}
-
--- the lines of the joined sentences are the sentences
-pub reason_by_line : (t : Bytes) (k : ℕ) → t ≡ joined_reasons → part_of 10 t k ≡ reason_text k
-unfolding joined_reasons reason_texts bytes_of split extend join
-reason_by_line t k e = ap (λ (l : Bytes). part_of 10 l k) e
-
--- ── the figure behind a reason ───────────────────────────────────────────────────
-pub no_figure : (why allowed : ℕ) → why < 16 → [] ≡ allowed_text why allowed
-unfolding allowed_text
-no_figure why allowed h = rw (lt-ltb why 16 h)
-
-pub some_figure : (why allowed : ℕ) → 16 ≤ why → figure allowed ≡ allowed_text why allowed
-unfolding allowed_text
-some_figure why allowed h = rw (le-ltb why 16 h)
 
 -- ── a schedule ───────────────────────────────────────────────────────────────────
 module _ (path text : Bytes) where

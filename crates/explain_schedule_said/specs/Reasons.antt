@@ -1,49 +1,42 @@
--- The sentences of the reasons, by their number (explain_schedule specs Reasons names the numbers), and the rule of question 19 (document 02, Change 5).
-use Rattle.std.specs.Prelude.{cond, List, [], ◌∷◌, ◌++◌, map, ℕ, ltb, get_or}
+-- The sentences of the reasons (explain_schedule `Reason` has the words of document 02 that each renders), and the rule of question 19 (document 02, Change 5).
+use Rattle.std.specs.Prelude.{◌++◌, ℕ, Option, Some, None}
 use Prim.Native.String.{String}
-use Rattle.listing.specs.Bytes.{Bytes, bytes_of, line_feed, join, figure}
-use Rattle.explain_schedule.specs.Reasons.{no_day}
+use Rattle.listing.specs.Bytes.{Bytes, bytes_of}
+use Rattle.explain_fields.specs.declared.reasons.Fault.{Fault}
+use Rattle.explain_said.specs.Reasons.{with_figure}
+use Rattle.explain_said.specs.Reasons as Form
+use Rattle.explain_said.specs.Spots.{spot_text}
+use Rattle.explain_schedule.specs.declared.reasons.Reason.{Reason}
+use Rattle.explain_schedule.specs.declared.reasons.Reason.TheVariants as WV
 
--- from 0, which is no reason
-abbrev pub sentences : List String
-sentences =
-    "nothing is wrong"
-    ∷ "nothing stands here: the line is blank, two tabs or spaces follow each other, or one ends the line"
-    ∷ "a carriage return stands here: a line ends in a line feed alone"
-    ∷ "a byte that is not ASCII stands here"
-    ∷ "spaces stand where tabs belong: one tab parts two fields"
-    ∷ "the number of fields is wrong: line 1 is a date and has 3, year, month and day"
-    ∷ "the number of fields is wrong: a window has 4, input, weekday, opening and closing minute"
-    ∷ "the schedule is empty: line 1 is the date on which moment 0 is midnight"
-    ∷ "this is no figure: digits alone, no zero in front, no sign"
-    ∷ "one piece alone stands in this field: a space parts it in two"
-    ∷ "the last line lacks its line feed"
-    ∷ "no such year: they go from 2000 to 2199"
-    ∷ "no such month: they go from 1 to 12"
-    ∷ "no such input: they are numbered from 0 to 15"
-    ∷ "no such weekday: they go from 1, Monday, to 7, Sunday"
-    ∷ "no such closing minute: a window closes at 1,440, midnight, at the latest"
-    ∷ "no such day: they are numbered from 1; this month has "
-    ∷ "this opening minute is not below the closing minute, which is "
-    ∷ []
+abbrev pub sentence : Reason → String
+sentence (WV.Form why) = Form.sentence why
+sentence WV.DateCount = "the number of fields is wrong: line 1 is a date and has 3, year, month and day"
+sentence WV.WindowCount = "the number of fields is wrong: a window has 4, input, weekday, opening and closing minute"
+sentence WV.NoDate = "the schedule is empty: line 1 is the date on which moment 0 is midnight"
+sentence WV.NoLineFeed = "the last line lacks its line feed"
+sentence WV.NoYear = "no such year: they go from 2000 to 2199"
+sentence WV.NoMonth = "no such month: they go from 1 to 12"
+sentence WV.NoInput = "no such input: they are numbered from 0 to 15"
+sentence WV.NoWeekday = "no such weekday: they go from 1, Monday, to 7, Sunday"
+sentence WV.NoMinute = "no such closing minute: a window closes at 1,440, midnight, at the latest"
+sentence (WV.NoDay n) = "no such day: they are numbered from 1; this month has "
+sentence (WV.NotBelow n) = "this opening minute is not below the closing minute, which is "
 
-unfoldable pub reason_texts : List Bytes
-reason_texts = map bytes_of sentences
+-- behind these, the days of the month, the closing minute
+abbrev pub counted : Reason → Option ℕ
+counted (WV.NoDay days) = Some days
+counted (WV.NotBelow closing) = Some closing
+counted _ = None
 
--- the sentence of a reason; none for other numbers
-abbrev pub reason_text : ℕ → Bytes
-reason_text why = get_or reason_texts why []
+-- a reason, with the figure behind it
+abbrev pub reason_text : Reason → Bytes
+reason_text why = with_figure (bytes_of (sentence why)) (counted why)
 
--- behind the last two, the days of the month, the closing minute
-unfoldable pub allowed_text : ℕ → ℕ → Bytes
-allowed_text why allowed = cond (ltb why no_day) [] (figure allowed)
-
-unfoldable pub why_text : ℕ → ℕ → Bytes
-why_text why allowed = reason_text why ++ allowed_text why allowed
-
--- all of them, one to a line
-unfoldable pub joined_reasons : Bytes
-joined_reasons = join line_feed reason_texts
+-- what is wrong in a line, and where, or that nothing is
+abbrev pub fault_text : Bytes → Option (Fault Reason) → Bytes
+fault_text line (Some fault) = spot_text line fault.spot ++ reason_text fault.why
+fault_text line None = bytes_of "nothing is wrong"
 
 -- "19: has each line its form, an input below 16, and a real date or minute?"
 unfoldable pub rule : Bytes

@@ -1,22 +1,22 @@
 -- What is said of a schedule.
-use Rattle.std.specs.Prelude.{cond, ◌++◌, ℕ, ◌-◌, eqb, ltb, length}
+use Rattle.std.specs.Prelude.{cond, ◌++◌, ℕ, ◌-◌, eqb, ltb, length, Option}
 use Rattle.listing.specs.Bytes.{Bytes, bytes_of, line_feed}
 use Rattle.explain_parts.specs.Parts.{part_of}
 use Rattle.explain_parts.specs.Shown.{shown}
-use Rattle.explain_said.specs.Spots.{spot_text}
+use Rattle.explain_fields.specs.declared.reasons.Fault.{Fault}
 use Rattle.explain_trace_said.specs.Places.{place_text}
 use Rattle.schedule.specs.Form.{place19}
 use Rattle.explain_schedule.specs.Faults.{schedule_fault}
-use Rattle.explain_schedule.specs.declared.ranges.LineFault.{LineFault}
-use Rattle.explain_schedule_said.specs.Reasons.{why_text, question_text}
+use Rattle.explain_schedule.specs.declared.reasons.Reason.{Reason}
+use Rattle.explain_schedule_said.specs.Reasons.{fault_text, question_text}
 
 -- the reason at a line, the line as it is shown, and the rule
-unfoldable pub told_line : Bytes → LineFault → Bytes
+unfoldable pub told_line : Bytes → Option (Fault Reason) → Bytes
 told_line line fault =
-    spot_text line fault.field fault.piece ++ (why_text fault.why fault.allowed ++ (bytes_of "\n    " ++ (shown 120 line ++ question_text)))
+    fault_text line fault ++ (bytes_of "\n    " ++ (shown 120 line ++ question_text))
 
 -- a refusal: where (the first line has no lines before it), why, and its rule
-unfoldable pub refused_text : Bytes → Bytes → ℕ → LineFault → Bytes
+unfoldable pub refused_text : Bytes → Bytes → ℕ → Option (Fault Reason) → Bytes
 refused_text path text place fault = place_text 4096 path place ++ told_line (part_of line_feed text (place - 1)) fault
 
 -- a file's name and what is said of it

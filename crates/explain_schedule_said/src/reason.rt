@@ -1,61 +1,70 @@
 // The sentences of the reasons, and the rule of question 19. They are those of specs/Reasons, as the contracts say.
-ghost use Rattle.std.specs.Prelude.{◌+◌, ◌≤◌};
+ghost use Rattle.std.specs.Prelude.{◌≡◌, ◌+◌, ◌≤◌, length};
 ghost use Rattle.session_print.specs.Puts.{Puts};
-ghost use Rattle.explain_schedule_said.specs.Reasons.{reason_text, allowed_text, why_text, rule, question_text, usage_text};
+ghost use Rattle.listing.specs.Bytes.{bytes_of};
+ghost use Rattle.explain_schedule_said.specs.Reasons.{sentence, counted, reason_text, fault_text, rule, question_text, usage_text};
 
-use explain_said::reason::put_line;
-use explain_schedule::reasons::NO_DAY;
-use session_print::figure::put_figure;
+use explain_fields::Fault;
+use explain_said::{put_spot, put_with_figure, sentence as form_sentence};
+use explain_schedule::Reason;
 use test_cases::report::put_text;
 
-// The sentence of a reason by its number, put at a place; the place past it. None for other numbers.
-fn put_reason(out: &mut [u8], at: usize, why: u32) -> usize
-    requires { at ≤ 50000 }
-    ensures { Puts out.old at (reason_text why) out.new result × (result ≤ at + 4000) }
+// A reason's sentence, without the figure behind it.
+fn sentence(why: Reason) -> &'static [u8]
+    ensures is { result.now ≡ bytes_of (sentence why) }
+    ensures short { length result.now ≤ 200 }
 {
-    put_line(
-        out,
-        at,
-        b"nothing is wrong
-nothing stands here: the line is blank, two tabs or spaces follow each other, or one ends the line
-a carriage return stands here: a line ends in a line feed alone
-a byte that is not ASCII stands here
-spaces stand where tabs belong: one tab parts two fields
-the number of fields is wrong: line 1 is a date and has 3, year, month and day
-the number of fields is wrong: a window has 4, input, weekday, opening and closing minute
-the schedule is empty: line 1 is the date on which moment 0 is midnight
-this is no figure: digits alone, no zero in front, no sign
-one piece alone stands in this field: a space parts it in two
-the last line lacks its line feed
-no such year: they go from 2000 to 2199
-no such month: they go from 1 to 12
-no such input: they are numbered from 0 to 15
-no such weekday: they go from 1, Monday, to 7, Sunday
-no such closing minute: a window closes at 1,440, midnight, at the latest
-no such day: they are numbered from 1; this month has 
-this opening minute is not below the closing minute, which is ",
-        why as usize,
-    )
-}
-
-// The figure behind a reason that asks for it; the place past it.
-fn put_allowed(out: &mut [u8], at: usize, why: u32, allowed: u64) -> usize
-    requires { at ≤ 60000 }
-    ensures { Puts out.old at (allowed_text why allowed) out.new result × (result ≤ at + 20) }
-{
-    if why < NO_DAY {
-        return at;
+    match why {
+        Reason::Form(why) => form_sentence(why),
+        Reason::DateCount =>
+            b"the number of fields is wrong: line 1 is a date and has 3, year, month and day",
+        Reason::WindowCount =>
+            b"the number of fields is wrong: a window has 4, input, weekday, opening and closing minute",
+        Reason::NoDate =>
+            b"the schedule is empty: line 1 is the date on which moment 0 is midnight",
+        Reason::NoLineFeed => b"the last line lacks its line feed",
+        Reason::NoYear => b"no such year: they go from 2000 to 2199",
+        Reason::NoMonth => b"no such month: they go from 1 to 12",
+        Reason::NoInput => b"no such input: they are numbered from 0 to 15",
+        Reason::NoWeekday => b"no such weekday: they go from 1, Monday, to 7, Sunday",
+        Reason::NoMinute =>
+            b"no such closing minute: a window closes at 1,440, midnight, at the latest",
+        Reason::NoDay(_) => b"no such day: they are numbered from 1; this month has ",
+        Reason::NotBelow(_) => b"this opening minute is not below the closing minute, which is ",
     }
-    put_figure(out, at, allowed)
 }
 
-// A reason with its figure; the place past them.
-pub fn put_why(out: &mut [u8], at: usize, why: u32, allowed: u64) -> usize
-    requires { at ≤ 50000 }
-    ensures { Puts out.old at (why_text why allowed) out.new result × (result ≤ at + 4020) }
+// The figure behind a reason's sentence: the days of the month, the closing minute.
+fn counted(why: Reason) -> Option<u64>
+    ensures { result ≡ counted why }
 {
-    let a = put_reason(out, at, why);
-    put_allowed(out, a, why, allowed)
+    match why {
+        Reason::NoDay(days) => Some(days),
+        Reason::NotBelow(closing) => Some(closing),
+        _ => None,
+    }
+}
+
+// A reason, put at a place; the place past it.
+fn put_reason(out: &mut [u8], at: usize, why: Reason) -> usize
+    requires { at ≤ 50000 }
+    ensures { Puts out.old at (reason_text why) out.new result × (result ≤ at + 220) }
+{
+    put_with_figure(out, at, sentence(why), counted(why))
+}
+
+// What is wrong in a line, and where, or that nothing is; the place past it.
+pub fn put_fault(out: &mut [u8], at: usize, line: &[u8], fault: Option<Fault<Reason>>) -> usize
+    requires { at ≤ 30000 }
+    ensures { Puts out.old at (fault_text line.now fault) out.new result × (result ≤ at + 4420) }
+{
+    match fault {
+        Some(fault) => {
+            let past = put_spot(out, at, line, fault.spot);
+            put_reason(out, past, fault.why)
+        }
+        None => put_text(out, at, b"nothing is wrong"),
+    }
 }
 
 // The rule, as a line; the place past it.

@@ -5,11 +5,10 @@ ghost use Rattle.explain_parts.specs.Parts.{part_of};
 ghost use Rattle.explain_schedule.specs.Faults.{fault_at};
 ghost use Rattle.explain_schedule_said.specs.Said.{told_line, refused_text, plain_text, schedule_text};
 
-use crate::reason::{put_question, put_why};
-use explain_parts::{part_after, put_shown};
-use explain_reasons::reason::lines_before;
-use explain_said::spot::put_spot;
-use explain_schedule::{LineFault, reason_at, refused_line};
+use crate::reason::{put_fault, put_question};
+use explain_fields::Fault;
+use explain_parts::{part_of, put_shown};
+use explain_schedule::{Reason, reason_at, refused_line};
 use explain_trace_said::put_place;
 use test_cases::report::put_text;
 
@@ -22,19 +21,14 @@ const LINE_SHOWN: usize = 120;
 const LONGEST: usize = 49152;
 
 // The reason at a line, the line as it is shown, and the rule; the place past them.
-fn put_told(out: &mut [u8], at: usize, line: &[u8], fault: LineFault) -> usize
+fn put_told(out: &mut [u8], at: usize, line: &[u8], fault: Option<Fault<Reason>>) -> usize
     requires { at ≤ 20000 }
     ensures { Puts out.old at (told_line line.now fault) out.new result × (result ≤ at + 6000) }
 {
-    let field = fault.field;
-    let piece = fault.piece;
-    let why = fault.why;
-    let allowed = fault.allowed;
-    let a = put_spot(out, at, line, field, piece);
-    let b = put_why(out, a, why, allowed);
-    let c = put_text(out, b, b"\n    ");
-    let d = put_shown(out, c, line, LINE_SHOWN);
-    put_question(out, d)
+    let a = put_fault(out, at, line, fault);
+    let b = put_text(out, a, b"\n    ");
+    let c = put_shown(out, b, line, LINE_SHOWN);
+    put_question(out, c)
 }
 
 // The reason at a place, whose line is lent too; the place past it.
@@ -54,10 +48,8 @@ fn put_refused(out: &mut [u8], path: &[u8], text: &[u8], place: usize) -> usize
         (fault_at text.now place (part_of 10 text.now (place - 1)))) out.new result × (result ≤ 50000) }
 {
     let a = put_place(out, 0, path, NAME_SHOWN, place);
-    let part = part_after(text, b'\n', lines_before(place));
-    let from = part.from;
-    let to = part.to;
-    put_reasoned(out, a, text, place, &text[from..to])
+    let line = part_of(text, b'\n', place.saturating_sub(1));
+    put_reasoned(out, a, text, place, line)
 }
 
 // A file's name and what is said of it; how many bytes.

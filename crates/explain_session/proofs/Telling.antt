@@ -3,6 +3,7 @@ use mathlib.Core.Path.{◌≡◌, ap, ◌∙◌}
 use Prim.Native.Nat.{ℕ, ◌≤◌, ◌<◌}
 use borrow.Author.Tests.{le-leb, lt-leb, eq-eqb, ne_eqb}
 use Rattle.listing.specs.Bytes.{Bytes, bytes_of}
+use Rattle.std.specs.Prelude.{Option}
 use Rattle.explain_trace.specs.Scans.{fault_of}
 use Rattle.explain_trace.specs.declared.scan.TraceFault.{TraceFault}
 use Rattle.explain_played.specs.Endings.{leading_figure}
@@ -19,9 +20,9 @@ module _ (path trace listingPath listing : Bytes) (ended : Ended) where
     unfolding ended_text
     stops h = rw (ne_eqb ended.code 0 n, le-leb 13 ended.code h)
 
-    pub refuses : ended.code < 13 → (inputs : ℕ) (fault : TraceFault) → inputs ≡ leading_figure listing → fault ≡ fault_of inputs trace →
+    pub refuses : ended.code < 13 → (inputs : ℕ) (fault : Option TraceFault) → inputs ≡ leading_figure listing → fault ≡ fault_of inputs trace →
         refused_text path trace fault ended.code ≡ ended_text path trace listingPath listing ended
     unfolding ended_text
     refuses h inputs fault e f =
-        ap (λ (x : TraceFault). refused_text path trace x ended.code) (f ∙ ap (λ (k : ℕ). fault_of k trace) e)
+        ap (λ (x : Option TraceFault). refused_text path trace x ended.code) (f ∙ ap (λ (k : ℕ). fault_of k trace) e)
         ∙ rw (ne_eqb ended.code 0 n, lt-leb 13 ended.code h)

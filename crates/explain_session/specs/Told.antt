@@ -1,25 +1,35 @@
 -- What is said of the end of a session.
-use Rattle.std.specs.Prelude.{cond, ◌++◌, ℕ, ◌-◌, eqb, leb}
+use Rattle.std.specs.Prelude.{cond, ◌++◌, ℕ, ◌-◌, eqb, leb, Option, Some, None}
 use Rattle.listing.specs.Bytes.{Bytes, bytes_of, figure, line_feed}
 use Rattle.explain_parts.specs.Parts.{part_of}
 use Rattle.explain_parts.specs.Shown.{shown}
-use Rattle.explain_said.specs.Spots.{spot_text}
+use Rattle.explain_fields.specs.declared.reasons.Fault.{Fault}
 use Rattle.explain_trace.specs.Scans.{fault_of}
+use Rattle.explain_trace.specs.declared.reasons.Reason.{Reason}
 use Rattle.explain_trace.specs.declared.scan.TraceFault.{TraceFault}
 use Rattle.explain_trace_said.specs.Places.{place_text}
-use Rattle.explain_trace_said.specs.Reasons.{why_text, code_text}
+use Rattle.explain_trace_said.specs.Reasons.{fault_text, code_text}
 use Rattle.explain_trace_said.specs.Asked.{asked_text}
 use Rattle.explain_played.specs.Endings.{leading_figure}
 use Rattle.explain_played.specs.declared.ending.Ended.{Ended}
 
+-- the line of a fault, 0 for none, and what is wrong in it
+abbrev pub line_of : Option TraceFault → ℕ
+line_of (Some fault) = fault.line
+line_of None = 0
+
+abbrev pub wrong_in : Option TraceFault → Option (Fault Reason)
+wrong_in (Some fault) = Some fault.fault
+wrong_in None = None
+
 -- the reason at a line, the line as it is shown, and the rule
-unfoldable pub told_line : Bytes → TraceFault → ℕ → Bytes
-told_line line fault code =
-    spot_text line fault.field 0 ++ (why_text fault.why fault.allowed ++ (bytes_of "\n    " ++ (shown 120 line ++ code_text code)))
+unfoldable pub told_line : Bytes → Option (Fault Reason) → ℕ → Bytes
+told_line line fault code = fault_text line fault ++ (bytes_of "\n    " ++ (shown 120 line ++ code_text code))
 
 -- a refusal: where (the first line has no lines before it), why, and its rule
-unfoldable pub refused_text : Bytes → Bytes → TraceFault → ℕ → Bytes
-refused_text path trace fault code = place_text 4096 path fault.line ++ told_line (part_of line_feed trace (fault.line - 1)) fault code
+unfoldable pub refused_text : Bytes → Bytes → Option TraceFault → ℕ → Bytes
+refused_text path trace fault code =
+    place_text 4096 path (line_of fault) ++ told_line (part_of line_feed trace (line_of fault - 1)) (wrong_in fault) code
 
 -- a stop: the line of the trace that was played, the moment, the rule, and the lines of the listing at which it is asked
 unfoldable pub stopped_text : Bytes → Bytes → Bytes → Ended → Bytes

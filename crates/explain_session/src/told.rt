@@ -1,14 +1,13 @@
 // A refusal and a stop, put into lent bytes.
-ghost use Rattle.std.specs.Prelude.{◌+◌, ◌≤◌, length};
+ghost use Rattle.std.specs.Prelude.{◌≡◌, ◌+◌, ◌≤◌, length};
 ghost use Rattle.session_print.specs.Puts.{Puts};
-ghost use Rattle.explain_session.specs.Told.{told_line, refused_text, stopped_text};
+ghost use Rattle.explain_session.specs.Told.{line_of, wrong_in, told_line, refused_text, stopped_text};
 
-use explain_parts::{part_after, put_shown};
+use explain_fields::Fault;
+use explain_parts::{part_of, put_shown};
 use explain_played::Ended;
-use explain_reasons::reason::lines_before;
-use explain_said::spot::put_spot;
-use explain_trace::TraceFault;
-use explain_trace_said::{put_asked, put_code, put_place, put_why};
+use explain_trace::{Reason, TraceFault};
+use explain_trace_said::{put_asked, put_code, put_fault, put_place};
 use session_print::figure::put_figure;
 use test_cases::report::put_text;
 
@@ -17,31 +16,57 @@ pub const NAME_SHOWN: usize = 4096;
 
 const LINE_SHOWN: usize = 120;
 
+// The line of a fault; 0 for none.
+fn line_of(fault: Option<TraceFault>) -> usize
+    ensures { result ≡ line_of fault }
+{
+    match fault {
+        Some(fault) => fault.line,
+        None => 0,
+    }
+}
+
+// What is wrong in it.
+fn wrong_in(fault: Option<TraceFault>) -> Option<Fault<Reason>>
+    ensures { result ≡ wrong_in fault }
+{
+    match fault {
+        Some(fault) => Some(fault.fault),
+        None => None,
+    }
+}
+
 // The reason at a line, the line as it is shown, and the rule; the place past them.
-fn put_told(out: &mut [u8], at: usize, line: &[u8], fault: TraceFault, code: u32) -> usize
+fn put_told(
+    out: &mut [u8],
+    at: usize,
+    line: &[u8],
+    fault: Option<Fault<Reason>>,
+    code: u32,
+) -> usize
     requires { at ≤ 20000 }
     ensures { Puts out.old at (told_line line.now fault code) out.new result × (result ≤ at + 10000) }
 {
-    let field = fault.field;
-    let why = fault.why;
-    let allowed = fault.allowed;
-    let a = put_spot(out, at, line, field, 0);
-    let b = put_why(out, a, why, allowed);
-    let c = put_text(out, b, b"\n    ");
-    let d = put_shown(out, c, line, LINE_SHOWN);
-    put_code(out, d, code)
+    let a = put_fault(out, at, line, fault);
+    let b = put_text(out, a, b"\n    ");
+    let c = put_shown(out, b, line, LINE_SHOWN);
+    put_code(out, c, code)
 }
 
 // A refusal: where, why, and its rule; how many bytes.
-pub fn put_refused(out: &mut [u8], path: &[u8], trace: &[u8], fault: TraceFault, code: u32) -> usize
+pub fn put_refused(
+    out: &mut [u8],
+    path: &[u8],
+    trace: &[u8],
+    fault: Option<TraceFault>,
+    code: u32,
+) -> usize
     ensures { Puts out.old 0 (refused_text path.now trace.now fault code) out.new result × (result ≤ 50000) }
 {
-    let line = fault.line;
-    let a = put_place(out, 0, path, NAME_SHOWN, line);
-    let part = part_after(trace, b'\n', lines_before(line));
-    let from = part.from;
-    let to = part.to;
-    put_told(out, a, &trace[from..to], fault, code)
+    let number = line_of(fault);
+    let a = put_place(out, 0, path, NAME_SHOWN, number);
+    let line = part_of(trace, b'\n', number.saturating_sub(1));
+    put_told(out, a, line, wrong_in(fault), code)
 }
 
 // A stop: where in the trace, the moment, its rule, and the lines of the listing at which it is asked; how many bytes.

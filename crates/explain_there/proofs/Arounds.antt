@@ -6,12 +6,12 @@ use mathlib.Core.Option.{Option, none, some}
 use Prim.Native.Nat.{ℕ, ◌+◌, ◌-◌, ◌≤◌, ◌<◌, min}
 use native.Mathlib.Omega.{arith}
 use lib.Dec.{eqb, leb}
-use lib.ListN.{length, get_or, take, drop}
+use lib.ListN.{length, get_or, drop}
 use Rattle.listing.specs.Bytes.{Bytes, split, read_figure}
 use Rattle.text_piece.specs.Pieces.{as_figure, figure_answer}
 use Rattle.text_piece.specs.declared.figure.Figure.TheVariants as FV
-use Rattle.explain_parts.specs.Parts.{first_part_lem, part_end}
-use Rattle.explain_parts.proofs.Parts.{parts_on, parts_last, part_taken}
+use Rattle.std.proofs.lemmas.List.{at_drop_all}
+use Rattle.explain_parts.proofs.Parts.{next_part}
 use Rattle.explain_there.specs.Arounds.{Small, around_line, around_all, nothing, around_of}
 use Rattle.explain_there.specs.declared.around.Around.{Around}
 
@@ -32,7 +32,7 @@ pub record Bounded (held : Around) (at : ℕ) : Type 0 where
 pub bounded_small : {held : Around} (at : ℕ) → Bounded held at → at ≤ 100000 → Small held
 bounded_small at b h = record { lines = omega (arith, b.lines, h); routines = omega (arith, b.routines, h); size = omega (arith, b.size, h) }
 
-bounded_on : (held : Around) (at next place : ℕ) (line : Bytes) → at + 1 ≤ next → Bounded held at → Bounded (around_line held place line) next
+pub bounded_on : (held : Around) (at next place : ℕ) (line : Bytes) → at + 1 ≤ next → Bounded held at → Bounded (around_line held place line) next
 unfolding around_line
 bounded_on held at next place line h b = go (eqb (get_or line 0 0) 82) (eqb (get_or line 0 0) 0) (leb place held.lines) held.past
   where
@@ -51,29 +51,18 @@ bounded_on held at next place line h b = go (eqb (get_or line 0 0) 82) (eqb (get
     go false false l true = record { lines = omega (arith, b.lines, h); routines = omega (arith, b.routines, h); size = omega (arith, b.size, h) }
     go false false l false = record { lines = omega (arith, b.lines, h); routines = omega (arith, b.routines, h); size = omega (arith, b.size, h) }
 
--- the lines from an offset on tell the rest
-pub record Telling (s : Bytes) (place at : ℕ) (held : Around) : Type 0 where
-  pub inside : at ≤ length s
-  pub bounded : Bounded held at
-  pub same : around_all held place (split 10 (drop at s)) ≡ around_of s place
+pub nothing_held : Bounded nothing 0
+nothing_held = record { lines = omega arith; routines = omega arith; size = omega arith }
 
-pub telling_begun : (s : Bytes) (place : ℕ) → Telling s place 0 nothing
-telling_begun s place = record { inside = omega arith; bounded = record { lines = omega arith; routines = omega arith; size = omega arith }; same = refl }
-
-module _ (s : Bytes) (place at : ℕ) (held : Around) (v : Telling s place at held) (end : ℕ) (e : end ≡ part_end 10 s at)
-    (t : Around) (is : t ≡ around_line held place (take (end - at) (drop at s))) where
-  one_line : (rest : List Bytes) → around_all held place (first_part_lem 10 (drop at s) ∷ rest) ≡ around_all t place rest
+-- the lines from the one with so many before it on tell the rest
+module _ (s : Bytes) (place n : ℕ) (held : Around) (same : around_all held place (drop n (split 10 s)) ≡ around_of s place) where
+  pub told_all : length (split 10 s) ≤ n → held ≡ around_of s place
   unfolding around_all
-  one_line rest = ap (λ (h : Around). around_all h place rest) (sym (is ∙ ap (around_line held place) (part_taken 10 s at end v.inside e)))
+  told_all h = sym (at_drop_all (around_all held place) (split 10 s) n h) ∙ same
 
-  pub told_all : end ≡ length s → t ≡ around_of s place
+  pub told_on : (line : Bytes) → (n < length (split 10 s)) × (line ≡ get_or (split 10 s) n line) → (t : Around) (m : ℕ) → t ≡ around_line held place line → m ≡ n + 1 →
+      around_all t place (drop m (split 10 s)) ≡ around_of s place
   unfolding around_all
-  told_all h = sym (ap (around_all held place) (parts_last 10 s at end v.inside e h) ∙ one_line []) ∙ v.same
-
-  pub telling_on : end < length s → Telling s place (end + 1) t
-  telling_on h =
-      record {
-        inside = omega (arith, h);
-        bounded = rw is (bounded_on held at (end + 1) place (take (end - at) (drop at s)) (omega (arith, e)) v.bounded);
-        same = sym (ap (around_all held place) (parts_on 10 s at end v.inside e h) ∙ one_line (split 10 (drop (end + 1) s))) ∙ v.same;
-      }
+  told_on line turn t m e l =
+      ap (λ (k : ℕ). around_all t place (drop k (split 10 s))) l ∙ ap (λ (x : Around). around_all x place (drop (n + 1) (split 10 s))) e
+      ∙ sym (next_part (around_all held place) (split 10 s) n line turn) ∙ same

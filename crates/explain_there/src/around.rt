@@ -5,7 +5,7 @@ ghost use Rattle.explain_parts.specs.Parts.{part_of};
 ghost use Rattle.explain_there.specs.Arounds.{Small, around_line, around_of, kinds_count, value_in, names_on, scope_at};
 
 use explain_lines::letter::first_byte;
-use explain_parts::{part_after, part_end};
+use explain_parts::part_of;
 use text_piece::{Figure, figure_of};
 
 // The lines so far; the routines; how many lines come before the `R` of the routine looked for, and its instructions; whether a later routine began.
@@ -29,9 +29,8 @@ fn around_line(held: Around, place: usize, line: &[u8]) -> Around
             return Around {
                 lines: held.lines + 1,
                 routines: held.routines + 1,
-                opening: held.opening,
-                size: held.size,
                 past: true,
+                ..held
             };
         }
         return Around {
@@ -39,7 +38,7 @@ fn around_line(held: Around, place: usize, line: &[u8]) -> Around
             routines: held.routines + 1,
             opening: held.lines,
             size: 0,
-            past: held.past,
+            ..held
         };
     }
     if letter == 0 {
@@ -48,18 +47,13 @@ fn around_line(held: Around, place: usize, line: &[u8]) -> Around
     if held.past {
         return Around {
             lines: held.lines + 1,
-            routines: held.routines,
-            opening: held.opening,
-            size: held.size,
-            past: held.past,
+            ..held
         };
     }
     Around {
         lines: held.lines + 1,
-        routines: held.routines,
-        opening: held.opening,
         size: held.size + 1,
-        past: held.past,
+        ..held
     }
 }
 
@@ -68,7 +62,6 @@ pub fn around_all(listing: &[u8], place: usize) -> Around
     requires { length listing.now ≤ 100000 }
     ensures { result ≡ around_of listing.now place }
 {
-    let mut at: usize = 0;
     let mut held = Around {
         lines: 0,
         routines: 0,
@@ -76,14 +69,10 @@ pub fn around_all(listing: &[u8], place: usize) -> Around
         size: 0,
         past: false,
     };
-    loop {
-        let end = part_end(listing, b'\n', at);
-        held = around_line(held, place, &listing[at..end]);
-        if end == listing.len() {
-            return held;
-        }
-        at = end + 1;
+    for line in listing.split(|b| *b == b'\n') {
+        held = around_line(held, place, line);
     }
+    held
 }
 
 // How many kinds a field in form has.
@@ -111,10 +100,7 @@ fn figure_value(piece: &[u8]) -> usize
 fn locals_on(line: &[u8]) -> usize
     ensures { (result ≡ value_in (figure_answer (part_of 9 line.now 2))) × (result ≤ 1099511627776) }
 {
-    let part = part_after(line, b'\t', 2);
-    let from = part.from;
-    let to = part.to;
-    figure_value(&line[from..to])
+    figure_value(part_of(line, b'\t', 2))
 }
 
 // The names of a routine, by its `R`.
@@ -122,10 +108,7 @@ fn names_on(line: &[u8]) -> usize
     requires { length line.now ≤ 100000 }
     ensures { result ≡ names_on line.now }
 {
-    let part = part_after(line, b'\t', 1);
-    let from = part.from;
-    let to = part.to;
-    kinds_count(&line[from..to]) + locals_on(line)
+    kinds_count(part_of(line, b'\t', 1)) + locals_on(line)
 }
 
 // What a line's names, jumps and calls may point to: numbers below these.
@@ -142,12 +125,8 @@ pub fn scope_at(listing: &[u8], place: usize) -> Scope
     ensures { result ≡ scope_at listing.now place }
 {
     let held = around_all(listing, place);
-    let opening = held.opening;
-    let part = part_after(listing, b'\n', opening);
-    let from = part.from;
-    let to = part.to;
     Scope {
-        names: names_on(&listing[from..to]),
+        names: names_on(part_of(listing, b'\n', held.opening)),
         size: held.size,
         routines: held.routines,
     }

@@ -4,4 +4,4 @@
 pub mod around;
 pub mod there;
 
-pub use there::{allowed_at, there_fault};
+pub use there::there_fault;

@@ -2,16 +2,12 @@
 ghost use Rattle.std.specs.Prelude.{◌≡◌, ◌≤◌, length};
 ghost use Rattle.text_fields.specs.Gather.{is_there_by};
 ghost use Rattle.text_piece.specs.Pieces.{piece_answer};
-ghost use Rattle.explain_there.specs.There.{first_why, bound_of, field_there, fields_there, there_fault, allowed_at};
+ghost use Rattle.explain_there.specs.There.{first_target, bound_of, missing, field_there, fields_there, there_fault};
 
 use crate::around::{Scope, scope_at};
-use explain_fields::Found;
-use explain_fields::reasons::{
-    ARGUMENT_COUNT, FINE, MAIN_AS_STATED, NO_JUMP, NO_MAIN, NO_NAME, NO_ROUTINE,
-};
-use explain_lines::Fault;
+use explain_fields::{Fault, Found, Reason, about, fault_in};
 use explain_lines::letter::first_byte;
-use explain_parts::{count_parts, part_after, part_end};
+use explain_parts::{count_parts, part_of};
 use text_piece::{Piece, piece_of};
 
 // Whether a piece points to nothing, or to a number below a bound.
@@ -38,121 +34,104 @@ fn piece_there(piece: &[u8], bound: usize) -> bool
     is_below(piece_of(piece, 0, piece.len()), bound)
 }
 
-// The reason if the first piece of a field points to nothing, by the letter and the field's number after it.
-fn first_why(letter: u8, number: usize) -> u32
-    ensures { result ≡ first_why letter number }
+// What a piece points to.
+#[derive(Clone, Copy, Debug, PartialEq, Eq)]
+pub enum Target {
+    Name,
+    Instruction,
+    Routine,
+}
+
+// What the first piece of a field points to, by the letter and the field's number after it.
+fn first_target(letter: u8, number: usize) -> Target
+    ensures { result ≡ first_target letter number }
 {
     if letter == b'F' {
-        return NO_ROUTINE;
+        return Target::Routine;
     }
     if letter == b'G' {
-        return NO_JUMP;
+        return Target::Instruction;
     }
     if letter == b'U' {
         if number == 2 {
-            return NO_JUMP;
+            return Target::Instruction;
         }
     }
-    NO_NAME
+    Target::Name
 }
 
-// What a number may be below, by the reason if it is not.
-fn bound_of(scope: Scope, why: u32) -> usize
-    ensures { result ≡ bound_of scope why }
+// How many there are.
+fn bound_of(scope: Scope, target: Target) -> usize
+    ensures { result ≡ bound_of scope target }
 {
-    if why == NO_ROUTINE {
-        return scope.routines;
+    match target {
+        Target::Name => scope.names,
+        Target::Instruction => scope.size,
+        Target::Routine => scope.routines,
     }
-    if why == NO_JUMP {
-        return scope.size;
+}
+
+// The reason if one of so many is not there.
+fn missing(target: Target, bound: usize) -> Reason
+    ensures { result ≡ missing target bound }
+{
+    match target {
+        Target::Name => Reason::NoName(bound),
+        Target::Instruction => Reason::NoJump(bound),
+        Target::Routine => Reason::NoRoutine(bound),
     }
-    scope.names
 }
 
 // The first piece of a field that points to nothing.
-fn field_there(field: &[u8], scope: Scope, first: u32) -> Found
+fn field_there(field: &[u8], scope: Scope, first: Target) -> Option<Found>
     requires { length field.now ≤ 100000 }
     ensures { result ≡ field_there scope first field.now }
 {
-    let mut at: usize = 0;
-    let mut why = first;
+    let mut target = first;
     let mut number: usize = 1;
-    loop {
-        let end = part_end(field, b' ', at);
-        if piece_there(&field[at..end], bound_of(scope, why)) {
-            if end == field.len() {
-                return Found {
-                    why: FINE,
-                    piece: 0,
-                };
-            }
-            at = end + 1;
-            why = NO_NAME;
-            number += 1;
-        } else {
-            return Found {
-                why: why,
-                piece: number,
-            };
+    for piece in field.split(|b| *b == b' ') {
+        let bound = bound_of(scope, target);
+        if !piece_there(piece, bound) {
+            return Some(Found {
+                why: missing(target, bound),
+                piece: Some(number),
+            });
         }
+        target = Target::Name;
+        number += 1;
     }
+    None
 }
 
 // The first of so many fields after the letter that does.
-fn fields_there(line: &[u8], letter: u8, count: usize, scope: Scope) -> Fault
+fn fields_there(line: &[u8], letter: u8, count: usize, scope: Scope) -> Fault<Reason>
     requires { (length line.now ≤ 100000) × (count ≤ 200000) }
     ensures { result ≡ fields_there scope letter line.now 1 count }
 {
-    let mut number: usize = 1;
-    while number <= count {
-        let part = part_after(line, b'\t', number);
-        let from = part.from;
-        let to = part.to;
-        let found = field_there(&line[from..to], scope, first_why(letter, number));
-        if found.why != FINE {
-            return Fault {
-                why: found.why,
-                field: number + 1,
-                piece: found.piece,
-            };
+    for number in 1..count + 1 {
+        let field = part_of(line, b'\t', number);
+        match field_there(field, scope, first_target(letter, number)) {
+            Some(found) => {
+                return fault_in(found, number + 1);
+            }
+            None => {}
         }
-        number += 1;
     }
-    Fault {
-        why: ARGUMENT_COUNT,
-        field: 0,
-        piece: 0,
-    }
+    about(Reason::ArgumentCount)
 }
 
 // Why a line points to nothing. Place 1 answers for main being there, its `R` for being as stated.
-pub fn there_fault(listing: &[u8], place: usize, line: &[u8]) -> Fault
+pub fn there_fault(listing: &[u8], place: usize, line: &[u8]) -> Fault<Reason>
     requires { (length listing.now ≤ 100000) × (length line.now ≤ 100000) }
     ensures { result ≡ there_fault listing.now place line.now }
 {
     if place <= 1 {
-        return Fault {
-            why: NO_MAIN,
-            field: 0,
-            piece: 0,
-        };
+        return about(Reason::NoMain);
     }
     let letter = first_byte(line);
     if letter == b'R' {
-        return Fault {
-            why: MAIN_AS_STATED,
-            field: 0,
-            piece: 0,
-        };
+        return about(Reason::MainAsStated);
     }
     let scope = scope_at(listing, place);
     fields_there(line, letter, count_parts(line, b'\t') - 1, scope)
-}
-
-// How many names, instructions or routines there are, by the reason.
-pub fn allowed_at(listing: &[u8], place: usize, why: u32) -> usize
-    requires { length listing.now ≤ 100000 }
-    ensures { result ≡ allowed_at listing.now place why }
-{
-    bound_of(scope_at(listing, place), why)
 }

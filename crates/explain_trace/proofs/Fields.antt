@@ -11,9 +11,14 @@ use Rattle.listing.specs.Bytes.{Bytes, split}
 use Rattle.session_trace_lines.specs.Figures.{as_bounded}
 use Rattle.session_trace_lines.specs.declared.figure.Bounded.TheVariants.{Value, Bad}
 use Rattle.explain_parts.specs.Parts.{part_of}
-use Rattle.explain_lines.specs.Lines.{faultless, or_later}
-use Rattle.explain_lines.specs.declared.line.Fault.{Fault}
-use Rattle.explain_trace.specs.Forms.{letter_why, field_why, fields_after, fields_fault, form_fault}
+use Rattle.std.specs.Prelude as O
+use Rattle.std.specs.Prelude.{Some, None, option_map}
+use Rattle.std.specs.Option.{option_or}
+use Rattle.explain_fields.specs.Fields.{about}
+use Rattle.explain_fields.specs.declared.reasons.Fault.{Fault}
+use Rattle.explain_trace.specs.declared.reasons.Reason.{Reason}
+use Rattle.explain_trace.specs.declared.reasons.Reason.TheVariants as WV
+use Rattle.explain_trace.specs.Forms.{letter_why, field_why, fits_letter, at_field, fields_fault, form_fault}
 
 -- ── a figure was read, or none ───────────────────────────────────────────────────
 pub is_read : (n : ℕ) (x : Option ℕ) → Value n ≡ as_bounded x → true ≡ is_some x
@@ -25,55 +30,39 @@ not_read none e = refl
 not_read (some m) e = absurd (let z : ◌≡◌ {A = ℕ} 0 1 = cc in omega arith)
 
 -- ── the fields from a number on decide as all of them do ─────────────────────────
-pub record Looking (line : Bytes) (count number : ℕ) : Type 0 where
-  pub most : number ≤ count + 1
-  pub same : fields_fault line number (count + 1 - number) ≡ fields_fault line 1 count
-
-pub looking_begun : (line : Bytes) (count : ℕ) → Looking line count 1
-looking_begun line count =
-    record { most = omega arith; same = ap (fields_fault line 1) (let z : count + 1 - 1 ≡ count = omega arith in z) }
-
-module _ (line : Bytes) (count number : ℕ) (v : Looking line count number) where
-  pub looked_through : count < number → faultless ≡ fields_fault line 1 count
+module _ (line : Bytes) (count number : ℕ) (same : fields_fault line number (count + 1 - number) ≡ fields_fault line 1 count) where
+  pub looked_through : count + 1 ≤ number → None ≡ fields_fault line 1 count
   unfolding fields_fault
-  looked_through h = ap (fields_fault line number) (let z : 0 ≡ count + 1 - number = omega (arith, h) in z) ∙ v.same
+  looked_through h = ap (fields_fault line number) (let z : 0 ≡ count + 1 - number = omega (arith, h) in z) ∙ same
 
-  module _ (h : number ≤ count) (why : ℕ) (e : why ≡ field_why number (part_of 9 line number)) where
-    abbrev here : Fault
-    here = record { why = why; field = number + 1; piece = 0 }
+  module _ (h : number < count + 1) (o : O.Option Reason) (e : o ≡ field_why number (part_of 9 line number)) where
+    abbrev after : O.Option Reason → O.Option (Fault Reason)
+    after w = option_or (option_map (λ (x : Reason). at_field (number + 1) x) w) (fields_fault line (number + 1) (count - number))
 
-    one_field : fields_fault line 1 count ≡ or_later here (fields_fault line (number + 1) (count - number))
+    one_field : after o ≡ fields_fault line 1 count
     unfolding fields_fault
-    one_field =
-        sym v.same ∙ ap (fields_fault line number) (let z : count + 1 - number ≡ suc (count - number) = omega (arith, h) in z)
-        ∙ ap (λ (w : ℕ). or_later (record { why = w; field = number + 1; piece = 0 }) (fields_fault line (number + 1) (count - number))) (sym e)
+    one_field = ap after e ∙ ap (fields_fault line number) (let z : suc (count - number) ≡ count + 1 - number = omega (arith, h) in z) ∙ same
 
-    pub wrong_here : (why ≡ 0 → ⊥) → here ≡ fields_fault line 1 count
-    wrong_here n = sym (one_field ∙ rw (ne_eqb why 0 n))
+    pub wrong_here : (why : Reason) → o ≡ Some why → Some (at_field (number + 1) why) ≡ fields_fault line 1 count
+    wrong_here why s = ap after (sym s) ∙ one_field
 
-    pub looking_on : why ≡ 0 → Looking line count (number + 1)
-    looking_on z =
-        record {
-          most = omega (arith, h);
-          same =
-              ap (fields_fault line (number + 1)) (let y : count + 1 - (number + 1) ≡ count - number = omega arith in y)
-              ∙ sym (one_field ∙ rw (eq-eqb why 0 z));
-        }
+    pub looking_on : o ≡ None → fields_fault line (number + 1) (count + 1 - (number + 1)) ≡ fields_fault line 1 count
+    looking_on n = ap (fields_fault line (number + 1)) (let y : count + 1 - (number + 1) ≡ count - number = omega arith in y) ∙ ap after (sym n) ∙ one_field
 
 -- ── a whole line ─────────────────────────────────────────────────────────────────
 module _ (line : Bytes) where
   abbrev count : ℕ
   count = length (split 9 line) - 1
 
-  pub letter_wrong : (why : ℕ) → why ≡ letter_why (part_of 9 line 0) → (why ≡ 0 → ⊥) → record { why = why; field = 1; piece = 0 } ≡ form_fault line
+  pub letter_wrong : (why : Reason) → letter_why (part_of 9 line 0) ≡ Some why → Some (at_field 1 why) ≡ form_fault line
   unfolding form_fault
-  letter_wrong why e n = rw (← e, ne_eqb why 0 n)
+  letter_wrong why e = rw e
 
-  module _ (fine : letter_why (part_of 9 line 0) ≡ 0) where
-    pub count_wrong : (count ≡ fields_after (get_or line 0 0) → ⊥) → record { why = 6; field = 0; piece = 0 } ≡ form_fault line
+  module _ (fine : letter_why (part_of 9 line 0) ≡ None) where
+    pub count_wrong : fits_letter (get_or line 0 0) count ≡ false → Some (about WV.FieldCount) ≡ form_fault line
     unfolding form_fault
-    count_wrong n = rw (fine, ne_eqb count (fields_after (get_or line 0 0)) n)
+    count_wrong f = rw (fine, f)
 
-    pub by_fields : count ≡ fields_after (get_or line 0 0) → fields_fault line 1 count ≡ form_fault line
+    pub by_fields : fits_letter (get_or line 0 0) count ≡ true → fields_fault line 1 count ≡ form_fault line
     unfolding form_fault
-    by_fields f = rw (fine, eq-eqb count (fields_after (get_or line 0 0)) f)
+    by_fields f = rw (fine, f)

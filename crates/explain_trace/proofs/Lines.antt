@@ -22,6 +22,9 @@ use Rattle.session_trace_lines.specs.Lines.{as_trace_line}
 use Rattle.session_trace_lines.specs.declared.line.TraceLine.{TraceLine}
 use Rattle.session_trace_lines.specs.declared.line.TraceLine.TheVariants as LV
 use Rattle.explain_trace.specs.Scans.{judge_input, judge_last, unformed, judge_line, end_fault, resume, fault_from, fault_of}
+use Rattle.std.specs.Prelude.{Option, Some}
+use Rattle.explain_fields.specs.Fields.{about}
+use Rattle.explain_trace.specs.declared.reasons.Reason.TheVariants as WV
 use Rattle.explain_trace.specs.declared.scan.TraceFault.{TraceFault}
 use Rattle.explain_trace.specs.declared.scan.Judged.{Judged}
 use Rattle.explain_trace.specs.declared.scan.Judged.TheVariants as JV
@@ -31,7 +34,7 @@ module _ (inputs line : ℕ) (bytes : Bytes) (nothingAfter : Bool) (time least :
   abbrev pub judge_as : TraceLine → Judged
   judge_as (LV.Input t number value stop next) = judge_input line inputs time least t number
   judge_as (LV.Last t stop next) = judge_last line nothingAfter
-  judge_as LV.Bad = JV.Ends (unformed line bytes 11)
+  judge_as LV.Bad = JV.Ends (Some (unformed line bytes WV.NoForm))
 
   pub judged_as : (x : W.TraceLine) (stop : ℕ) (next : Place) → judge_as (as_trace_line x stop next) ≡ judge_line inputs line bytes nothingAfter time least x
   unfolding judge_line
@@ -112,7 +115,7 @@ module _ (inputs : ℕ) (s : Bytes) (at line time least end : ℕ) (v : Scanning
   abbrev here : Bytes
   here = first_part_lem 10 (drop at s)
 
-  abbrev later : ℕ → ℕ → TraceFault
+  abbrev later : ℕ → ℕ → Option TraceFault
   later t next = fault_from inputs (unclosed (drop (end + 1) s)) t next (line + 1) (closed_lines (drop (end + 1) s))
 
   module _ (h : end < length s) (r : Judged) (is : r ≡ judge_line inputs line here (eqb (end + 1) (length s)) time least (read_trace_line here)) where
@@ -124,7 +127,7 @@ module _ (inputs : ℕ) (s : Bytes) (at line time least end : ℕ) (v : Scanning
         (is ∙ ap (λ (t : Bool). judge_line inputs line here t time least (read_trace_line here)) (sym (nothing_after s (end + 1) (omega (arith, h)))))
         ∙ first
 
-    pub scan_ends : (fault : TraceFault) → r ≡ JV.Ends fault → fault ≡ fault_of inputs s
+    pub scan_ends : (fault : Option TraceFault) → r ≡ JV.Ends fault → fault ≡ fault_of inputs s
     unfolding resume
     scan_ends fault d = ap (λ (x : Judged). resume x later) (sym d) ∙ one_line
 
@@ -137,17 +140,17 @@ module _ (inputs : ℕ) (s : Bytes) (at line time least end : ℕ) (v : Scanning
           same = ap (λ (x : Judged). resume x later) (sym d) ∙ one_line;
         }
 
-  pub scanned : end ≡ length s → end_fault line here ≡ fault_of inputs s
+  pub scanned : end ≡ length s → Some (end_fault line here) ≡ fault_of inputs s
   unfolding fault_from
   scanned h = rw (closed_last s at end v.inside e h, unclosed_last s at end v.inside e h) at v.same
 
 -- ── what comes after the last line feed ──────────────────────────────────────────
-pub nothing_there : (line : ℕ) (l : Bytes) → length l ≡ 0 → record { line = line; why = 13; field = 0; allowed = 0 } ≡ end_fault line l
+pub nothing_there : (line : ℕ) (l : Bytes) → length l ≡ 0 → record { line = line; fault = about WV.NoLast } ≡ end_fault line l
 unfolding end_fault
 nothing_there line [] e = refl
 nothing_there line (b ∷ l) e = absurd (let z : ⊥ = omega (arith, e) in z)
 
-pub something_there : (line : ℕ) (l : Bytes) → (length l ≡ 0 → ⊥) → unformed line l 12 ≡ end_fault line l
+pub something_there : (line : ℕ) (l : Bytes) → (length l ≡ 0 → ⊥) → unformed line l WV.NoLineFeed ≡ end_fault line l
 unfolding end_fault
 something_there line [] n = absurd (n refl)
 something_there line (b ∷ l) n = refl

@@ -1,3 +1,2 @@
-pub mod Reasons
 pub mod Forms
 pub mod Scans

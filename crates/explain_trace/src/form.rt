@@ -2,29 +2,22 @@
 ghost use Rattle.std.specs.Prelude.{◌≡◌, ◌+◌, ◌≤◌, length};
 ghost use Rattle.listing.specs.Lists.{is_some};
 ghost use Rattle.walk.specs.Trace.{read_below, read_signed};
-ghost use Rattle.explain_trace.specs.Forms.{fields_after, is_letter_field, letter_why, reads_field, bad_field, field_why, fields_fault, form_fault};
+ghost use Rattle.explain_trace.specs.Forms.{fields_after, is_letter_field, letter_why, fits_letter, reads_field, bad_field, field_why, fields_fault, form_fault};
 
-use crate::reasons::{
-    BAD_INPUT, BAD_TIME, BAD_VALUE, FIELD_COUNT, FINE, NO_SUCH_LETTER, SECOND_PIECE,
-    SPACES_FOR_TABS,
-};
-use explain_fields::why_bad;
-use explain_lines::Fault;
+use crate::reasons::Reason;
+use explain_fields::{Fault, Spot, about, strange_field, strange_in};
 use explain_lines::letter::first_byte;
-use explain_parts::{count_parts, part_after, part_end};
+use explain_parts::{count_parts, part_end, part_of};
 use session_trace_lines::figure::{Bounded, MOST_32, MOST_64, figure_up_to, value_of};
 
-// No line begins with this byte.
-const NONE: usize = 255;
-
-// How many fields come after a letter.
-fn fields_after(letter: u8) -> usize
+// How many fields come after a letter; none if no line begins so.
+fn fields_after(letter: u8) -> Option<usize>
     ensures { result ≡ fields_after letter }
 {
     match letter {
-        b'I' => 3,
-        b'Q' => 1,
-        _ => NONE,
+        b'I' => Some(3),
+        b'Q' => Some(1),
+        _ => None,
     }
 }
 
@@ -33,22 +26,32 @@ fn is_letter_field(field: &[u8]) -> bool
     ensures { result ≡ is_letter_field field.now }
 {
     if field.len() == 1 {
-        return fields_after(first_byte(field)) < NONE;
+        return fields_after(first_byte(field)).is_some();
     }
     false
 }
 
 // Why a line's first field is no letter of a line.
-fn letter_why(field: &[u8]) -> u32
+fn letter_why(field: &[u8]) -> Option<Reason>
     ensures { result ≡ letter_why field.now }
 {
     if is_letter_field(field) {
-        return FINE;
+        return None;
     }
-    if part_end(field, b' ', 0) < field.len() {
-        return SPACES_FOR_TABS;
+    match strange_field(field) {
+        Some(strange) => Some(Reason::Strange(strange)),
+        None => Some(Reason::NoSuchLetter),
     }
-    why_bad(field, NO_SUCH_LETTER)
+}
+
+// Whether so many fields may come after a letter.
+fn fits_letter(letter: u8, count: usize) -> bool
+    ensures { result ≡ fits_letter letter count }
+{
+    match fields_after(letter) {
+        Some(fields) => count == fields,
+        None => false,
+    }
 }
 
 // Whether a field is a figure up to a number.
@@ -85,79 +88,66 @@ fn is_field(number: usize, field: &[u8]) -> bool
 }
 
 // Why it is not, if no byte is strange.
-fn bad_field(number: usize) -> u32
+fn bad_field(number: usize) -> Reason
     ensures { result ≡ bad_field number }
 {
     match number {
-        1 => BAD_TIME,
-        2 => BAD_INPUT,
-        _ => BAD_VALUE,
+        1 => Reason::BadTime,
+        2 => Reason::BadInput,
+        _ => Reason::BadValue,
     }
 }
 
 // Why the field with this number after the letter is out of form.
-fn field_why(number: usize, field: &[u8]) -> u32
+fn field_why(number: usize, field: &[u8]) -> Option<Reason>
     ensures { result ≡ field_why number field.now }
 {
     if is_field(number, field) {
-        return FINE;
+        return None;
     }
     if part_end(field, b' ', 0) < field.len() {
-        return SECOND_PIECE;
+        return Some(Reason::SecondPiece);
     }
-    why_bad(field, bad_field(number))
+    match strange_in(field) {
+        Some(strange) => Some(Reason::Strange(strange)),
+        None => Some(bad_field(number)),
+    }
 }
 
 // The first field after the letter that is wrong, of so many.
-fn fields_fault(line: &[u8], count: usize) -> Fault
+fn fields_fault(line: &[u8], count: usize) -> Option<Fault<Reason>>
     requires { count ≤ 200000 }
     ensures { result ≡ fields_fault line.now 1 count }
 {
-    let mut number: usize = 1;
-    while number <= count {
-        let part = part_after(line, b'\t', number);
-        let from = part.from;
-        let to = part.to;
-        let why = field_why(number, &line[from..to]);
-        if why != FINE {
-            return Fault {
-                why,
-                field: number + 1,
-                piece: 0,
-            };
+    for number in 1..count + 1 {
+        let field = part_of(line, b'\t', number);
+        match field_why(number, field) {
+            Some(why) => {
+                return Some(Fault {
+                    why,
+                    spot: Spot::Field(number + 1),
+                });
+            }
+            None => {}
         }
-        number += 1;
     }
-    Fault {
-        why: FINE,
-        field: 0,
-        piece: 0,
-    }
+    None
 }
 
 // Why a line is out of form, by its bytes without the line feed.
-pub fn form_fault(line: &[u8]) -> Fault
+pub fn form_fault(line: &[u8]) -> Option<Fault<Reason>>
     requires { length line.now ≤ 100000 }
     ensures { result ≡ form_fault line.now }
 {
-    let first = part_after(line, b'\t', 0);
-    let from = first.from;
-    let to = first.to;
-    let letter_reason = letter_why(&line[from..to]);
-    if letter_reason != FINE {
-        return Fault {
-            why: letter_reason,
-            field: 1,
-            piece: 0,
-        };
+    if let Some(why) = letter_why(part_of(line, b'\t', 0)) {
+        return Some(Fault {
+            why,
+            spot: Spot::Field(1),
+        });
     }
     let count = count_parts(line, b'\t') - 1;
-    if count == fields_after(first_byte(line)) {
+    if fits_letter(first_byte(line), count) {
         return fields_fault(line, count);
     }
-    Fault {
-        why: FIELD_COUNT,
-        field: 0,
-        piece: 0,
-    }
+    Some(about(Reason::FieldCount))
 }

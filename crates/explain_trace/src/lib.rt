@@ -7,4 +7,5 @@ pub mod reasons;
 pub mod scan;
 
 pub use form::form_fault;
+pub use reasons::Reason;
 pub use scan::{TraceFault, trace_fault};

@@ -1,30 +1,29 @@
-// The numbers of the reasons; specs/Reasons says what each is of. Up to 3 they are those of explain_fields.
-pub const FINE: u32 = 0;
+// The reasons why a session does not play a trace to its end (document 01, "The session").
+use explain_fields::Strange;
 
-pub const SPACES_FOR_TABS: u32 = 4;
-
-pub const NO_SUCH_LETTER: u32 = 5;
-
-pub const FIELD_COUNT: u32 = 6;
-
-pub const BAD_TIME: u32 = 7;
-
-pub const BAD_INPUT: u32 = 8;
-
-pub const BAD_VALUE: u32 = 9;
-
-pub const SECOND_PIECE: u32 = 10;
-
-pub const NO_FORM: u32 = 11;
-
-pub const NO_LINE_FEED: u32 = 12;
-
-pub const NO_LAST: u32 = 13;
-
-pub const AFTER_LAST: u32 = 14;
-
-pub const NOT_AFTER: u32 = 15;
-
-pub const NO_INPUT: u32 = 16;
-
-pub const NOT_RISING: u32 = 17;
+#[derive(Clone, Copy, Debug, PartialEq, Eq)]
+pub enum Reason {
+    // code 2: "A line out of form when it is reached, one after `Q`, or no `Q` at the end"; "in the listing's style"
+    Strange(Strange),
+    // "lines `I|time|input|value` .. and last `Q|time`"
+    NoSuchLetter,
+    FieldCount,
+    // "(64, 32 and signed 32 bits)"
+    BadTime,
+    BadInput,
+    BadValue,
+    SecondPiece,
+    // out of form, and no reason above applies
+    NoForm,
+    // "each line closed by a line feed"
+    NoLineFeed,
+    // "no `Q` at the end"
+    NoLast,
+    // "one after `Q`"
+    AfterLast,
+    // code 9: "Is t after the present moment?", with the time that is to be passed
+    NotAfter(u64),
+    // code 11: "Are the input numbers below i and strictly rising?", with the number of inputs, and the least number
+    NoInput(u64),
+    NotRising(u64),
+}

@@ -2,82 +2,66 @@
 ghost use Rattle.std.specs.Prelude.{◌≡◌, eqb, ◌+◌, ◌≤◌, length, drop};
 ghost use Rattle.walk.specs.Trace.{read_trace_line};
 ghost use Rattle.explain_parts.specs.Parts.{first_part_lem, part_end};
-ghost use Rattle.explain_trace.specs.Scans.{number_why, input_why, allowed_for, field_for, judge_input, judge_last, unformed, judge_line, end_fault, fault_of};
+ghost use Rattle.explain_trace.specs.Scans.{number_why, input_why, field_for, judge_input, judge_last, unformed, judge_line, end_fault, fault_of};
 
 use crate::form::form_fault;
-use crate::reasons::{
-    AFTER_LAST, FINE, NO_FORM, NO_INPUT, NO_LAST, NO_LINE_FEED, NOT_AFTER, NOT_RISING,
-};
+use crate::reasons::Reason;
+use explain_fields::{Fault, Spot, about};
 use explain_parts::part_end;
 use session_trace_lines::{TraceLine, read_trace_line};
 use text_place::Place;
 
-// The line, from 1; the reason, 0 if there is none; the field, 0 if it is about more than one; the figure behind the reason.
+// The line, from 1, and what is wrong in it.
 #[derive(Clone, Copy)]
 pub struct TraceFault {
     pub line: usize,
-    pub why: u32,
-    pub field: usize,
-    pub allowed: u64,
+    pub fault: Fault<Reason>,
 }
 
-// After a line: the time of its call, and the least number that may come next in it; or the fault.
+// After a line: the time of its call, and the least number that may come next in it; or the end, with the fault if there is one.
 #[derive(Clone, Copy)]
 pub enum Judged {
     Goes(u64, u64),
-    Ends(TraceFault),
+    Ends(Option<TraceFault>),
 }
 
 // Why a call of which the next number is at least `least` has no such input.
-fn number_why(inputs: u64, least: u64, number: u64) -> u32
+fn number_why(inputs: u64, least: u64, number: u64) -> Option<Reason>
     ensures { result ≡ number_why inputs least number }
 {
     if number >= inputs {
-        return NO_INPUT;
+        return Some(Reason::NoInput(inputs));
     }
     if number < least {
-        return NOT_RISING;
+        return Some(Reason::NotRising(least));
     }
-    FINE
+    None
 }
 
 // Why an input may not come after a call at `time`.
-fn input_why(inputs: u64, time: u64, least: u64, t: u64, number: u64) -> u32
+fn input_why(inputs: u64, time: u64, least: u64, t: u64, number: u64) -> Option<Reason>
     ensures { result ≡ input_why inputs time least t number }
 {
     if t > time {
         return number_why(inputs, 0, number);
     }
     if t < time {
-        return NOT_AFTER;
+        return Some(Reason::NotAfter(time));
     }
     if t == 0 {
-        return NOT_AFTER;
+        return Some(Reason::NotAfter(time));
     }
     number_why(inputs, least, number)
 }
 
-// The figure behind a reason: the time that is to be passed, the number of inputs, the least number.
-fn allowed_for(why: u32, inputs: u64, time: u64, least: u64) -> u64
-    ensures { result ≡ allowed_for why inputs time least }
-{
-    if why == NOT_AFTER {
-        return time;
-    }
-    if why == NO_INPUT {
-        return inputs;
-    }
-    least
-}
-
 // The field that a reason is about: the time, or the input's number.
-fn field_for(why: u32) -> usize
+fn field_for(why: Reason) -> usize
     ensures { result ≡ field_for why }
 {
-    if why == NOT_AFTER {
-        return 2;
+    match why {
+        Reason::NotAfter(_) => 2,
+        _ => 3,
     }
-    3
 }
 
 // An input's line.
@@ -85,16 +69,14 @@ fn judge_input(line: usize, inputs: u64, time: u64, least: u64, t: u64, number: 
     ensures { result ≡ judge_input line inputs time least t number }
 {
     let n = number as u64;
-    let why = input_why(inputs, time, least, t, n);
-    if why == FINE {
-        return Judged::Goes(t, n + 1);
+    match input_why(inputs, time, least, t, n) {
+        Some(why) => {
+            let spot = Spot::Field(field_for(why));
+            let fault = Fault { why, spot };
+            Judged::Ends(Some(TraceFault { line, fault }))
+        }
+        None => Judged::Goes(t, n + 1),
     }
-    Judged::Ends(TraceFault {
-        line,
-        why,
-        field: field_for(why),
-        allowed: allowed_for(why, inputs, time, least),
-    })
 }
 
 // The last line, and whether nothing stands after it.
@@ -103,40 +85,25 @@ fn judge_last(line: usize, nothing_after: bool) -> Judged
     ensures { result ≡ judge_last line nothing_after }
 {
     if nothing_after {
-        return Judged::Ends(TraceFault {
-            line: 0,
-            why: FINE,
-            field: 0,
-            allowed: 0,
-        });
+        return Judged::Ends(None);
     }
-    Judged::Ends(TraceFault {
+    Judged::Ends(Some(TraceFault {
         line: line + 1,
-        why: AFTER_LAST,
-        field: 0,
-        allowed: 0,
-    })
+        fault: about(Reason::AfterLast),
+    }))
 }
 
 // A line out of form; another reason if its form tells none.
-fn unformed(line: usize, bytes: &[u8], other: u32) -> TraceFault
+fn unformed(line: usize, bytes: &[u8], other: Reason) -> TraceFault
     requires { length bytes.now ≤ 100000 }
     ensures { result ≡ unformed line bytes.now other }
 {
-    let fault = form_fault(bytes);
-    if fault.why == FINE {
-        return TraceFault {
+    match form_fault(bytes) {
+        Some(fault) => TraceFault { line, fault },
+        None => TraceFault {
             line,
-            why: other,
-            field: 0,
-            allowed: 0,
-        };
-    }
-    TraceFault {
-        line,
-        why: fault.why,
-        field: fault.field,
-        allowed: 0,
+            fault: about(other),
+        },
     }
 }
 
@@ -166,7 +133,7 @@ fn judge_line(
             judge_input(line, inputs, time, least, t, number)
         }
         TraceLine::Last(_, _, _) => judge_last(line, end + 1 == trace.len()),
-        TraceLine::Bad => Judged::Ends(unformed(line, &trace[at..end], NO_FORM)),
+        TraceLine::Bad => Judged::Ends(Some(unformed(line, &trace[at..end], Reason::NoForm))),
     }
 }
 
@@ -178,16 +145,14 @@ fn end_fault(line: usize, bytes: &[u8]) -> TraceFault
     if bytes.len() == 0 {
         return TraceFault {
             line,
-            why: NO_LAST,
-            field: 0,
-            allowed: 0,
+            fault: about(Reason::NoLast),
         };
     }
-    unformed(line, bytes, NO_LINE_FEED)
+    unformed(line, bytes, Reason::NoLineFeed)
 }
 
-// The first line that a session on a listing of so many inputs would refuse.
-pub fn trace_fault(trace: &[u8], inputs: u64) -> TraceFault
+// The first line that a session on a listing of so many inputs would refuse; none if it would play them all.
+pub fn trace_fault(trace: &[u8], inputs: u64) -> Option<TraceFault>
     requires { length trace.now ≤ 100000 }
     ensures { result ≡ fault_of inputs trace.now }
 {
@@ -198,7 +163,7 @@ pub fn trace_fault(trace: &[u8], inputs: u64) -> TraceFault
     loop {
         let end = part_end(trace, b'\n', at);
         if end == trace.len() {
-            return end_fault(line, &trace[at..end]);
+            return Some(end_fault(line, &trace[at..end]));
         }
         let judged = judge_line(trace, at, end, line, inputs, time, least);
         match judged {

@@ -1,46 +1,45 @@
--- The sentences of the reasons, by their number (explain_trace specs Reasons names the numbers), and of the codes of a session (document 01, "The session" and
--- "The questions").
-use Rattle.std.specs.Prelude.{cond, List, [], ◌∷◌, ◌++◌, map, ℕ, ltb, get_or}
+-- The sentences of the reasons (explain_trace `Reason` has the words of document 01 that each renders), and of the codes of a session (document 01, "The session"
+-- and "The questions").
+use Rattle.std.specs.Prelude.{List, [], ◌∷◌, ◌++◌, map, ℕ, get_or, Option, Some, None}
 use Prim.Native.String.{String}
 use Rattle.listing.specs.Bytes.{Bytes, bytes_of, line_feed, join, figure}
-use Rattle.explain_trace.specs.Reasons.{not_after_lem}
+use Rattle.explain_fields.specs.declared.reasons.Fault.{Fault}
+use Rattle.explain_said.specs.Reasons.{strange_sentence, with_figure}
+use Rattle.explain_said.specs.Spots.{spot_text}
+use Rattle.explain_trace.specs.declared.reasons.Reason.{Reason}
+use Rattle.explain_trace.specs.declared.reasons.Reason.TheVariants as WV
 
--- from 0, which is no reason
-abbrev pub sentences : List String
-sentences =
-    "nothing is wrong"
-    ∷ "nothing stands here: the line is blank, two tabs or spaces follow each other, or one ends the line"
-    ∷ "a carriage return stands here: a line ends in a line feed alone"
-    ∷ "a byte that is not ASCII stands here"
-    ∷ "spaces stand where tabs belong: one tab parts two fields"
-    ∷ "no line begins so: the letters are I and Q"
-    ∷ "the number of fields is wrong: after the letter I has 3, time, input and value; Q has 1, time"
-    ∷ "this is no time: digits alone, no zero in front, no sign, at most 18446744073709551615"
-    ∷ "this is no input number: digits alone, no zero in front, no sign, at most 4294967295"
-    ∷ "this is no value: from -2147483648 to 2147483647, no zero and no plus in front"
-    ∷ "one piece alone stands in this field: a space parts it in two"
-    ∷ "the line has no form"
-    ∷ "the last line lacks its line feed"
-    ∷ "the trace ends here without Q: its last line is Q with a time"
-    ∷ "this line stands after Q, which is the last"
-    ∷ "this time is not after the present moment: times rise, the first is at least 1; here above "
-    ∷ "no such input: they are numbered from 0; this listing has "
-    ∷ "the inputs of one time are listed in rising order, each once: here from "
-    ∷ []
+abbrev pub sentence : Reason → String
+sentence (WV.Strange strange) = strange_sentence strange
+sentence WV.NoSuchLetter = "no line begins so: the letters are I and Q"
+sentence WV.FieldCount = "the number of fields is wrong: after the letter I has 3, time, input and value; Q has 1, time"
+sentence WV.BadTime = "this is no time: digits alone, no zero in front, no sign, at most 18446744073709551615"
+sentence WV.BadInput = "this is no input number: digits alone, no zero in front, no sign, at most 4294967295"
+sentence WV.BadValue = "this is no value: from -2147483648 to 2147483647, no zero and no plus in front"
+sentence WV.SecondPiece = "one piece alone stands in this field: a space parts it in two"
+sentence WV.NoForm = "the line has no form"
+sentence WV.NoLineFeed = "the last line lacks its line feed"
+sentence WV.NoLast = "the trace ends here without Q: its last line is Q with a time"
+sentence WV.AfterLast = "this line stands after Q, which is the last"
+sentence (WV.NotAfter n) = "this time is not after the present moment: times rise, the first is at least 1; here above "
+sentence (WV.NoInput n) = "no such input: they are numbered from 0; this listing has "
+sentence (WV.NotRising n) = "the inputs of one time are listed in rising order, each once: here from "
 
-unfoldable pub reason_texts : List Bytes
-reason_texts = map bytes_of sentences
+-- behind these, the time that is to be passed, the number of inputs, the least number
+abbrev pub counted : Reason → Option ℕ
+counted (WV.NotAfter time) = Some time
+counted (WV.NoInput inputs) = Some inputs
+counted (WV.NotRising least) = Some least
+counted _ = None
 
--- the sentence of a reason; none for other numbers
-abbrev pub reason_text : ℕ → Bytes
-reason_text why = get_or reason_texts why []
+-- a reason, with the figure behind it
+abbrev pub reason_text : Reason → Bytes
+reason_text why = with_figure (bytes_of (sentence why)) (counted why)
 
--- behind the last three, the time that is to be passed, the number of inputs, the least number
-unfoldable pub allowed_text : ℕ → ℕ → Bytes
-allowed_text why allowed = cond (ltb why not_after_lem) [] (figure allowed)
-
-unfoldable pub why_text : ℕ → ℕ → Bytes
-why_text why allowed = reason_text why ++ allowed_text why allowed
+-- what is wrong in a line, and where, or that nothing is
+abbrev pub fault_text : Bytes → Option (Fault Reason) → Bytes
+fault_text line (Some fault) = spot_text line fault.spot ++ reason_text fault.why
+fault_text line None = bytes_of "nothing is wrong"
 
 -- the rules of the codes that a session may end with, by their number; none for other numbers
 abbrev pub rules : List String
@@ -77,8 +76,5 @@ unfoldable pub code_text : ℕ → Bytes
 code_text code = bytes_of "\nCode " ++ (figure code ++ (bytes_of ": " ++ (rule_text code ++ bytes_of "\n")))
 
 -- all of them, one to a line
-unfoldable pub joined_reasons : Bytes
-joined_reasons = join line_feed reason_texts
-
 unfoldable pub joined_rules : Bytes
 joined_rules = join line_feed rule_texts

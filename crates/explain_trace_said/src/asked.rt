@@ -6,7 +6,7 @@ ghost use Rattle.explain_trace_said.specs.Asked.{room, seen_after, count_all, wo
 
 use crate::place::put_place;
 use explain_lines::letter::first_byte;
-use explain_parts::{part_end, put_shown};
+use explain_parts::put_shown;
 use session_print::figure::put_figure;
 use test_cases::report::put_text;
 
@@ -21,7 +21,7 @@ const NAME_SHOWN: usize = 200;
 fn stands_in(text: &[u8], byte: u8) -> bool
     ensures { result ≡ stands_in byte text.now }
 {
-    part_end(text, byte, 0) < text.len()
+    text.iter().any(|b| *b == byte)
 }
 
 // Whether a piece `/` or `%` is in a line.
@@ -77,16 +77,11 @@ fn count_asked(listing: &[u8], code: u32) -> usize
     requires { length listing.now ≤ 100000 }
     ensures { result ≡ count_all code listing.now }
 {
-    let mut at: usize = 0;
     let mut seen: usize = 0;
-    loop {
-        let end = part_end(listing, b'\n', at);
-        seen = seen_after(code, seen, &listing[at..end]);
-        if end == listing.len() {
-            return seen;
-        }
-        at = end + 1;
+    for line in listing.split(|b| *b == b'\n') {
+        seen = seen_after(code, seen, line);
     }
+    seen
 }
 
 // Whether it is the only line, in words; the place past them.
@@ -168,28 +163,14 @@ fn put_all_asked(
     ensures { Puts out.old at (asked_all path.now code alone listing.now) out.new result × (result ≤ at + 14000) }
 {
     let mut past = at;
-    let mut from: usize = 0;
     let mut number: usize = 1;
     let mut seen: usize = 0;
-    loop {
-        let end = part_end(listing, b'\n', from);
-        past = put_if_asked(
-            out,
-            past,
-            path,
-            number,
-            &listing[from..end],
-            code,
-            alone,
-            seen,
-        );
-        seen = seen_after(code, seen, &listing[from..end]);
-        if end == listing.len() {
-            return put_more(out, past, seen);
-        }
-        from = end + 1;
+    for line in listing.split(|b| *b == b'\n') {
+        past = put_if_asked(out, past, path, number, line, code, alone, seen);
+        seen = seen_after(code, seen, line);
         number += 1;
     }
+    put_more(out, past, seen)
 }
 
 // The lines at which the rule of a code is asked; the place past them.

@@ -1,61 +1,76 @@
 // The sentences of the reasons and of the codes. They are those of specs/Reasons, as the contracts say.
-ghost use Rattle.std.specs.Prelude.{◌+◌, ◌≤◌};
+ghost use Rattle.std.specs.Prelude.{◌≡◌, ◌+◌, ◌≤◌, length};
 ghost use Rattle.session_print.specs.Puts.{Puts};
-ghost use Rattle.explain_trace_said.specs.Reasons.{reason_text, rule_text, allowed_text, why_text, code_text};
+ghost use Rattle.listing.specs.Bytes.{bytes_of};
+ghost use Rattle.explain_trace_said.specs.Reasons.{sentence, counted, reason_text, fault_text, rule_text, code_text};
 
-use explain_said::reason::put_line;
-use explain_trace::reasons::NOT_AFTER;
+use explain_fields::Fault;
+use explain_said::{put_line, put_spot, put_with_figure, strange_sentence};
+use explain_trace::Reason;
 use session_print::figure::put_figure;
 use test_cases::report::put_text;
 
-// The sentence of a reason by its number, put at a place; the place past it. None for other numbers.
-fn put_reason(out: &mut [u8], at: usize, why: u32) -> usize
-    requires { at ≤ 50000 }
-    ensures { Puts out.old at (reason_text why) out.new result × (result ≤ at + 4000) }
+// A reason's sentence, without the figure behind it.
+fn sentence(why: Reason) -> &'static [u8]
+    ensures is { result.now ≡ bytes_of (sentence why) }
+    ensures short { length result.now ≤ 200 }
 {
-    put_line(
-        out,
-        at,
-        b"nothing is wrong
-nothing stands here: the line is blank, two tabs or spaces follow each other, or one ends the line
-a carriage return stands here: a line ends in a line feed alone
-a byte that is not ASCII stands here
-spaces stand where tabs belong: one tab parts two fields
-no line begins so: the letters are I and Q
-the number of fields is wrong: after the letter I has 3, time, input and value; Q has 1, time
-this is no time: digits alone, no zero in front, no sign, at most 18446744073709551615
-this is no input number: digits alone, no zero in front, no sign, at most 4294967295
-this is no value: from -2147483648 to 2147483647, no zero and no plus in front
-one piece alone stands in this field: a space parts it in two
-the line has no form
-the last line lacks its line feed
-the trace ends here without Q: its last line is Q with a time
-this line stands after Q, which is the last
-this time is not after the present moment: times rise, the first is at least 1; here above 
-no such input: they are numbered from 0; this listing has 
-the inputs of one time are listed in rising order, each once: here from ",
-        why as usize,
-    )
-}
-
-// The figure behind a reason that asks for it; the place past it.
-fn put_allowed(out: &mut [u8], at: usize, why: u32, allowed: u64) -> usize
-    requires { at ≤ 60000 }
-    ensures { Puts out.old at (allowed_text why allowed) out.new result × (result ≤ at + 20) }
-{
-    if why < NOT_AFTER {
-        return at;
+    match why {
+        Reason::Strange(strange) => strange_sentence(strange),
+        Reason::NoSuchLetter => b"no line begins so: the letters are I and Q",
+        Reason::FieldCount =>
+            b"the number of fields is wrong: after the letter I has 3, time, input and value; Q has 1, time",
+        Reason::BadTime =>
+            b"this is no time: digits alone, no zero in front, no sign, at most 18446744073709551615",
+        Reason::BadInput =>
+            b"this is no input number: digits alone, no zero in front, no sign, at most 4294967295",
+        Reason::BadValue =>
+            b"this is no value: from -2147483648 to 2147483647, no zero and no plus in front",
+        Reason::SecondPiece => b"one piece alone stands in this field: a space parts it in two",
+        Reason::NoForm => b"the line has no form",
+        Reason::NoLineFeed => b"the last line lacks its line feed",
+        Reason::NoLast => b"the trace ends here without Q: its last line is Q with a time",
+        Reason::AfterLast => b"this line stands after Q, which is the last",
+        Reason::NotAfter(_) =>
+            b"this time is not after the present moment: times rise, the first is at least 1; here above ",
+        Reason::NoInput(_) => b"no such input: they are numbered from 0; this listing has ",
+        Reason::NotRising(_) =>
+            b"the inputs of one time are listed in rising order, each once: here from ",
     }
-    put_figure(out, at, allowed)
 }
 
-// A reason with its figure; the place past them.
-pub fn put_why(out: &mut [u8], at: usize, why: u32, allowed: u64) -> usize
-    requires { at ≤ 50000 }
-    ensures { Puts out.old at (why_text why allowed) out.new result × (result ≤ at + 4020) }
+// The figure behind a reason's sentence: the time that is to be passed, the number of inputs, the least number.
+fn counted(why: Reason) -> Option<u64>
+    ensures { result ≡ counted why }
 {
-    let a = put_reason(out, at, why);
-    put_allowed(out, a, why, allowed)
+    match why {
+        Reason::NotAfter(time) => Some(time),
+        Reason::NoInput(inputs) => Some(inputs),
+        Reason::NotRising(least) => Some(least),
+        _ => None,
+    }
+}
+
+// A reason, put at a place; the place past it.
+fn put_reason(out: &mut [u8], at: usize, why: Reason) -> usize
+    requires { at ≤ 50000 }
+    ensures { Puts out.old at (reason_text why) out.new result × (result ≤ at + 220) }
+{
+    put_with_figure(out, at, sentence(why), counted(why))
+}
+
+// What is wrong in a line, and where, or that nothing is; the place past it.
+pub fn put_fault(out: &mut [u8], at: usize, line: &[u8], fault: Option<Fault<Reason>>) -> usize
+    requires { at ≤ 30000 }
+    ensures { Puts out.old at (fault_text line.now fault) out.new result × (result ≤ at + 4420) }
+{
+    match fault {
+        Some(fault) => {
+            let past = put_spot(out, at, line, fault.spot);
+            put_reason(out, past, fault.why)
+        }
+        None => put_text(out, at, b"nothing is wrong"),
+    }
 }
 
 // The rule of a code, put at a place; the place past it. None for other numbers.

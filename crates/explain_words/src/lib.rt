@@ -5,17 +5,17 @@ ghost use Rattle.std.specs.Prelude.{◌≡◌};
 ghost use Rattle.explain_words.specs.Words.{letter_flag, flag_of, after_flag, held_after};
 
 // What the next word is: a flag or a listing, or the file that a flag speaks of.
-#[derive(Clone, Copy)]
+#[derive(Clone, Copy, Debug, PartialEq, Eq)]
 pub enum Awaited {
     Word,
     Trace,
     Schedule,
 }
 
-// Between two arguments: the number of the listing's, 0 if there is none yet; and what comes next.
-#[derive(Clone, Copy)]
+// Between two arguments: the number of the listing's, if there is one yet; and what comes next.
+#[derive(Clone, Copy, Debug, PartialEq, Eq)]
 pub struct Held {
-    pub listing: usize,
+    pub listing: Option<usize>,
     pub awaited: Awaited,
 }
 
@@ -46,12 +46,12 @@ pub fn flag_of(word: &[u8]) -> Awaited
 }
 
 // What is held after a word that is no flag's file.
-fn after_flag(k: usize, listing: usize, flag: Awaited) -> Held
+fn after_flag(k: usize, listing: Option<usize>, flag: Awaited) -> Held
     ensures { result ≡ after_flag k listing flag }
 {
     match flag {
         Awaited::Word => Held {
-            listing: k,
+            listing: Some(k),
             awaited: Awaited::Word,
         },
         Awaited::Trace => Held {

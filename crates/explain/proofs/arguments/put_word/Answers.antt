@@ -4,11 +4,11 @@ use native.Mathlib.Omega.{arith}
 use Rattle.explain.specs.Arguments.{no_listing, trace, flag, listing}
 use Rattle.explain.proofs.arguments.put_word.Goals as goal
 
-pub returns-then-held-eq0 : goal.returns-then-held-eq0
-returns-then-held-eq0 g c = let p = c.put_usage.ensures in (no_listing c.if-held.true c.if-held-eq0.true p.0, omega (arith, p.1))
+pub returns-in-Some : goal.returns-in-Some
+returns-in-Some g c = let p = c.put_traced.ensures in (trace c.if-held.true c.in-Some.is p.0, p.1)
 
-pub returns-then-held : goal.returns-then-held
-returns-then-held g c = let p = c.put_traced.ensures in (trace c.if-held.true c.if-held-eq0.false p.0, p.1)
+pub returns-in-None : goal.returns-in-None
+returns-in-None g c = let p = c.put_usage.ensures in (no_listing c.if-held.true c.in-None.is p.0, omega (arith, p.1))
 
 pub returns-then-is_flag : goal.returns-then-is_flag
 returns-then-is_flag g c = (flag c.if-held.false (sym c.is_flag.ensures ∙ c.if-is_flag.true) refl, omega arith)

@@ -1,29 +1,31 @@
 -- `explain_fields::field::field_fault` meets its contract.
-use native.Mathlib.Omega.{arith}
-use Rattle.explain_fields.proofs.Fields.{walking_begun, found_here, ended_here, walking_on}
+use Rattle.std.proofs.Common.{rules, tests, arith, sym}
+use Rattle.std.proofs.lemmas.List.{length_push}
+use Rattle.explain_parts.proofs.Parts.{part_turn, parts_end}
+use Rattle.explain_fields.proofs.Fields.{wrong_here, fine_here, all_fine}
 use Rattle.explain_fields.proofs.field.field_fault.Goals as goal
 
-pub loop-role-init : goal.loop-role-init
-loop-role-init c = walking_begun _ _
+pub returns-in-Err : goal.returns-in-Err
+returns-in-Err c =
+    let s = c.split-piece-items.ensures in
+    let turn = part_turn 32 _ _ _ _ c.args.field.now c.loop-piece.yielded_by c.next.ensures.steps c.into_iter-piece-iterator.ensures.into_iter_gives s.rest s.done s.closure (λ x b q k. search (rules, tests)) c.in-Some.piece c.in-Some.is in
+    wrong_here _ _ _ _ _ c.loop-piece.invariant.same _ turn _ c.in-Err.ensures
 
-pub part_end-end-requires : goal.part_end-end-requires
-part_end-end-requires c = c.loop-role.invariant.inside
+pub loop-piece-preserved : goal.loop-piece-preserved
+loop-piece-preserved c =
+    let s = c.split-piece-items.ensures in
+    let turn = part_turn 32 _ _ _ _ c.args.field.now c.loop-piece.yielded_by c.next.ensures.steps c.into_iter-piece-iterator.ensures.into_iter_gives s.rest s.done s.closure (λ x b q k. search (rules, tests)) c.in-Some.piece c.in-Some.is in
+    let more = length_push c.loop-piece.yielded c.in-Some.piece in
+    record { counted = omega arith; same = fine_here _ _ _ _ _ c.loop-piece.invariant.same _ turn _ _ c.in-Ok.ensures (omega arith) }
 
-pub returns-then-t-ne-FINE : goal.returns-then-t-ne-FINE
-returns-then-t-ne-FINE c =
-    let e = c.part_end-end.ensures in
-    found_here _ _ _ _ _ _ _ c.loop-role.invariant e.0 c.told-t.ensures e.2 c.if-t-ne-FINE.true
+pub returns-in-Some-ended_why : goal.returns-in-Some-ended_why
+returns-in-Some-ended_why c =
+    let s = c.split-piece-items.ensures in
+    let end = parts_end 32 _ _ _ _ c.args.field.now c.loop-piece.yielded_by c.next.ensures.steps c.into_iter-piece-iterator.ensures.into_iter_gives s.rest s.done s.closure (λ x b q k. search (rules, tests)) c.in-None.is in
+    all_fine _ _ _ _ _ c.loop-piece.invariant.same end _ c.in-Some-ended_why.ensures
 
-pub returns-then-end-field : goal.returns-then-end-field
-returns-then-end-field c = rw c.ended_why.ensures (ended_here _ _ _ _ _ _ _ c.loop-role.invariant c.part_end-end.ensures.0 c.told-t.ensures c.if-end-field.true c.if-t-ne-FINE.false)
-
-pub overflow_add-number : goal.overflow_add-number
-overflow_add-number c = record { fits = omega (arith, c.loop-role.invariant.few, c.loop-role.invariant.inside, c.requires) }
-
-pub loop-role-smaller : goal.loop-role-smaller
-loop-role-smaller c = omega (arith, c.part_end-end.ensures.1, c.part_end-end.ensures.2, c.if-end-field.false)
-
-pub loop-role-preserved : goal.loop-role-preserved
-loop-role-preserved c =
-    let e = c.part_end-end.ensures in
-    walking_on _ _ _ _ _ _ _ c.loop-role.invariant e.0 c.told-t.ensures (omega (arith, e.2, c.if-end-field.false)) c.if-t-ne-FINE.false
+pub returns-in-None-ended_why : goal.returns-in-None-ended_why
+returns-in-None-ended_why c =
+    let s = c.split-piece-items.ensures in
+    let end = parts_end 32 _ _ _ _ c.args.field.now c.loop-piece.yielded_by c.next.ensures.steps c.into_iter-piece-iterator.ensures.into_iter_gives s.rest s.done s.closure (λ x b q k. search (rules, tests)) c.in-None.is in
+    all_fine _ _ _ _ _ c.loop-piece.invariant.same end _ c.in-None-ended_why.ensures

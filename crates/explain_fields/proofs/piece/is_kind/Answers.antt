@@ -16,6 +16,6 @@ pub returns-then-b-eq114 : goal.returns-then-b-eq114
 unfolding read_kind
 returns-then-b-eq114 c = rw c.if-b-eq114.true
 
-pub returns : goal.returns
+pub returns-else-b-eq114 : goal.returns-else-b-eq114
 unfolding read_kind
-returns c = rw (ne_eqb _ 114 c.if-b-eq114.false) (go _)
+returns-else-b-eq114 c = rw (ne_eqb _ 114 c.if-b-eq114.false) (go _)

@@ -1,7 +1,10 @@
 -- `explain_fields::piece::is_kinds` meets its contract.
-use mathlib.Core.Path.{sym, ◌∙◌}
-use native.Mathlib.Omega.{arith}
-use native.Mathlib.Numerals.{add-one}
+use mathlib.Core.Path.{◌∙◌}
+use Rattle.std.proofs.Common.{rules, tests}
+use Rattle.std.proofs.lemmas.Iterator.{YieldsList-from_slice}
+use Rattle.std.proofs.lemmas.Iterator.Search.{all_from_yields_List}
+use Rattle.listing.specs.Lists.{is_some}
+use Rattle.listing.specs.Form.{read_kind}
 use Rattle.explain_fields.proofs.Pieces as pieces
 use Rattle.explain_fields.proofs.piece.is_kinds.Goals as goal
 
@@ -11,20 +14,7 @@ returns-then-piece-eq0 c = pieces.no_kinds _ c.if-piece-eq0.true
 pub returns-then-piece-eq45 : goal.returns-then-piece-eq45
 returns-then-piece-eq45 c = pieces.dash_alone _ c.if-piece-eq0.false c.if-piece-eq45.true
 
-pub loop-i-init : goal.loop-i-init
-loop-i-init c = (omega arith, pieces.letters_there _ c.if-piece-eq0.false c.if-piece-eq45.false)
-
-pub loop-i-preserved : goal.loop-i-preserved
-loop-i-preserved c =
-    let v = c.loop-i in
-    (omega (arith, c.loop-i-test.true), simp add-one (sym (pieces.letters_on _ v.i c.loop-i-test.true ∙ rw (sym c.is_kind.ensures ∙ c.if-is_kind.true)) ∙ v.invariant.1))
-
-pub returns-else-is_kind : goal.returns-else-is_kind
-returns-else-is_kind c =
-    let v = c.loop-i in
-    sym (sym v.invariant.1 ∙ pieces.letters_on _ v.i c.loop-i-test.true ∙ rw (sym c.is_kind.ensures ∙ c.if-is_kind.false))
-
 pub returns : goal.returns
 returns c =
-    let v = c.loop-i in
-    sym (sym v.invariant.1 ∙ pieces.letters_none _ v.i c.loop-i-test.false)
+    all_from_yields_List (λ b. is_some (read_kind b)) _ _ _ c.all.ensures.ran (YieldsList-from_slice _ c.iter.ensures.rest) (λ x b q k. search (rules, tests))
+    ∙ pieces.letters_all _ ∙ pieces.letters_there _ c.if-piece-eq0.false c.if-piece-eq45.false

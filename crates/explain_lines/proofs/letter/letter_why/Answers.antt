@@ -1,10 +1,9 @@
 -- `explain_lines::letter::letter_why` meets its contract.
-use mathlib.Core.Path.{sym, ◌∙◌}
-use Prim.Native.Nat.{◌<◌, ◌≤◌}
-use native.Mathlib.Omega.{arith}
-use lib.ListN.{length}
-use borrow.Author.Tests.{lt-ltb, le-ltb}
-use Rattle.explain_parts.specs.Parts.{first_part_lem}
+use mathlib.Core.Path.{sym, ap, ◌∙◌}
+use Rattle.std.specs.Prelude.{Option, Some}
+use Rattle.explain_fields.specs.Pieces.{strange_or}
+use Rattle.explain_fields.specs.declared.reasons.Strange.{Strange}
+use Rattle.explain_fields.specs.declared.reasons.Reason.TheVariants as WV
 use Rattle.explain_lines.specs.Letters.{letter_why}
 use Rattle.explain_lines.proofs.letter.letter_why.Goals as goal
 
@@ -12,16 +11,10 @@ pub returns-then-is_letter_field : goal.returns-then-is_letter_field
 unfolding letter_why
 returns-then-is_letter_field c = rw (sym c.is_letter_field.ensures ∙ c.if-is_letter_field.true)
 
-pub returns-then-part_end-field : goal.returns-then-part_end-field
+pub returns-in-Some : goal.returns-in-Some
 unfolding letter_why
-returns-then-part_end-field c =
-    let f = c.args.field.now in
-    let h : length (first_part_lem 32 f) < length f = omega (arith, c.part_end.ensures.0, c.if-part_end-field.true) in
-    rw (sym c.is_letter_field.ensures ∙ c.if-is_letter_field.false, lt-ltb _ _ h)
+returns-in-Some c = rw (sym c.is_letter_field.ensures ∙ c.if-is_letter_field.false) (ap (λ (o : Option Strange). Some (strange_or WV.NoSuchLetter o)) c.in-Some.ensures)
 
-pub returns : goal.returns
+pub returns-in-None : goal.returns-in-None
 unfolding letter_why
-returns c =
-    let f = c.args.field.now in
-    let h : length f ≤ length (first_part_lem 32 f) = omega (arith, c.part_end.ensures.0, c.if-part_end-field.false) in
-    rw (sym c.is_letter_field.ensures ∙ c.if-is_letter_field.false, le-ltb _ _ h) c.why_bad.ensures
+returns-in-None c = rw (sym c.is_letter_field.ensures ∙ c.if-is_letter_field.false) (ap (λ (o : Option Strange). Some (strange_or WV.NoSuchLetter o)) c.in-None.ensures)

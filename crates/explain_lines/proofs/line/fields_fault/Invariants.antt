@@ -1,9 +1,7 @@
+use mathlib.Core.Path.{◌≡◌}
 use Prim.Native.Nat.{◌+◌, ◌-◌}
-use Rattle.explain_lines.proofs.Lines.{Looking}
+use Rattle.explain_lines.specs.Lines.{fields_fault}
 use Rattle.explain_lines.proofs.line.fields_fault.Given as goal
 
 abbrev pub invariant-loop-number : goal.invariant-loop-number
-invariant-loop-number l = Looking l.letter l.line l.count l.number
-
-abbrev pub decreases-loop-number : goal.decreases-loop-number
-decreases-loop-number l = l.count + 1 - l.number
+invariant-loop-number l = fields_fault l.letter l.line l.number (l.count + 1 - l.number) ≡ fields_fault l.letter l.line 1 l.count

@@ -5,8 +5,5 @@ use Rattle.session_trace_lines.specs.Figures.{below_answer}
 use Rattle.explain_played.specs.Endings.{number_in}
 use Rattle.explain_played.proofs.last.leading_figure.Goals as goal
 
-pub slice_bounds-number_in-count : goal.slice_bounds-number_in-count
-slice_bounds-number_in-count c = c.part_after-part.ensures.rising
-
 pub returns : goal.returns
-returns c = c.number_in.ensures ∙ ap (λ (b : Bytes). number_in (below_answer 4294967296 b)) c.part_after-part.ensures.is
+returns c = c.number_in.ensures ∙ ap (λ (b : Bytes). number_in (below_answer 4294967296 b)) c.part_of.ensures.is

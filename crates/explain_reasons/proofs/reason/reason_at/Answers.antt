@@ -13,7 +13,7 @@ returns-in-3 c = rw (c.in-3.is, c.about.ensures, c.limit_why.ensures)
 
 pub returns-in-4 : goal.returns-in-4
 unfolding fault_at
-returns-in-4 c = rw c.in-4.is c.there_fault.ensures
+returns-in-4 c = rw (c.in-4.is, c.there_fault.ensures)
 
 pub returns-in-5 : goal.returns-in-5
 unfolding fault_at
@@ -21,4 +21,4 @@ returns-in-5 c = rw (c.in-5.is, c.about-in-5.ensures, c.ending_why.ensures)
 
 pub returns-in_default : goal.returns-in_default
 unfolding fault_at
-returns-in_default c = let r = c.in_default.in_default-own.rest in rw (ne_eqb _ 2 r.0.0.0.1, ne_eqb _ 3 r.0.0.1, ne_eqb _ 4 r.0.1, ne_eqb _ 5 r.1) c.about-in_default.ensures
+returns-in_default c = let r = c.in_default.in_default-own.rest in rw (ne_eqb _ 2 r.0.0.0.1, ne_eqb _ 3 r.0.0.1, ne_eqb _ 4 r.0.1, ne_eqb _ 5 r.1)

@@ -1,10 +1,15 @@
 -- `explain_said::spot::put_fault` meets its contract.
 use native.Mathlib.Omega.{arith}
+use Rattle.listing.specs.Bytes.{bytes_of}
 use Rattle.session_print.proofs.LineBytes as line
 use Rattle.explain_said.proofs.spot.put_fault.Goals as goal
 
-pub returns : goal.returns
-returns c =
-    let spot = c.put_spot-a.ensures in
+pub returns-in-Some : goal.returns-in-Some
+returns-in-Some c =
+    let spot = c.put_spot-past.ensures in
     let reason = c.put_reason.ensures in
-    (line.then_bytes spot.0 reason.0, omega (arith, spot.1, reason.1))
+    rw c.in-Some.is (line.then_bytes spot.0 reason.0, omega (arith, spot.1, reason.1))
+
+pub returns-in-None : goal.returns-in-None
+unfolding bytes_of
+returns-in-None c = rw c.in-None.is (c.put_text.ensures.0, omega (arith, c.put_text.ensures.1))

@@ -12,8 +12,7 @@ pub returns : goal.returns
 unfolding piece_text bytes_of
 returns c =
     let first = c.put_text-a.ensures in
-    let part = c.part_after-part.ensures in
     let middle = c.put_shown-b.ensures in
     let last = c.put_text.ensures in
-    let is = ap (shown 40) (part.is ∙ ap (part_of 32 c.args.field.now) c.before-2.ensures) in
+    let is = ap (shown 40) (c.part_of-shown.ensures.is ∙ ap (part_of 32 c.args.field.now) c.saturating_sub.ensures) in
     (line.then_bytes first.0 (line.then_bytes (line.same_bytes is middle.0) last.0), omega (arith, first.1, middle.1, last.1))

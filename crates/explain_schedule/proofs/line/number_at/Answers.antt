@@ -5,8 +5,5 @@ use Rattle.text_piece.specs.Pieces.{figure_answer}
 use Rattle.explain_schedule.specs.Lines.{value_in}
 use Rattle.explain_schedule.proofs.line.number_at.Goals as goal
 
-pub slice_bounds-figure_value-count : goal.slice_bounds-figure_value-count
-slice_bounds-figure_value-count c = c.part_after-part.ensures.rising
-
 pub returns : goal.returns
-returns c = c.figure_value.ensures ∙ ap (λ (l : Bytes). value_in (figure_answer l)) c.part_after-part.ensures.is
+returns c = c.figure_value.ensures ∙ ap (λ (l : Bytes). value_in (figure_answer l)) c.part_of.ensures.is

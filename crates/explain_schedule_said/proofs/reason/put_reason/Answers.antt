@@ -1,11 +1,5 @@
 -- `explain_schedule_said::reason::put_reason` meets its contract.
-use mathlib.Core.Path.{refl}
-use Rattle.session_print.proofs.LineBytes as line
-use Rattle.listing.specs.Bytes.{bytes_of, join}
-use Rattle.explain_schedule_said.specs.Reasons.{reason_texts, joined_reasons}
-use Rattle.explain_schedule_said.proofs.Saying.{reason_by_line}
 use Rattle.explain_schedule_said.proofs.reason.put_reason.Goals as goal
 
 pub returns : goal.returns
-unfolding joined_reasons reason_texts bytes_of join
-returns c = let p = c.put_line.ensures in (line.same_bytes (reason_by_line _ _ refl) p.0, p.1)
+returns c = rw (← c.sentence.ensures.is, ← c.counted.ensures) c.put_with_figure.ensures

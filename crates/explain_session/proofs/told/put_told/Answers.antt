@@ -8,9 +8,8 @@ use Rattle.explain_session.proofs.told.put_told.Goals as goal
 pub returns : goal.returns
 unfolding told_line bytes_of
 returns c =
-    let a = c.put_spot-a.ensures in
-    let b = c.put_why-b.ensures in
-    let d = c.put_text-c.ensures in
-    let e = c.put_shown-d.ensures in
-    let f = c.put_code.ensures in
-    (line.then_bytes a.0 (line.then_bytes b.0 (line.then_bytes d.0 (line.then_bytes e.0 f.0))), omega (arith, a.1, b.1, d.1, e.1, f.1))
+    let a = c.put_fault-a.ensures in
+    let b = c.put_text-b.ensures in
+    let d = c.put_shown-c.ensures in
+    let e = c.put_code.ensures in
+    (line.then_bytes a.0 (line.then_bytes b.0 (line.then_bytes d.0 e.0)), omega (arith, a.1, b.1, d.1, e.1))

@@ -1,22 +1,27 @@
 -- `explain_there::around::around_all` meets its contract.
-use native.Mathlib.Omega.{arith}
-use Rattle.explain_there.proofs.Arounds.{telling_begun, bounded_small, told_all, telling_on}
+use Rattle.std.proofs.Common.{rules, tests, arith}
+use Rattle.std.proofs.lemmas.List.{length_push}
+use mathlib.Core.Path.{refl}
+use Rattle.explain_parts.proofs.Parts.{part_turn, parts_end, few_parts}
+use Rattle.explain_there.proofs.Arounds.{nothing_held, bounded_small, bounded_on, told_all, told_on}
 use Rattle.explain_there.proofs.around.around_all.Goals as goal
 
-pub loop-held-init : goal.loop-held-init
-loop-held-init c = telling_begun _ _
-
-pub part_end-end-requires : goal.part_end-end-requires
-part_end-end-requires c = c.loop-held.invariant.inside
+pub loop-line-init : goal.loop-line-init
+loop-line-init c = record { bounded = nothing_held; same = refl }
 
 pub around_line-held-requires : goal.around_line-held-requires
-around_line-held-requires c = let v = c.loop-held.invariant in bounded_small _ v.bounded (omega (arith, v.inside, c.requires))
+around_line-held-requires c =
+    let turn = part_turn 10 _ _ _ _ c.args.listing.now c.loop-line.yielded_by c.next.ensures.steps c.into_iter-line-iterator.ensures.into_iter_gives c.split-line-items.ensures.rest c.split-line-items.ensures.done c.split-line-items.ensures.closure (λ x b q k. search (rules, tests)) c.in-Some.line c.in-Some.is in
+    bounded_small _ c.loop-line.invariant.bounded (omega (arith, turn.0, few_parts 10 c.args.listing.now, c.requires))
 
-pub returns-then-end-listing : goal.returns-then-end-listing
-returns-then-end-listing c = told_all _ _ _ _ c.loop-held.invariant _ c.part_end-end.ensures.0 _ c.around_line-held.ensures c.if-end-listing.true
+pub loop-line-preserved : goal.loop-line-preserved
+loop-line-preserved c =
+    let turn = part_turn 10 _ _ _ _ c.args.listing.now c.loop-line.yielded_by c.next.ensures.steps c.into_iter-line-iterator.ensures.into_iter_gives c.split-line-items.ensures.rest c.split-line-items.ensures.done c.split-line-items.ensures.closure (λ x b q k. search (rules, tests)) c.in-Some.line c.in-Some.is in
+    let more = length_push c.loop-line.yielded c.in-Some.line in
+    record {
+      bounded = rw c.around_line-held.ensures (bounded_on _ _ _ _ _ (omega arith) c.loop-line.invariant.bounded);
+      same = told_on _ _ _ _ c.loop-line.invariant.same _ turn _ _ c.around_line-held.ensures more;
+    }
 
-pub loop-held-smaller : goal.loop-held-smaller
-loop-held-smaller c = omega (arith, c.part_end-end.ensures.1, c.part_end-end.ensures.2, c.if-end-listing.false)
-
-pub loop-held-preserved : goal.loop-held-preserved
-loop-held-preserved c = telling_on _ _ _ _ c.loop-held.invariant _ c.part_end-end.ensures.0 _ c.around_line-held.ensures (omega (arith, c.part_end-end.ensures.2, c.if-end-listing.false))
+pub returns : goal.returns
+returns c = told_all _ _ _ _ c.loop-line.invariant.same (parts_end 10 _ _ _ _ c.args.listing.now c.loop-line.yielded_by c.next.ensures.steps c.into_iter-line-iterator.ensures.into_iter_gives c.split-line-items.ensures.rest c.split-line-items.ensures.done c.split-line-items.ensures.closure (λ x b q k. search (rules, tests)) c.in-None.is)

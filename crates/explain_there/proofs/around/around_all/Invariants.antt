@@ -1,10 +1,12 @@
-use Prim.Native.Nat.{◌-◌}
-use lib.ListN.{length}
-use Rattle.explain_there.proofs.Arounds.{Telling}
+use mathlib.Core.Path.{◌≡◌}
+use lib.ListN.{length, drop}
+use Rattle.listing.specs.Bytes.{split}
+use Rattle.explain_there.specs.Arounds.{around_all, around_of}
+use Rattle.explain_there.proofs.Arounds.{Bounded}
 use Rattle.explain_there.proofs.around.around_all.Given as goal
 
-abbrev pub invariant-loop-held : goal.invariant-loop-held
-invariant-loop-held l = Telling l.listing l.place l.at l.held
-
-abbrev pub decreases-loop-held : goal.decreases-loop-held
-decreases-loop-held l = length l.listing - l.at
+abbrev pub invariant-loop-line : goal.invariant-loop-line
+invariant-loop-line l = record {
+  bounded : Bounded l.held (length l.yielded);
+  same : around_all l.held l.place (drop (length l.yielded) (split 10 l.listing)) ≡ around_of l.listing l.place;
+}

@@ -7,4 +7,4 @@ use Rattle.explain_there.specs.Arounds.{value_in}
 use Rattle.explain_there.proofs.around.locals_on.Goals as goal
 
 pub returns : goal.returns
-returns c = let f = c.figure_value.ensures in (f.0 ∙ ap (λ (l : List ℕ). value_in (figure_answer l)) c.part_after-part.ensures.is, f.1)
+returns c = let f = c.figure_value.ensures in (f.0 ∙ ap (λ (l : List ℕ). value_in (figure_answer l)) c.part_of.ensures.is, f.1)

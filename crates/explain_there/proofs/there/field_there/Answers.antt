@@ -1,25 +1,23 @@
 -- `explain_there::there::field_there` meets its contract.
-use native.Mathlib.Omega.{arith}
-use Rattle.explain_there.proofs.Pointing.{pointing_begun, missing_here, all_there, pointing_on}
+use Rattle.std.proofs.Common.{rules, tests, arith}
+use Rattle.std.proofs.lemmas.List.{length_push}
+use Rattle.explain_parts.proofs.Parts.{part_turn, parts_end}
+use Rattle.explain_there.proofs.Pointing.{missing_here, all_there, there_on}
 use Rattle.explain_there.proofs.there.field_there.Goals as goal
 
-pub loop-scope-init : goal.loop-scope-init
-loop-scope-init c = pointing_begun _ _ _
+pub returns-then-not-piece_there : goal.returns-then-not-piece_there
+returns-then-not-piece_there c =
+    let turn = part_turn 32 _ _ _ _ c.args.field.now c.loop-piece.yielded_by c.next.ensures.steps c.into_iter-piece-iterator.ensures.into_iter_gives c.split-piece-items.ensures.rest c.split-piece-items.ensures.done c.split-piece-items.ensures.closure (λ x b q k. search (rules, tests)) c.in-Some.piece c.in-Some.is in
+    missing_here _ _ _ _ _ _ c.loop-piece.invariant.same _ turn _ c.bound_of-bound.ensures _ c.piece_there.ensures c.if-not-piece_there.true _ c.missing.ensures
 
-pub part_end-end-requires : goal.part_end-end-requires
-part_end-end-requires c = c.loop-scope.invariant.inside
+pub loop-piece-preserved : goal.loop-piece-preserved
+loop-piece-preserved c =
+    let turn = part_turn 32 _ _ _ _ c.args.field.now c.loop-piece.yielded_by c.next.ensures.steps c.into_iter-piece-iterator.ensures.into_iter_gives c.split-piece-items.ensures.rest c.split-piece-items.ensures.done c.split-piece-items.ensures.closure (λ x b q k. search (rules, tests)) c.in-Some.piece c.in-Some.is in
+    let more = length_push c.loop-piece.yielded c.in-Some.piece in
+    record {
+      counted = omega arith;
+      same = there_on _ _ _ _ _ _ c.loop-piece.invariant.same _ turn _ c.bound_of-bound.ensures _ c.piece_there.ensures c.if-not-piece_there.false _ more;
+    }
 
-pub returns-then-end-field : goal.returns-then-end-field
-returns-then-end-field c = all_there _ _ _ _ _ _ _ c.loop-scope.invariant c.part_end-end.ensures.0 _ c.bound_of.ensures _ c.piece_there.ensures c.if-end-field.true c.if-piece_there.true
-
-pub overflow_add-number : goal.overflow_add-number
-overflow_add-number c = record { fits = omega (arith, c.loop-scope.invariant.few, c.loop-scope.invariant.inside, c.requires) }
-
-pub loop-scope-smaller : goal.loop-scope-smaller
-loop-scope-smaller c = omega (arith, c.part_end-end.ensures.1, c.part_end-end.ensures.2, c.if-end-field.false)
-
-pub loop-scope-preserved : goal.loop-scope-preserved
-loop-scope-preserved c = pointing_on _ _ _ _ _ _ _ c.loop-scope.invariant c.part_end-end.ensures.0 _ c.bound_of.ensures _ c.piece_there.ensures (omega (arith, c.part_end-end.ensures.2, c.if-end-field.false)) c.if-piece_there.true
-
-pub returns-else-piece_there : goal.returns-else-piece_there
-returns-else-piece_there c = missing_here _ _ _ _ _ _ _ c.loop-scope.invariant c.part_end-end.ensures.0 _ c.bound_of.ensures _ c.piece_there.ensures c.part_end-end.ensures.2 c.if-piece_there.false
+pub returns : goal.returns
+returns c = all_there _ _ _ _ _ _ c.loop-piece.invariant.same (parts_end 32 _ _ _ _ c.args.field.now c.loop-piece.yielded_by c.next.ensures.steps c.into_iter-piece-iterator.ensures.into_iter_gives c.split-piece-items.ensures.rest c.split-piece-items.ensures.done c.split-piece-items.ensures.closure (λ x b q k. search (rules, tests)) c.in-None.is)

@@ -1,9 +1,7 @@
+use mathlib.Core.Path.{◌≡◌}
 use Prim.Native.Nat.{◌+◌, ◌-◌}
-use Rattle.explain_there.proofs.Pointing.{Looking}
+use Rattle.explain_there.specs.There.{fields_there}
 use Rattle.explain_there.proofs.there.fields_there.Given as goal
 
 abbrev pub invariant-loop-number : goal.invariant-loop-number
-invariant-loop-number l = Looking l.scope l.letter l.line l.count l.number
-
-abbrev pub decreases-loop-number : goal.decreases-loop-number
-decreases-loop-number l = l.count + 1 - l.number
+invariant-loop-number l = fields_there l.scope l.letter l.line l.number (l.count + 1 - l.number) ≡ fields_there l.scope l.letter l.line 1 l.count

@@ -1,38 +1,38 @@
 -- `explain_trace::form::form_fault` meets its contract.
 use Prim.Native.Nat.{◌-◌}
 use mathlib.Core.Path.{◌≡◌, sym, ap, ◌∙◌}
+use mathlib.Core.Bool.{true, false}
 use native.Mathlib.Omega.{arith}
 use lib.ListN.{length, get_or}
+use Rattle.std.specs.Prelude.{Some, None}
 use Rattle.listing.specs.Bytes.{split}
 use Rattle.explain_parts.specs.Parts.{part_of}
-use Rattle.explain_lines.proofs.Lines.{some_field, few_fields}
-use Rattle.explain_trace.specs.Forms.{letter_why, fields_after}
+use Rattle.explain_parts.proofs.Parts.{some_part, few_parts}
+use Rattle.explain_fields.specs.declared.reasons.Fault.{Fault}
+use Rattle.explain_trace.specs.declared.reasons.Reason.{Reason}
+use Rattle.explain_trace.specs.Forms.{letter_why, fits_letter}
 use Rattle.explain_trace.proofs.Fields.{letter_wrong, count_wrong, by_fields}
 use Rattle.explain_trace.proofs.form.form_fault.Goals as goal
 
-pub slice_bounds-letter_why-count : goal.slice_bounds-letter_why-count
-slice_bounds-letter_why-count c = c.part_after-first.ensures.rising
-
-pub returns-then-letter_reason-ne-FINE : goal.returns-then-letter_reason-ne-FINE
-returns-then-letter_reason-ne-FINE c = letter_wrong _ _ (c.letter_why-letter_reason.ensures ∙ ap letter_why c.part_after-first.ensures.is) c.if-letter_reason-ne-FINE.true
+pub returns-in-Some : goal.returns-in-Some
+returns-in-Some c = letter_wrong _ _ (sym (c.letter_why.ensures ∙ ap letter_why c.part_of.ensures.is) ∙ c.in-Some.is)
 
 pub overflow_sub-count : goal.overflow_sub-count
-overflow_sub-count c = omega (arith, c.count_parts-count.ensures, some_field 9 c.args.line.now)
+overflow_sub-count c = omega (arith, c.count_parts-count.ensures, some_part 9 c.args.line.now)
 
 pub fields_fault-requires : goal.fields_fault-requires
-fields_fault-requires c = omega (arith, c.count_parts-count.ensures, few_fields 9 c.args.line.now, c.requires)
+fields_fault-requires c = omega (arith, c.count_parts-count.ensures, few_parts 9 c.args.line.now, c.requires)
 
-pub returns-then-count-fields_after : goal.returns-then-count-fields_after
-returns-then-count-fields_after c =
+pub returns-then-fits_letter : goal.returns-then-fits_letter
+returns-then-fits_letter c =
     let s = c.args.line.now in
-    let fine : letter_why (part_of 9 s 0) ≡ 0 = sym (c.letter_why-letter_reason.ensures ∙ ap letter_why c.part_after-first.ensures.is) ∙ c.if-letter_reason-ne-FINE.false in
-    let count = c.count_parts-count.ensures in
-    let fits : length (split 9 s) - 1 ≡ fields_after (get_or s 0 0) = omega (arith, count, c.if-count-fields_after.true, c.fields_after.ensures ∙ ap fields_after c.first_byte.ensures) in
-    c.fields_fault.ensures ∙ rw count (by_fields s fine fits)
+    let fine : letter_why (part_of 9 s 0) ≡ None = sym (c.letter_why.ensures ∙ ap letter_why c.part_of.ensures.is) ∙ c.in_default.is in
+    let fits : fits_letter (get_or s 0 0) (length (split 9 s) - 1) ≡ true = sym (c.fits_letter.ensures ∙ rw (c.first_byte.ensures, c.count_parts-count.ensures)) ∙ c.if-fits_letter.true in
+    c.fields_fault.ensures ∙ rw c.count_parts-count.ensures (by_fields s fine fits)
 
 pub returns : goal.returns
 returns c =
     let s = c.args.line.now in
-    let fine : letter_why (part_of 9 s 0) ≡ 0 = sym (c.letter_why-letter_reason.ensures ∙ ap letter_why c.part_after-first.ensures.is) ∙ c.if-letter_reason-ne-FINE.false in
-    let count = c.count_parts-count.ensures in
-    count_wrong s fine (λ e. c.if-count-fields_after.false (omega (arith, count, e, c.fields_after.ensures ∙ ap fields_after c.first_byte.ensures)))
+    let fine : letter_why (part_of 9 s 0) ≡ None = sym (c.letter_why.ensures ∙ ap letter_why c.part_of.ensures.is) ∙ c.in_default.is in
+    let fits : fits_letter (get_or s 0 0) (length (split 9 s) - 1) ≡ false = sym (c.fits_letter.ensures ∙ rw (c.first_byte.ensures, c.count_parts-count.ensures)) ∙ c.if-fits_letter.false in
+    ap (λ (f : Fault Reason). Some f) c.about.ensures ∙ count_wrong s fine fits

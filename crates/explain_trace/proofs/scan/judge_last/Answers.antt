@@ -8,4 +8,4 @@ returns-then-nothing_after c = rw c.if-nothing_after.true
 
 pub returns : goal.returns
 unfolding judge_last
-returns c = rw c.if-nothing_after.false
+returns c = rw (c.if-nothing_after.false, c.about.ensures)

@@ -1,3 +1,4 @@
 pub mod Telling
 pub mod Storing
+pub mod Reading
 pub mod Texts

@@ -6,7 +6,7 @@ use native.Mathlib.Omega.{arith}
 use native.Mathlib.Numerals.{add-one}
 use lib.ListN.{length, get_or, take, set}
 use lib.Seq.{sets, take-suc, length-take-le, length-sets, take_all}
-use Rattle.listing.specs.Bytes.{Bytes, bytes_of, figure}
+use Rattle.listing.specs.Bytes.{bytes_of, figure}
 use Rattle.streams.specs.Counts.{IsPrefixLen}
 use Rattle.session_print.specs.Puts.{Puts}
 use Rattle.session_print.proofs.Stores.{sets_append}

@@ -3,47 +3,31 @@
 ghost use Rattle.std.specs.Prelude.{◌≡◌, ◌<◌, get_or};
 ghost use Rattle.test_cases.specs.Frame.{word_of, word_at, onward, moment_at, PartAt};
 
-fn byte_at(s: &[u8], at: usize) -> u32
-    ensures { (result ≡ get_or s.now at 0) × (result < 256) }
+fn byte_at(s: &[u8], at: usize) -> u8
+    ensures { result ≡ get_or s.now at 0 }
 {
-    if at < s.len() {
-        return s[at] as u32;
-    }
-    0
+    s.get(at).copied().unwrap_or(0)
 }
 
 // The word in the first 4 bytes.
 fn first_word(s: &[u8]) -> u32
     ensures { result ≡ word_of s.now }
 {
-    let a = byte_at(s, 0);
-    let b = byte_at(s, 1);
-    let c = byte_at(s, 2);
-    let d = byte_at(s, 3);
-    a + 256 * b + 65536 * c + 16777216 * d
+    u32::from_le_bytes([byte_at(s, 0), byte_at(s, 1), byte_at(s, 2), byte_at(s, 3)])
 }
 
 // The word that stands at a place.
 pub fn word_at(s: &[u8], at: usize) -> u32
     ensures { result ≡ word_at s.now at }
 {
-    if at > s.len() {
-        return 0;
-    }
-    first_word(&s[at..])
+    s.get(at..).map_or(0, first_word)
 }
 
 // The place so many bytes on, or the end.
 pub fn past(s: &[u8], at: usize, count: usize) -> usize
     ensures { result ≡ onward s.now at count }
 {
-    if at >= s.len() {
-        return s.len();
-    }
-    if count >= s.len() - at {
-        return s.len();
-    }
-    at + count
+    at.saturating_add(count).min(s.len())
 }
 
 // Where the bytes of a part begin and end.
@@ -69,5 +53,5 @@ pub fn moment_at(s: &[u8], at: usize) -> u64
 {
     let low = word_at(s, at);
     let high = word_at(s, past(s, at, 4));
-    low as u64 + 4294967296 * (high as u64)
+    u64::from(low) + 4294967296 * u64::from(high)
 }

@@ -14,27 +14,32 @@ pub fn put_text(out: &mut [u8], at: usize, text: &[u8]) -> usize
     requires { (at ≤ 100000) × (length text.now ≤ 100000) }
     ensures { Puts out.old at text.now out.new result × (result ≡ at + length text.now) }
 {
-    let mut k: usize = 0;
-    while k < text.len() {
-        put_byte(out, at + k, text[k]);
-        k += 1;
+    for (k, b) in text.iter().enumerate() {
+        put_byte(out, at + k, *b);
     }
-    at + k
+    at + text.len()
+}
+
+// How many cases there were, and how many of them failed.
+#[derive(Clone, Copy, Debug, PartialEq, Eq)]
+pub struct Tally {
+    pub cases: u64,
+    pub failed: u64,
 }
 
 // The last line of a report, put into lent bytes: a title, and how many cases agree, or else how many of them do not. How many bytes.
-pub fn put_summary(out: &mut [u8], title: &[u8], cases: u64, failed: u64) -> usize
+pub fn put_summary(out: &mut [u8], title: &[u8], tally: Tally) -> usize
     requires { (length title.now ≤ 100) × (200 ≤ length out.old) }
-    ensures { Puts out.old 0 (summary title.now cases failed) out.new result × IsPrefixLen result out.new }
+    ensures { Puts out.old 0 (summary title.now tally.cases tally.failed) out.new result × IsPrefixLen result out.new }
 {
     let a = put_text(out, 0, title);
-    if failed == 0 {
-        let b = put_figure(out, a, cases);
+    if tally.failed == 0 {
+        let b = put_figure(out, a, tally.cases);
         return put_text(out, b, b" cases agree\n");
     }
-    let b = put_figure(out, a, failed);
+    let b = put_figure(out, a, tally.failed);
     let c = put_text(out, b, b" of ");
-    let d = put_figure(out, c, cases);
+    let d = put_figure(out, c, tally.cases);
     put_text(out, d, b" cases fail\n")
 }
 

@@ -2,7 +2,8 @@
 // on a standard stream. Which bytes a file has and which word an argument is, no clause can say.
 #![tactic(auto)]
 
-ghost use Rattle.std.specs.Prelude.{◌≡◌, length, IfOk};
+ghost use Rattle.std.specs.Prelude.{◌≡◌, length, take, IfOk};
+ghost use Rattle.std.specs.Io.KnownBytes.{Consumes};
 ghost use Rattle.streams.specs.Counts.{IsPrefixLen};
 
 use std::env::{Env, FillError};
@@ -28,11 +29,7 @@ pub fn large_buffer() -> [u8; 65536]
 pub fn argument(env: &impl Env, i: usize, word: &mut [u8]) -> usize
     ensures { IsPrefixLen result word.new }
 {
-    match env.arg(i, word) {
-        Ok(count) => count,
-        Err(FillError::NotPresent) => 0,
-        Err(FillError::TooLong) => 0,
-    }
+    env.arg(i, word).unwrap_or(0)
 }
 
 // How many arguments there are, with the program's name.
@@ -46,16 +43,18 @@ pub fn argument_count(env: &impl Env) -> usize {
     usize::MAX
 }
 
-// Reads until the lent bytes are full, the input ends or a read fails; how many bytes were put at their start.
+// Reads until the lent bytes are full, the input ends or a read fails; how many bytes were put at their start. They are the next of the input,
+// and it has lost no others, where its bytes are known.
 pub fn read_full<R: Read>(reader: &mut R, bytes: &mut [u8]) -> usize
-    ensures { IsPrefixLen result bytes.new }
+    ensures within { IsPrefixLen result bytes.new }
+    ensures next { Consumes (R.remaining reader.old) (R.remaining reader.new) (take result bytes.new) }
 {
-    let mut done: usize = 0;
+    let mut done = 0;
+    // Each turn goes on by as many bytes as a read gave, which no range says.
     while done < bytes.len() {
         match reader.read(&mut bytes[done..]) {
-            Ok(0) => break,
+            Ok(0) | Err(_) => break,
             Ok(count) => done += count,
-            Err(_) => break,
         }
     }
     done
@@ -63,10 +62,8 @@ pub fn read_full<R: Read>(reader: &mut R, bytes: &mut [u8]) -> usize
 
 // Opens a file by its name in bytes. std's names are text: one that is none is refused as no file's.
 pub fn open<R: Files>(files: &R, name: &[u8]) -> io::Result<R::File> {
-    match str::from_utf8(name) {
-        Ok(path) => File::open(files, path),
-        Err(_) => Err(io::Error::from(ErrorKind::InvalidFilename)),
-    }
+    let path = str::from_utf8(name).map_err(|_| ErrorKind::InvalidFilename)?;
+    File::open(files, path)
 }
 
 // Can a file be read on, be it past its end? A directory, for one, cannot.

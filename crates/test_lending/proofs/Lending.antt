@@ -1,13 +1,13 @@
 -- What is lent of a memory, and a first word that is spoilt.
-use mathlib.Core.Path.{◌≡◌, refl, sym, ap, subst, ◌∙◌}
+use mathlib.Core.Path.{◌≡◌, refl, sym, ap, ◌∙◌}
 use mathlib.Core.Bool.{Bool, true, false, cond}
-use mathlib.Core.List.{List, [], ◌∷◌, ◌++◌}
-use Prim.Native.Nat.{ℕ, ◌≤◌, ◌<◌, min}
+use mathlib.Core.List.{List, [], ◌∷◌}
+use Prim.Native.Nat.{ℕ, ◌≤◌, min}
 use native.Mathlib.Omega.{arith}
 use lib.Dec.{eqb, leb}
 use lib.ListN.{length, get_or, set, take, drop}
 use lib.Seq.{length-take-le, take_all, take-append-le}
-use borrow.Author.Tests.{leb-true, leb-false, eq-eqb, ne_eqb}
+use borrow.Author.Tests.{leb-true, leb-false}
 use Rattle.streams.specs.Counts.{IsPrefixLen}
 use Rattle.test_cases.specs.Words.{copied}
 use Rattle.test_lending.specs.Places.{lent_places, spoilt_first}
@@ -17,14 +17,6 @@ pub counts : (n : ℕ) (l : List ℕ) → n ≤ length l → IsPrefixLen n l
 counts n l h = (h, sym (length-take-le n l h))
 
 -- ── how much is lent ──────────────────────────────────────────────────────────────────────────────
-pub all_lent : (spoil which places : ℕ) (m : List ℕ) → (spoil ≡ which → ⊥) → length m ≡ lent_places spoil which places m
-unfolding lent_places
-all_lent spoil which places m n = rw (ne_eqb spoil which n) refl
-
-pub fewer_lent : (spoil which places r : ℕ) (m : List ℕ) → spoil ≡ which → r ≡ min places (length m) → r ≡ lent_places spoil which places m
-unfolding lent_places
-fewer_lent spoil which places r m e h = rw (eq-eqb spoil which e) h
-
 pub lent_within : (spoil which places : ℕ) (m : List ℕ) → lent_places spoil which places m ≤ length m
 unfolding lent_places
 lent_within spoil which places m = go (eqb spoil which)
@@ -34,18 +26,6 @@ lent_within spoil which places m = go (eqb spoil which)
     go false = omega arith
 
 -- ── a first word ──────────────────────────────────────────────────────────────────────────────────
-pub no_first : (l : List ℕ) (w : ℕ) → length l ≡ 0 → (0 ≡ get_or l 0 0) × (l ≡ set l 0 w)
-no_first [] w e = (refl, refl)
-no_first (x ∷ l) w e = absurd (let n : ⊥ = omega arith in n)
-
-pub first_left : (spoil which w : ℕ) (l : List ℕ) → (spoil ≡ which → ⊥) → l ≡ spoilt_first spoil which w l
-unfolding spoilt_first
-first_left spoil which w l n = rw (ne_eqb spoil which n) refl
-
-pub first_spoilt : {l₁ : List ℕ} (spoil which w : ℕ) (l : List ℕ) → spoil ≡ which → l₁ ≡ set l 0 w → l₁ ≡ spoilt_first spoil which w l
-unfolding spoilt_first
-first_spoilt spoil which w l e h = rw (eq-eqb spoil which e) h
-
 -- put and put back
 put_back : (l : List ℕ) (v : ℕ) → set (set l 0 v) 0 (get_or l 0 0) ≡ l
 put_back [] v = refl

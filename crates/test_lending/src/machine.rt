@@ -5,12 +5,15 @@ ghost use Rattle.test_lending.specs.Memories.{StoppedForm, MachineRight, unused_
 
 use std::io::Stdout;
 use streams::say;
-use test_cases::memories::{all_are, all_from, copy, same};
+use test_cases::memories::{all_are, all_from, copy};
 
 // The word that lists and memories are filled with before they are lent, and the length of the memories asked for.
 pub const PATTERN: u32 = 2779096485;
 
 pub const MEMORY: usize = 12288;
+
+// The last number of a refusal; higher ones are stops.
+const LAST_REFUSAL: u32 = 12;
 
 // A memory with 12 words more than are asked for.
 pub fn unused_memory() -> [u32; 12300]
@@ -32,13 +35,7 @@ pub fn copy_of(machine: &[u32]) -> [u32; 12300]
 fn stopped_form(machine: &[u32], number: u32) -> bool
     ensures { Tells result (StoppedForm machine.now number) }
 {
-    if machine.len() < MEMORY {
-        return false;
-    }
-    if machine[0] != number {
-        return false;
-    }
-    all_are(&machine[1..MEMORY], 0)
+    MEMORY <= machine.len() && machine[0] == number && all_are(&machine[1..MEMORY], 0)
 }
 
 // "Up to 12 a refusal leaves all lent memory untouched"; a stop leaves the stopped form; "Words past 12,288 are never touched."
@@ -48,13 +45,11 @@ fn is_right(machine: &[u32], before: &[u32], number: u32) -> bool
     if !all_from(machine, MEMORY, PATTERN) {
         return false;
     }
-    if number == 0 {
-        return true;
+    match number {
+        0 => true,
+        1..=LAST_REFUSAL => machine == before,
+        _ => stopped_form(machine, number),
     }
-    if number <= 12 {
-        return same(machine, before);
-    }
-    stopped_form(machine, number)
 }
 
 // The same; if it is not right this is said.

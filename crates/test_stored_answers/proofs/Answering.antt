@@ -3,8 +3,6 @@ use mathlib.Core.Bool.{Bool, true, false}
 use mathlib.Core.Path.{◌≡◌, sym, ap, subst, ◌∙◌}
 use mathlib.Core.List.{List}
 use Prim.Native.Nat.{ℕ}
-use lib.Dec.{eqb}
-use borrow.Author.Tests.{eqb-true, eq-eqb}
 use Rattle.test_cases.specs.Frame.{onward}
 use Rattle.test_cases.specs.Words.{Tells}
 use Rattle.test_cases.proofs.Telling.{tells_no, tells_same, tells_else}
@@ -17,10 +15,6 @@ use Rattle.test_stored_answers.specs.Answers.{AnswerAt, unlisted, AnswerRight}
 report : ℕ → ℕ → ℕ → ℕ → Report
 report n s l d = record { number = n; steps = s; listed = l; due = d }
 
--- reports that differ in a part
-pub other_part : (f : Report → ℕ) (a b : Report) → (f a ≡ f b → ⊥) → Tells false (a ≡ b)
-other_part f a b differs = tells_no (λ e. differs (ap f e))
-
 pub same_parts : (a b : Report) → a.number ≡ b.number → a.steps ≡ b.steps → a.listed ≡ b.listed → a.due ≡ b.due → a ≡ b
 unfolding report
 same_parts a b n s l d =
@@ -32,30 +26,23 @@ same_parts a b n s l d =
     let last : report b.number b.steps b.listed a.due ≡ b = ap (report b.number b.steps b.listed) d in
     first ∙ (second ∙ (third ∙ last))
 
-pub by_due : (a b : Report) → a.number ≡ b.number → a.steps ≡ b.steps → a.listed ≡ b.listed → Tells (eqb a.due b.due) (a ≡ b)
-by_due a b n s l =
-    record {
-      means = λ y. same_parts a b n s l (eqb-true a.due b.due y);
-      whenever = λ e. eq-eqb a.due b.due (ap (λ (x : Report). x.due) e);
-    }
-
 -- ── an answer ─────────────────────────────────────────────────────────────────────────────────────
 -- one answer stands at a place
 one_answer : {s : List ℕ} {at : ℕ} (a b : Report) → AnswerAt s at a → AnswerAt s at b → a ≡ b
 one_answer a b x y =
     same_parts a b (x.number_is_lem ∙ sym y.number_is_lem) (x.steps_are ∙ sym y.steps_are) (x.listed_is ∙ sym y.listed_is) (x.due_is ∙ sym y.due_is)
 
-pub other_answer : {s : List ℕ} {at : ℕ} {numbers values : List ℕ} {y : Bool} (expected found : Report) → AnswerAt s at expected → Tells y (expected ≡ found) → y ≡ false
+pub other_answer : {s : List ℕ} {at : ℕ} {numbers values : List ℕ} (expected found : Report) → AnswerAt s at expected → (expected ≡ found → ⊥)
     → Tells false (AnswerRight s at found numbers values)
-other_answer expected found x t e = tells_else t e (λ a. one_answer expected found x a.answer)
+other_answer expected found x differs = tells_no (λ a. differs (one_answer expected found x a.answer))
 
-pub by_outputs : {s : List ℕ} {at place : ℕ} {numbers values : List ℕ} {y r : Bool} (expected found : Report) → AnswerAt s at expected → Tells y (expected ≡ found) → y ≡ true
+pub by_outputs : {s : List ℕ} {at place : ℕ} {numbers values : List ℕ} {r : Bool} (expected found : Report) → AnswerAt s at expected → expected ≡ found
     → place ≡ onward s at 24 → Tells r (PairsPut s place (fitting found.listed unlisted unlisted) unlisted unlisted numbers values)
     → Tells r (AnswerRight s at found numbers values)
-by_outputs {s} {at} {place} {numbers} {values} expected found x t e p u =
+by_outputs {s} {at} {place} {numbers} {values} expected found x same p u =
     tells_same
     (λ o. record {
-      answer = subst (λ (a : Report). AnswerAt s at a) (t.means e) x;
+      answer = subst (λ (a : Report). AnswerAt s at a) same x;
       outputs = subst (λ (n : ℕ). PairsPut s n (fitting found.listed unlisted unlisted) unlisted unlisted numbers values) p o;
     })
     (λ a. subst (λ (n : ℕ). PairsPut s n (fitting found.listed unlisted unlisted) unlisted unlisted numbers values) (sym p) a.outputs)

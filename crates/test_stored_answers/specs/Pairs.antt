@@ -1,11 +1,11 @@
 -- Pairs of a number and a value, as the file has them one after the other.
-use Rattle.std.specs.Prelude.{◌≡◌, List, [], ◌∷◌, ◌++◌, ℕ, zero, suc, min, length, drop}
+use Rattle.std.specs.Prelude.{◌≡◌, List, ◌++◌, ℕ, min, length, drop}
+use Rattle.test_cases.specs.Entries.{entries_from}
 use Rattle.test_cases.specs.Frame.{word_at, onward}
 
 -- what f reads at each of so many pairs from a place on
-unfoldable pub each_pair : (ℕ → ℕ) → List ℕ → ℕ → ℕ → List ℕ
-each_pair f s at zero = []
-each_pair f s at (suc n) = f at ∷ each_pair f s (onward s at 8) n
+abbrev pub each_pair : (ℕ → ℕ) → List ℕ → ℕ → ℕ → List ℕ
+each_pair f s at n = entries_from f (λ (i : ℕ). onward s i 8) at n
 
 -- the numbers, and the values
 abbrev pub numbers_at : List ℕ → ℕ → ℕ → List ℕ

@@ -14,14 +14,14 @@ use crate::reports::put_reports;
 use std::io::Stdout;
 use streams::{buffer, say};
 use test_cases::frame::{moment_at, past, word_at};
-use test_cases::memories::same;
 use test_lending::machine::PATTERN;
 
 // The words of an answer before its outputs.
 pub const ANSWER: usize = 24;
 
-// The number, the steps used, the outputs listed, and the next moment due, or 0 if none is (a moment due is at least 1).
-#[derive(Clone, Copy)]
+// The number, the steps used, the outputs listed, and the next moment due, or 0 if none is (a moment due is at least 1): as the file has
+// them (AnswerAt).
+#[derive(Clone, Copy, Debug, PartialEq, Eq)]
 pub struct Report {
     pub number: u32,
     pub steps: u32,
@@ -45,21 +45,6 @@ fn answer_at(s: &[u8], at: usize) -> Report
     }
 }
 
-fn same_reports(a: Report, b: Report) -> bool
-    ensures { Tells result (a ≡ b) }
-{
-    if a.number != b.number {
-        return false;
-    }
-    if a.steps != b.steps {
-        return false;
-    }
-    if a.listed != b.listed {
-        return false;
-    }
-    a.due == b.due
-}
-
 // Do two lists that held nothing but the pattern now begin with so many pairs of the file, and hold the pattern after them?
 fn outputs_right(s: &[u8], at: usize, listed: u32, numbers: &[u32], values: &[u32]) -> bool
     ensures { Tells result (PairsPut s.now at (fitting listed unlisted unlisted) unlisted unlisted numbers.now values.now) }
@@ -68,10 +53,7 @@ fn outputs_right(s: &[u8], at: usize, listed: u32, numbers: &[u32], values: &[u3
     let mut stored_values = [PATTERN; 20];
     let count = listed as usize;
     read_pairs(s, at, count, &mut stored_numbers, &mut stored_values);
-    if !same(numbers, &stored_numbers) {
-        return false;
-    }
-    same(values, &stored_values)
+    numbers == stored_numbers.as_slice() && values == stored_values.as_slice()
 }
 
 // Is the answer of a call the one stored, with the outputs listed, and are all other places as they were? If not it says so.
@@ -86,7 +68,7 @@ pub fn answer_right(
     ensures { Tells result (AnswerRight s.now at found numbers.now values.now) }
 {
     let expected = answer_at(s, at);
-    if !same_reports(expected, found) {
+    if expected != found {
         let mut out = buffer();
         let n = put_reports(&mut out, expected, found);
         say(&stdout, &out[..n]);

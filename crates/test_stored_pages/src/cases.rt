@@ -2,7 +2,7 @@
 ghost use Rattle.std.specs.Prelude.{◌≡◌, ◌≤◌, length};
 ghost use Rattle.test_stored_pages.specs.Cases.{ReadCase};
 
-use crate::lists::{read_moments, read_words};
+use test_cases::entries::read_entries;
 use test_cases::frame::{moment_at, past, word_at};
 
 // No stored list is longer, and no stored memory.
@@ -14,11 +14,7 @@ const MEMORY: usize = 2800;
 fn count_at(s: &[u8], at: usize, most: usize) -> usize
     ensures { result ≤ most }
 {
-    let count = word_at(s, at) as usize;
-    if count > most {
-        return most;
-    }
-    count
+    most.min(word_at(s, at) as usize)
 }
 
 // A stored case without its lists: its name, their lengths, the page, the memory's length and the byte that fills it; the place past it.
@@ -50,9 +46,9 @@ pub fn read_case(
     let o = count_at(s, past(s, at, 8), PLACES);
     let v = count_at(s, past(s, at, 12), PLACES);
     let first = past(s, at, 16);
-    let second = read_moments(s, first, m, moments);
-    let third = read_words(s, second, o, outputs);
-    let end = read_words(s, third, v, values);
+    let second = read_entries(s, first, &mut moments[..m]);
+    let third = read_entries(s, second, &mut outputs[..o]);
+    let end = read_entries(s, third, &mut values[..v]);
     let size = count_at(s, past(s, end, 8), MEMORY);
     let byte = (word_at(s, past(s, end, 12)) % 256) as u8;
     Case {

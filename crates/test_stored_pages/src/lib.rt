@@ -1,6 +1,4 @@
-// The stored cases of the valve book's pages: their lists and figures read, bytes of memory filled and compared.
+// The stored cases of the valve book's pages: their lists and figures read.
 #![tactic(auto)]
 
 pub mod cases;
-pub mod lists;
-pub mod memory;

@@ -17,15 +17,11 @@ const ANSWER: usize = 16;
 fn room_at(s: &[u8], at: usize) -> usize
     ensures { result ≡ min (word_at s.now at) 100 }
 {
-    let room = word_at(s, at) as usize;
-    if room < PLACES {
-        return room;
-    }
-    PLACES
+    PLACES.min(word_at(s, at) as usize)
 }
 
 // The span, and the lengths of the lists for moments, inputs and values.
-#[derive(Clone, Copy)]
+#[derive(Clone, Copy, Debug, PartialEq, Eq)]
 struct Asked {
     first: u64,
     end: u64,
@@ -52,7 +48,7 @@ fn asked_at(s: &[u8], at: usize) -> Asked
 }
 
 // Number, place, how many inputs are listed; and the first line where question 19 says no, or 0.
-#[derive(Clone, Copy)]
+#[derive(Clone, Copy, Debug, PartialEq, Eq)]
 struct Answer {
     number: u32,
     place: u32,
@@ -77,7 +73,7 @@ fn answer_at(s: &[u8], at: usize) -> Answer
 
 // A case of the file is its name (a word), its schedule (a part), what is asked, the answer's figures, and of the inputs listed first the
 // moments and then the pairs of input and value. Here: where the schedule begins and ends, where moments and pairs stand, and the next case.
-#[derive(Clone, Copy)]
+#[derive(Clone, Copy, Debug, PartialEq, Eq)]
 pub struct Case {
     pub name: u32,
     pub from: usize,

@@ -4,8 +4,7 @@ ghost use Rattle.test_cases.specs.Words.{Tells};
 ghost use Rattle.test_stored_windows.specs.Lists.{junk_moments, junk_words, moments_put, WordsPut};
 
 use crate::cases::PLACES;
-use test_cases::frame::{moment_at, past};
-use test_cases::memories::same;
+use test_cases::entries::read_entries;
 use test_lending::machine::PATTERN;
 use test_stored_answers::inputs::read_pairs;
 
@@ -25,46 +24,14 @@ pub fn junk_words() -> [u32; PLACES]
     [PATTERN; PLACES]
 }
 
-// So many moments put into a list, or as many as it has room for.
-fn read_moments(s: &[u8], from: usize, count: usize, list: &mut [u64])
-    ensures { list.new ≡ moments_put s.now from count list.old }
-{
-    let mut at = from;
-    let mut k: usize = 0;
-    while k < count {
-        if k >= list.len() {
-            return;
-        }
-        list[k] = moment_at(s, at);
-        at = past(s, at, 8);
-        k += 1;
-    }
-}
-
-// Do two lists hold the same moments?
-fn same_moments(a: &[u64], b: &[u64]) -> bool
-    ensures { Tells result (a.now ≡ b.now) }
-{
-    if a.len() != b.len() {
-        return false;
-    }
-    let mut k: usize = 0;
-    while k < a.len() {
-        if a[k] != b[k] {
-            return false;
-        }
-        k += 1;
-    }
-    true
-}
-
 // Does a list hold what so many moments of the file, put into another, make of that one?
 fn moments_stored(s: &[u8], at: usize, listed: u32, found: &[u64], stored: &mut [u64]) -> bool
     ensures { Tells result (found.now ≡ moments_put s.now at listed stored.old)
         × (stored.new ≡ moments_put s.now at listed stored.old) }
 {
-    read_moments(s, at, listed as usize, stored);
-    same_moments(found, stored)
+    let count = stored.len().min(listed as usize);
+    read_entries(s, at, &mut stored[..count]);
+    found == stored
 }
 
 // Does a list that held junk now begin with so many moments of the file, and hold junk after them?
@@ -91,10 +58,7 @@ fn words_stored(
         × WordsPut s.now at listed first.old second.old first.new second.new }
 {
     read_pairs(s, at, listed as usize, first, second);
-    if !same(inputs, first) {
-        return false;
-    }
-    same(values, second)
+    inputs == first && values == second
 }
 
 // Do two lists that held junk now begin with so many pairs of input and value of the file, and hold junk after them?

@@ -1,5 +1,5 @@
+use Rattle.std.proofs.Common.{rules}
 use Rattle.test_lending.specs.Memories.{unused_memory}
-use borrow.Author.Rules.{rules}
 use Rattle.test_lending.proofs.machine.unused_memory.Goals as goal
 
 pub returns : goal.returns

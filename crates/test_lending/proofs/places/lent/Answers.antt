@@ -1,20 +1,12 @@
-use native.Mathlib.Omega.{arith}
-use lib.ListN.{length}
-use Rattle.test_lending.proofs.Lending.{counts}
-use Rattle.test_lending.proofs.Lending.{all_lent, fewer_lent}
+use Rattle.std.proofs.Common.{arith}
+use Rattle.std.proofs.lemmas.Grind.{common_steps}
+use Rattle.test_lending.specs.Places.{lent_places}
 use Rattle.test_lending.proofs.places.lent.Goals as goal
 
 pub returns-then-spoil-which : goal.returns-then-spoil-which
-returns-then-spoil-which c =
-    let a = c.args in
-    (counts (length a.m.now) a.m.now (omega arith), all_lent a.spoil a.which a.places a.m.now c.if-spoil-which.true)
+unfolding lent_places
+returns-then-spoil-which c = grind (arith, common_steps)
 
-pub returns-then-m-places : goal.returns-then-m-places
-returns-then-m-places c =
-    let a = c.args in
-    (counts (length a.m.now) a.m.now (omega arith), fewer_lent a.spoil a.which a.places (length a.m.now) a.m.now c.if-spoil-which.false (omega arith))
-
-pub returns : goal.returns
-returns c =
-    let a = c.args in
-    (counts a.places a.m.now (omega arith), fewer_lent a.spoil a.which a.places a.places a.m.now c.if-spoil-which.false (omega arith))
+pub returns-else-spoil-which : goal.returns-else-spoil-which
+unfolding lent_places
+returns-else-spoil-which c = grind (arith, common_steps)

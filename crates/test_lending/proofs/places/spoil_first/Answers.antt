@@ -1,13 +1,16 @@
-use Rattle.test_lending.proofs.Lending.{first_left, first_spoilt}
+use Rattle.std.proofs.Common.{arith}
+use Rattle.std.proofs.lemmas.Grind.{common_steps}
+use Rattle.test_lending.specs.Places.{spoilt_first}
 use Rattle.test_lending.proofs.places.spoil_first.Goals as goal
 
-pub returns-then-spoil-which : goal.returns-then-spoil-which
-returns-then-spoil-which c =
-    let a = c.args in
-    (c.first.ensures, first_left a.spoil a.which a.w a.words.now c.if-spoil-which.true)
+pub returns-in_default : goal.returns-in_default
+unfolding spoilt_first
+returns-in_default c = grind (arith, common_steps)
 
-pub returns : goal.returns
-returns c =
-    let a = c.args in
-    let k = c.swap_first.ensures in
-    (k.0, first_spoilt a.spoil a.which a.w a.words.now c.if-spoil-which.false k.1)
+pub returns-then-spoil-which : goal.returns-then-spoil-which
+unfolding spoilt_first
+returns-then-spoil-which c = grind (arith, common_steps)
+
+pub returns-else-spoil-which : goal.returns-else-spoil-which
+unfolding spoilt_first
+returns-else-spoil-which c = grind (arith, common_steps)

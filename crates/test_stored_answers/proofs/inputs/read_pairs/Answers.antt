@@ -1,48 +1,22 @@
 use mathlib.Core.Path.{ap, ◌∙◌}
-use Prim.Native.Nat.{◌-◌}
+use Prim.Native.Nat.{ℕ, ◌<◌}
 use native.Mathlib.Omega.{arith}
-use Rattle.test_cases.specs.Frame.{word_at}
-use Rattle.test_stored_answers.specs.Pairs.{fitting}
-use Rattle.test_stored_answers.proofs.Pairing.{begun, turn, ended}
+use lib.ListN.{length}
+use Rattle.test_cases.specs.Frame.{word_at, onward}
+use Rattle.test_cases.proofs.Reading.{reading_begun, reading_on}
 use Rattle.test_stored_answers.proofs.inputs.read_pairs.Goals as goal
 
 pub loop-k-init : goal.loop-k-init
-loop-k-init c =
-    let a = c.args in
-    (omega arith, omega arith, omega arith, begun a.s.now a.from a.numbers.now a.values.now)
-
-pub returns-then-k-numbers : goal.returns-then-k-numbers
-returns-then-k-numbers c =
-    let a = c.args in
-    let v = c.loop-k in
-    let l = v.invariant.3.as_long in
-    ended a.s.now a.from v.at v.k (fitting a.count a.numbers.now a.values.now) a.numbers.now a.values.now v.numbers v.values v.invariant.3 (omega arith)
-
-pub returns-then-k-values : goal.returns-then-k-values
-returns-then-k-values c =
-    let a = c.args in
-    let v = c.loop-k in
-    let l = v.invariant.3.values_as_long in
-    ended a.s.now a.from v.at v.k (fitting a.count a.numbers.now a.values.now) a.numbers.now a.values.now v.numbers v.values v.invariant.3 (omega arith)
-
-pub word_at-requires-in-loop-k : goal.word_at-requires-in-loop-k
-word_at-requires-in-loop-k c = tt
+loop-k-init c = (reading_begun _ _ _ _, reading_begun _ _ _ _)
 
 pub loop-k-preserved : goal.loop-k-preserved
 loop-k-preserved c =
-    let a = c.args in
     let v = c.loop-k in
-    let l = v.invariant.3.as_long in
-    let m = v.invariant.3.values_as_long in (
-      omega arith,
-      omega arith,
-      omega arith,
-      turn a.s.now a.from v.at c.past-at.result v.k c.word_at.result c.word_at-in-loop-k.result a.numbers.now a.values.now v.numbers v.values v.invariant.3
-          c.word_at.ensures (c.word_at-in-loop-k.ensures ∙ ap (word_at a.s.now) c.past.ensures) c.past-at.ensures (omega arith) (omega arith),
+    let a = c.args in
+    let s = a.s.now in
+    let inside : v.k < length a.numbers.now = omega arith in
+    let values_inside : v.k < length a.values.now = omega arith in (
+      reading_on (word_at s) (λ (i : ℕ). onward s i 8) a.from _ _ _ _ v.invariant.0 inside _ _ c.word_at.ensures c.past-at.ensures,
+      reading_on (λ (i : ℕ). word_at s (onward s i 4)) (λ (i : ℕ). onward s i 8) a.from _ _ _ _ v.invariant.1 values_inside _ _
+          (c.word_at-in-loop-k.ensures ∙ ap (word_at s) c.past.ensures) c.past-at.ensures,
     )
-
-pub returns : goal.returns
-returns c =
-    let a = c.args in
-    let v = c.loop-k in
-    ended a.s.now a.from v.at v.k (fitting a.count a.numbers.now a.values.now) a.numbers.now a.values.now v.numbers v.values v.invariant.3 (omega arith)

@@ -1,11 +1,13 @@
 -- A comparison's answer, from what its loop found.
 use mathlib.Core.Bool.{Bool, true, false}
-use mathlib.Core.Path.{◌≡◌, refl, sym, subst, ◌∙◌}
-use mathlib.Core.List.{List}
-use Prim.Native.Nat.{ℕ, ◌-◌}
+use mathlib.Core.Path.{◌≡◌, refl, sym, ap, ◌∙◌}
+use mathlib.Core.List.{List, [], ◌∷◌}
+use Prim.Native.Nat.{ℕ}
 use native.Mathlib.Omega.{arith}
-use lib.ListN.{length, take, drop, replicate, length-drop}
-use lib.Seq.{take_all}
+use lib.ListN.{length, get_or, drop, replicate}
+use lib.Dec.{eqb}
+use borrow.Author.Tests.{eqb-true, eq-eqb}
+use Rattle.std.specs.List.{list_all}
 use Rattle.test_cases.specs.Words.{Tells}
 
 pub never : false ≡ true → ⊥
@@ -29,8 +31,16 @@ tells_else t e f = tells_no (λ b. never (sym e ∙ t.whenever (f b)))
 abbrev pub TellsOne : Bool → ℕ → List ℕ → Type 0
 TellsOne r w l = Tells r (l ≡ replicate (length l) w)
 
--- the same of the words from a place on
-pub one_from : (m : List ℕ) (from w : ℕ) (r : Bool) → TellsOne r w (take (length m - from) (drop from m)) → TellsOne r w (drop from m)
-one_from m from w r t =
-    let e : take (length m - from) (drop from m) ≡ drop from m = take_all (length m - from) (drop from m) (omega (arith, length-drop from m)) in
-    subst (λ (l : List ℕ). TellsOne r w l) e t
+-- whether every word passes the test of being w
+all_yes : (w : ℕ) (l : List ℕ) → TellsOne (list_all (λ x. eqb x w) l) w l
+all_yes w [] = tells_yes refl
+all_yes w (x ∷ l) = by (eqb x w) refl (all_yes w l)
+  where
+    by : (b : Bool) → eqb x w ≡ b → TellsOne (list_all (λ y. eqb y w) l) w l → TellsOne (list_all (λ y. eqb y w) (x ∷ l)) w (x ∷ l)
+    by true e t =
+        let first : x ≡ w = eqb-true x w e in
+        rw e (tells_same (λ f. rw first (ap (λ (k : List ℕ). w ∷ k) f)) (λ f. ap (λ (k : List ℕ). drop 1 k) f) t)
+    by false e t = rw e (tells_no (λ f. never (sym e ∙ eq-eqb x w (ap (λ (k : List ℕ). get_or k 0 0) f))))
+
+pub all_words : {r : Bool} (w : ℕ) (l : List ℕ) → r ≡ list_all (λ x. eqb x w) l → TellsOne r w l
+all_words w l e = rw e (all_yes w l)

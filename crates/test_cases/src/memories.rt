@@ -1,5 +1,6 @@
 // Words of lent memory: filled, copied and compared.
 ghost use Rattle.std.specs.Prelude.{◌≡◌, min, length, replicate, drop};
+ghost use Rattle.std.specs.List.{list_all};
 ghost use Rattle.test_cases.specs.Words.{Tells, copied, Begin};
 
 // The first words copied, as many as both memories have.
@@ -10,9 +11,9 @@ pub fn copy(from: &[u32], to: &mut [u32])
     to[..count].copy_from_slice(&from[..count]);
 }
 
-// Is every word w?
-pub fn all_are(m: &[u32], w: u32) -> bool
-    ensures { Tells result (m.now ≡ replicate (length m.now) w) }
+// Is every place w? A type has `same` where its `==` holds of the same values alone, as for words and bytes.
+pub fn all_are<T: Copy + Eq>(m: &[T], w: T) -> bool
+    ensures { result ≡ list_all (λ x. T.eq x w) m.now }
 {
     m.iter().all(|x| *x == w)
 }

@@ -8,9 +8,9 @@ ghost use Rattle.test_page_prints.specs.Prints.{numbers_of, kept_word_lem, case_
 
 use page::{Printed, print_page};
 use session_print::figure::put_figure;
+use test_cases::memories::all_are;
 use test_cases::report::put_text;
 use test_stored_pages::cases::Case;
-use test_stored_pages::memory::{all_bytes, fill_bytes};
 
 const PAGE_BYTES: usize = 2700;
 
@@ -26,7 +26,7 @@ fn put_row(out: &mut [u8], at: usize, page: &[u8], line: usize) -> usize
     let from = line * ROW_BYTES;
     let to = from + ROW_BYTES;
     let end = to - 1;
-    if all_bytes(&page[from..end], b' ') {
+    if all_are(&page[from..end], b' ') {
         return at;
     }
     let a = put_figure(out, at, line as u64);
@@ -40,10 +40,8 @@ fn put_rows(out: &mut [u8], at: usize, page: &[u8]) -> usize
     ensures { RowsPut page.now out.old at out.new result }
 {
     let mut next = at;
-    let mut line: usize = 0;
-    while line < ROWS {
+    for line in 0..ROWS {
         next = put_row(out, next, page, line);
-        line += 1;
     }
     next
 }
@@ -66,9 +64,10 @@ fn put_kept(out: &mut [u8], at: usize, kept: bool) -> usize
     ensures { Puts out.old at (kept_word_lem kept) out.new result × (result ≤ at + 9) }
 {
     if kept {
-        return put_text(out, at, b" kept\n");
+        put_text(out, at, b" kept\n")
+    } else {
+        put_text(out, at, b" touched\n")
     }
-    put_text(out, at, b" touched\n")
 }
 
 // A case's line; how many bytes.
@@ -87,12 +86,13 @@ fn put_case(out: &mut [u8], name: u32, r: Printed, memory: &[u8], byte: u8) -> u
     ensures { CaseSaid name r memory.now byte out.old out.new result × (result ≤ 4058) }
 {
     if r.number != 0 {
-        return put_line(out, name, r, all_bytes(memory, byte));
+        return put_line(out, name, r, all_are(memory, byte));
     }
     if memory.len() < PAGE_BYTES {
         return put_line(out, name, r, false);
     }
-    let a = put_line(out, name, r, all_bytes(&memory[2700..], byte));
+    let kept = all_are(&memory[PAGE_BYTES..], byte);
+    let a = put_line(out, name, r, kept);
     put_rows(out, a, memory)
 }
 
@@ -113,7 +113,7 @@ pub fn run_case(
     let o = case.outputs;
     let v = case.values;
     let size = case.size;
-    fill_bytes(memory, case.byte);
+    memory.fill(case.byte);
     let r = print_page(
         &moments[..m],
         &outputs[..o],

@@ -54,15 +54,13 @@ fn main(rt: HostRuntime) -> io::Result<()> {
     let mut memory = page_memory();
     let mut out = buffer();
     let read = read_file(&rt, rt.stderr(), b"pages.dat", &mut file);
-    let count = word_at(&file[..read], 0) as u64;
+    let cases = word_at(&file[..read], 0);
     let mut at = past(&file[..read], 0, 4);
-    let mut done: u64 = 0;
-    while done < count {
+    for _ in 0..cases {
         let case = read_case(&file[..read], at, &mut moments, &mut outputs, &mut values);
         let n = run_case(&mut out, case, &moments, &outputs, &values, &mut memory);
         rt.write_all(&out[..n])?;
         at = case.next;
-        done += 1;
     }
     Ok(())
 }

@@ -1,6 +1,7 @@
 -- A session played step by step: so far the print is what the steps printed.
 use mathlib.Core.Path.{◌≡◌, sym, ap, subst, ◌∙◌}
 use mathlib.Core.Bool.{true, false}
+use Rattle.std.proofs.Common.{Option, None, Some}
 use mathlib.Core.List.{List, ◌++◌, append_assoc}
 use Prim.Native.Nat.{ℕ, suc, ◌+◌, ◌-◌, ◌≤◌, ◌<◌}
 use native.Mathlib.Omega.{arith}
@@ -21,10 +22,7 @@ use Rattle.session_replay.proofs.Ending.{is_over_lem, made_left, step_falls, ste
 use Rattle.test_cases.specs.Words.{Tells}
 use Rattle.test_cases.proofs.Telling.{tells_no}
 use Rattle.test_sessions.specs.Playing.{StandsAt, Follows, follows, differs, Takes, on, failed}
-use Rattle.test_sessions.specs.declared.playing.Followed.{Followed}
-use Rattle.test_sessions.specs.declared.playing.Followed.TheVariants as FV
-use Rattle.test_sessions.specs.declared.playing.Taken.{Taken}
-use Rattle.test_sessions.specs.declared.playing.Taken.TheVariants as TV
+use Rattle.test_sessions.specs.declared.playing.Step.{Step}
 
 -- ── one step ──────────────────────────────────────────────────────────────────────────────────────
 -- the call that `advance` promises
@@ -54,16 +52,16 @@ lent_long a b c = rw (sym a, sym b, sym c)
 pub part_is : (print : List ℕ) (at n : ℕ) → take (at + n - at) (drop at print) ≡ take n (drop at print)
 part_is print at n = ap (λ (k : ℕ). take k (drop at print)) (let z : at + n - at ≡ n = omega arith in z)
 
-pub followed : {print : List ℕ} {at : ℕ} {out : List ℕ} {n : ℕ} {f : Followed} {to : ℕ} → Follows print at out n f → f ≡ FV.To to → (to ≡ at + n) × StandsAt print at out n
-followed {print} {at} {out} {n} k e = go (subst (λ (x : Followed). Follows print at out n x) e k)
+pub followed : {print : List ℕ} {at : ℕ} {out : List ℕ} {n : ℕ} {f : Option ℕ} {to : ℕ} → Follows print at out n f → f ≡ Some to → (to ≡ at + n) × StandsAt print at out n
+followed {print} {at} {out} {n} k e = go (subst (λ (x : Option ℕ). Follows print at out n x) e k)
   where
-    go : {to : ℕ} → Follows print at out n (FV.To to) → (to ≡ at + n) × StandsAt print at out n
+    go : {to : ℕ} → Follows print at out n (Some to) → (to ≡ at + n) × StandsAt print at out n
     go (follows h s) = (h, s)
 
-pub not_followed : {print : List ℕ} {at : ℕ} {out : List ℕ} {n : ℕ} {f : Followed} → Follows print at out n f → f ≡ FV.Differs → StandsAt print at out n → ⊥
-not_followed {print} {at} {out} {n} k e = go (subst (λ (x : Followed). Follows print at out n x) e k)
+pub not_followed : {print : List ℕ} {at : ℕ} {out : List ℕ} {n : ℕ} {f : Option ℕ} → Follows print at out n f → f ≡ None → StandsAt print at out n → ⊥
+not_followed {print} {at} {out} {n} k e = go (subst (λ (x : Option ℕ). Follows print at out n x) e k)
   where
-    go : Follows print at out n FV.Differs → StandsAt print at out n → ⊥
+    go : Follows print at out n None → StandsAt print at out n → ⊥
     go (differs h) = h
 
 -- ── the steps so far ──────────────────────────────────────────────────────────────────────────────
@@ -122,21 +120,21 @@ module _ {listing trace print : List ℕ} {m m' : Memories} {phase : Phase} {at 
             Advances listing trace table machine out phase table' machine' out' (Went next n) → n ≤ length out'
         by (went long moves) = moves.steps.room
 
-    module _ {t : Taken} (k : Takes listing trace print m' phase at m'' t) where
-      pub taken_on : {next : Phase} {to : ℕ} → t ≡ TV.On next to → Playing listing trace print m m'' next to
-      taken_on e = go (subst (λ (x : Taken). Takes listing trace print m' phase at m'' x) e k)
+    module _ {t : Option Step} (k : Takes listing trace print m' phase at m'' t) where
+      pub taken_on : {next : Step} → t ≡ Some next → Playing listing trace print m m'' next.phase next.at
+      taken_on e = go (subst (λ (x : Option Step). Takes listing trace print m' phase at m'' x) e k)
         where
-          go : {next : Phase} {to : ℕ} → Takes listing trace print m' phase at m'' (TV.On next to) → Playing listing trace print m m'' next to
+          go : {next : Step} → Takes listing trace print m' phase at m'' (Some next) → Playing listing trace print m m'' next.phase next.at
           go (on call h a) = went_on call h a
 
-      pub taken_less : {next : Phase} {to : ℕ} → t ≡ TV.On next to → steps_left next < steps_left phase
-      taken_less e = go (subst (λ (x : Taken). Takes listing trace print m' phase at m'' x) e k)
+      pub taken_less : {next : Step} → t ≡ Some next → steps_left next.phase < steps_left phase
+      taken_less e = go (subst (λ (x : Option Step). Takes listing trace print m' phase at m'' x) e k)
         where
-          go : {next : Phase} {to : ℕ} → Takes listing trace print m' phase at m'' (TV.On next to) → steps_left next < steps_left phase
+          go : {next : Step} → Takes listing trace print m' phase at m'' (Some next) → steps_left next.phase < steps_left phase
           go (on call h a) = step_falls p.made going call
 
-      pub taken_wrong : t ≡ TV.Failed → Tells false (print ≡ session listing trace)
-      taken_wrong e = go (subst (λ (x : Taken). Takes listing trace print m' phase at m'' x) e k)
+      pub taken_wrong : t ≡ None → Tells false (print ≡ session listing trace)
+      taken_wrong e = go (subst (λ (x : Option Step). Takes listing trace print m' phase at m'' x) e k)
         where
-          go : Takes listing trace print m' phase at m'' TV.Failed → Tells false (print ≡ session listing trace)
+          go : Takes listing trace print m' phase at m'' None → Tells false (print ≡ session listing trace)
           go (failed call apart) = tells_no (λ s. apart (stands_there call (room_of call) s))

@@ -3,7 +3,7 @@ use Rattle.std.specs.Prelude.{◌≡◌, List, ℕ, suc, ◌-◌, ◌≤◌, ◌
 use Rattle.walk.specs.Session.{session}
 use Rattle.test_cases.specs.Frame.{word_at, onward}
 use Rattle.test_sessions.specs.declared.Case.{Case}
-use Rattle.test_sessions.specs.declared.Tally.{Tally}
+use Rattle.test_cases.specs.declared.report.Tally.{Tally}
 
 -- A case at a place: its name (a word), then listing, trace and print (parts). The next case follows the print.
 pub record CaseAt (s : List ℕ) (at : ℕ) (r : Case) : Type 0 where

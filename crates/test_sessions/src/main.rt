@@ -18,10 +18,10 @@ use std::io::Stdout;
 use streams::{buffer, say, say_figure};
 use table::TABLE_WORDS;
 use test_cases::frame::{part_at, past, word_at};
-use test_cases::report::{put_summary, read_file, stored_cases};
+use test_cases::report::{Tally, put_summary, read_file, stored_cases};
 
 // A case of the file: its name, where listing, trace and print begin and end. The next case follows the print.
-#[derive(Clone, Copy)]
+#[derive(Clone, Copy, Debug, PartialEq, Eq)]
 pub struct Case {
     pub name: u32,
     pub listing: usize,
@@ -86,13 +86,6 @@ fn run_case(
     right
 }
 
-// How many cases there were, and how many of them failed.
-#[derive(Clone, Copy)]
-pub struct Tally {
-    pub cases: u64,
-    pub failed: u64,
-}
-
 // All cases of a file: their number, then each of them.
 fn run_file(
     stdout: Stdout,
@@ -106,22 +99,17 @@ fn run_file(
         × AsLong (memories table.old machine.old out.old)
         (memories table.new machine.new out.new) }
 {
-    let count = word_at(s, 0) as u64;
+    let cases = u64::from(word_at(s, 0));
     let mut at = past(s, 0, 4);
-    let mut done: u64 = 0;
-    let mut failed: u64 = 0;
-    while done < count {
+    let mut failed = 0;
+    for done in 0..cases {
         let case = case_at(s, at);
         if !run_case(stdout, s, case, table, machine, out) {
             failed += 1;
         }
         at = case.print_to;
-        done += 1;
     }
-    Tally {
-        cases: done,
-        failed,
-    }
+    Tally { cases, failed }
 }
 
 // A table or a machine: both have as many words.
@@ -152,6 +140,6 @@ fn main(rt: HostRuntime) -> io::Result<()> {
         &mut out,
     );
     let mut line = buffer();
-    let n = put_summary(&mut line, b"sessions: ", tally.cases, tally.failed);
+    let n = put_summary(&mut line, b"sessions: ", tally);
     rt.write_all(&line[..n])
 }

@@ -9,38 +9,32 @@ ghost use Rattle.test_sessions.specs.Playing.{Follows, Takes};
 
 use session_replay::{Advanced, Phase, advance};
 
-// The place after a piece, or none: the piece is not what stands there.
-#[derive(Clone, Copy)]
-pub enum Followed {
-    To(usize),
-    Differs,
-}
-
-// Do the first n bytes of `out` stand in the print at a place?
-fn follows(print: &[u8], at: usize, out: &[u8], n: usize) -> Followed
+// The place after the first n bytes of `out`, if they stand in the print at a place.
+fn follows(print: &[u8], at: usize, out: &[u8], n: usize) -> Option<usize>
     ensures { Follows print.now at out.now n result }
 {
     if out.len() < n {
-        return Followed::Differs;
+        return None;
     }
     if print.len() < at {
-        return Followed::Differs;
+        return None;
     }
     if print.len() - at < n {
-        return Followed::Differs;
+        return None;
     }
     let to = at + n;
-    if check::same(&print[at..to], &out[..n]) {
-        return Followed::To(to);
+    if print[at..to] == out[..n] {
+        Some(to)
+    } else {
+        None
     }
-    Followed::Differs
 }
 
 // A step that was right: the next phase, and how far the print has been matched.
 #[derive(Clone, Copy)]
-pub enum Taken {
-    On(Phase, usize),
-    Failed,
+pub struct Step {
+    pub phase: Phase,
+    pub at: usize,
 }
 
 fn take_step(
@@ -50,33 +44,27 @@ fn take_step(
     table: &mut [u32],
     machine: &mut [u32],
     out: &mut [u8],
-    phase: Phase,
-    at: usize,
-) -> Taken
+    step: Step,
+) -> Option<Step>
     requires { long_enough table.old machine.old out.old ≡ true }
     ensures { Takes listing.now trace.now print.now
-        (memories table.old machine.old out.old) phase at
+        (memories table.old machine.old out.old) step.phase step.at
         (memories table.new machine.new out.new) result }
 {
-    match advance(listing, trace, table, machine, out, phase) {
+    match advance(listing, trace, table, machine, out, step.phase) {
         // never: the memories are long enough
-        Advanced::TooShort => Taken::Failed,
-        Advanced::Went(next, n) => match follows(print, at, out, n) {
-            Followed::Differs => Taken::Failed,
-            Followed::To(to) => Taken::On(next, to),
-        },
+        Advanced::TooShort => None,
+        Advanced::Went(phase, n) => {
+            let at = follows(print, step.at, out, n)?;
+            Some(Step { phase, at })
+        }
     }
 }
 
 fn is_over(phase: Phase) -> bool
     ensures { result ≡ is_over phase }
 {
-    match phase {
-        Phase::Opening => false,
-        Phase::Starting => false,
-        Phase::Reading(_, _) => false,
-        Phase::Over => true,
-    }
+    matches!(phase, Phase::Over)
 }
 
 // Is what is stored what the session prints?
@@ -93,15 +81,15 @@ pub fn plays(
         × AsLong (memories table.old machine.old out.old)
         (memories table.new machine.new out.new) }
 {
-    let mut phase = Phase::Opening;
-    let mut at: usize = 0;
-    while !is_over(phase) {
-        let Taken::On(next, to) = take_step(listing, trace, print, table, machine, out, phase, at)
-        else {
+    let mut step = Step {
+        phase: Phase::Opening,
+        at: 0,
+    };
+    while !is_over(step.phase) {
+        let Some(next) = take_step(listing, trace, print, table, machine, out, step) else {
             return false;
         };
-        phase = next;
-        at = to;
+        step = next;
     }
-    at == print.len()
+    step.at == print.len()
 }

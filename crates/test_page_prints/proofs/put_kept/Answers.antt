@@ -8,6 +8,6 @@ pub returns-then-kept : goal.returns-then-kept
 unfolding kept_word_lem bytes_of
 returns-then-kept c = let p = c.put_text.ensures in (rw c.if-kept.true p.0, omega (arith, p.1))
 
-pub returns : goal.returns
+pub returns-else-kept : goal.returns-else-kept
 unfolding kept_word_lem bytes_of
-returns c = let p = c.put_text-2.ensures in (rw c.if-kept.false p.0, omega (arith, p.1))
+returns-else-kept c = let p = c.put_text-else-kept.ensures in (rw c.if-kept.false p.0, omega (arith, p.1))

@@ -1,5 +1,6 @@
 -- `test_page_prints::run_case` meets its contract.
 use mathlib.Core.Path.{sym}
+use Prim.Native.Nat.{ℕ}
 use lib.ListN.{length}
 use lib.Seq.{length-take-le}
 use Rattle.test_page_prints.proofs.Printing.{case_run}
@@ -31,6 +32,6 @@ pub returns : goal.returns
 returns c =
     let a = c.args in
     let called = c.print_page-r in
-    let filled = c.fill_bytes.ensures in
+    let filled = c.fill.ensures.after (λ (y : ℕ) e. e) in
     let said = c.put_case.ensures in
     (case_run {m = length a.memory.now} called.ensures said.0 filled c.requires.3 called.auto.memory, said.1, search rules)

@@ -1,7 +1,8 @@
-use mathlib.Core.Path.{refl, sym, ◌∙◌}
+use mathlib.Core.Path.{◌≡◌, refl, sym, ◌∙◌}
+use Prim.Native.Nat.{◌+◌, ◌-◌}
 use native.Mathlib.Omega.{arith}
-use lib.Seq.{length-take-le}
-use Rattle.test_cases.proofs.Telling.{never}
+use borrow.Author.Rules.{rules}
+use lib.ListN.{take, drop}
 use Rattle.test_sessions.specs.Playing.{follows, differs}
 use Rattle.test_sessions.proofs.Steps.{part_is}
 use Rattle.test_sessions.proofs.playing.follows.Goals as goal
@@ -15,15 +16,14 @@ returns-then-print-at c = differs (λ p. let h = p.stored in omega arith)
 pub returns-then-print-at-2 : goal.returns-then-print-at-2
 returns-then-print-at-2 c = differs (λ p. let h = p.stored in omega arith)
 
-pub slice_bounds-same-end-2 : goal.slice_bounds-same-end-2
-slice_bounds-same-end-2 c = sym (length-take-le c.args.n c.args.out.now (omega arith))
-
-pub returns-then-same : goal.returns-then-same
-returns-then-same c =
+pub returns-then-eq : goal.returns-then-eq
+returns-then-eq c =
     let a = c.args in
-    follows refl (record { printed = omega arith; stored = omega arith; same = sym (part_is a.print.now a.at a.n) ∙ c.same.ensures.0 c.if-same.true })
+    let same : take (a.at + a.n - a.at) (drop a.at a.print.now) ≡ take a.n a.out.now = search rules in
+    follows refl (record { printed = omega arith; stored = omega arith; same = sym (part_is a.print.now a.at a.n) ∙ same })
 
-pub returns : goal.returns
-returns c =
+pub returns-else-eq : goal.returns-else-eq
+returns-else-eq c =
     let a = c.args in
-    differs (λ p. never (sym c.if-same.false ∙ c.same.ensures.1 (part_is a.print.now a.at a.n ∙ p.same)))
+    let apart : (take (a.at + a.n - a.at) (drop a.at a.print.now) ≡ take a.n a.out.now) → ⊥ = search rules in
+    differs (λ p. apart (part_is a.print.now a.at a.n ∙ p.same))

@@ -15,9 +15,6 @@ use Rattle.test_load.specs.Cases.{FiguresOf, pattern, TablesRight, Agrees, Ran}
 use Rattle.test_load.specs.declared.figures.Figures.{Figures}
 
 -- two pairs of figures compared part by part
-pub other_number : (a b : Figures) → (a.number ≡ b.number → ⊥) → Tells false (a ≡ b)
-other_number a b differs = tells_no (λ e. differs (ap (λ (x : Figures). x.number) e))
-
 figures : ℕ → ℕ → Figures
 figures n p = record { number = n; place = p }
 
@@ -28,13 +25,6 @@ same_parts a b n p =
     let first : a ≡ f = ap (λ (x : ℕ). figures x a.place) n in
     let second : f ≡ b = ap (figures b.number) p in
     first ∙ second
-
-pub by_place : (a b : Figures) → a.number ≡ b.number → Tells (eqb a.place b.place) (a ≡ b)
-by_place a b n =
-    record {
-      means = λ y. same_parts a b n (eqb-true a.place b.place y);
-      whenever = λ e. eq-eqb a.place b.place (ap (λ (x : Figures). x.place) e);
-    }
 
 -- one outcome has one pair of figures
 one_figures : {o : Loading} (a b : Figures) → FiguresOf o a → FiguresOf o b → a ≡ b

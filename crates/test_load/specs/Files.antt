@@ -1,10 +1,10 @@
 -- What a run of all cases of a file shows.
-use Rattle.std.specs.Prelude.{◌≡◌, Bool, List, ℕ, suc, ◌≤◌, ◌<◌, length, take}
+use Rattle.std.specs.Prelude.{◌≡◌, Bool, true, List, ℕ, suc, ◌≤◌, ◌<◌, length, take}
 use Rattle.listing.specs.Load.{loading, is_long_enough}
 use Rattle.test_cases.specs.Frame.{word_at, onward}
 use Rattle.test_load.specs.Cases.{FiguresOf, CaseAt, listing_of, stored_in, Untouched}
 use Rattle.test_load.specs.declared.Case.{Case}
-use Rattle.test_load.specs.declared.Tally.{Tally}
+use Rattle.test_cases.specs.declared.report.Tally.{Tally}
 
 -- of so many cases from a place on, each has the figures of its defined outcome stored with it
 pub data AllAgree (long_enough : Bool) (s : List ℕ) : ℕ → ℕ → Type 0 where
@@ -26,9 +26,8 @@ pub record RanSome (table other table' other' : List ℕ) (r : Tally) : Type 0 w
   pub bytes : List ℕ
   pub ran : RanFile bytes table other table' other' r
 
--- The case of tables with one word too few: 0 if it agrees, which shows that nothing was touched, else 1.
-pub record RanShort (table other table' other' : List ℕ) (r : ℕ) : Type 0 where
-  pub most : r ≤ 1
-  pub agrees : r ≡ 0 → Untouched (take 12287 table') (take 12287 other')
+-- The case of tables with one word too few: if it agrees, this shows that nothing was touched.
+pub record RanShort (table other table' other' : List ℕ) (r : Bool) : Type 0 where
+  pub agrees : r ≡ true → Untouched (take 12287 table') (take 12287 other')
   pub as_long : length table' ≡ length table
   pub other_as_long : length other' ≡ length other

@@ -1,12 +1,10 @@
 // The answer of loading, of the library as firmware links it, as document 01's number and place.
-ghost use Rattle.std.specs.Prelude.{◌≡◌};
-ghost use Rattle.test_cases.specs.Words.{Tells};
 ghost use Rattle.layout.specs.Layout.{layout};
 ghost use Rattle.listing.specs.Load.{loading, is_long_enough};
 ghost use Rattle.walk.specs.Promises.{TableAfter};
 ghost use Rattle.test_load.specs.Cases.{FiguresOf};
 
-#[derive(Clone, Copy)]
+#[derive(Clone, Copy, Debug, PartialEq, Eq)]
 pub struct Figures {
     pub number: u32,
     pub place: u64,
@@ -22,13 +20,4 @@ pub fn load_figures(listing: &[u8], table: &mut [u32]) -> Figures
         number: loaded.number,
         place: loaded.place,
     }
-}
-
-pub fn same_figures(a: Figures, b: Figures) -> bool
-    ensures { Tells result (a ≡ b) }
-{
-    if a.number != b.number {
-        return false;
-    }
-    a.place == b.place
 }

@@ -9,18 +9,23 @@ ghost use Rattle.test_cases.specs.Words.{Tells};
 ghost use Rattle.test_load.specs.Cases.{CaseAt, Untouched, Written, TablesRight, Ran};
 ghost use Rattle.test_load.specs.Files.{RanFile, RanSome, RanShort};
 
-use crate::figures::{Figures, load_figures, same_figures};
+use crate::figures::{Figures, load_figures};
 use std::fs::Files;
 use std::io;
 use std::io::{Stderr, Stdout};
 use streams::{buffer, say, say_figure};
 use table::{CELL_END, TABLE_WORDS};
 use test_cases::frame::{part_at, past, word_at};
-use test_cases::memories::{all_are, all_from, fill, same_to};
-use test_cases::report::{put_summary, read_file, stored_cases};
+use test_cases::memories::{all_are, all_from, same_to};
+use test_cases::report::{Tally, put_summary, read_file, stored_cases};
 
 // The word that a table is filled with before it is lent.
 const PATTERN: u32 = 2779096485;
+
+// A table with one word too few, and the name of that case.
+const SHORT_WORDS: usize = TABLE_WORDS - 1;
+
+const SHORT_NAME: u32 = 12287;
 
 // A case of the file is its name (a word), its listing (a part), number and place (words). Here: the name, where the listing begins and ends,
 // the figures stored, and the place after the case.
@@ -59,7 +64,7 @@ fn case_at(s: &[u8], at: usize) -> Case
 fn agree(stdout: Stdout, name: u32, expected: Figures, found: Figures) -> bool
     ensures { Tells result (expected ≡ found) }
 {
-    let same = same_figures(expected, found);
+    let same = expected == found;
     if !same {
         say(&stdout, b"case ");
         say_figure(&stdout, name as u64);
@@ -107,9 +112,10 @@ fn as_left(table: &[u32], other: &[u32], number: u32) -> bool
     ensures { Tells result (TablesRight number table.now other.now) }
 {
     if number == 0 {
-        return written(table, other);
+        written(table, other)
+    } else {
+        untouched(table, other)
     }
-    untouched(table, other)
 }
 
 // The same; if they are not, it says so.
@@ -136,8 +142,8 @@ fn run_case(
 ) -> bool
     ensures { Ran listing.now table.old other.old table.new other.new expected result }
 {
-    fill(table, PATTERN);
-    fill(other, 0);
+    table.fill(PATTERN);
+    other.fill(0);
     let found = load_figures(listing, table);
     let again = load_figures(listing, other);
     if !agree(stdout, name, expected, found) {
@@ -149,22 +155,14 @@ fn run_case(
     tables_right(stdout, name, table, other, found.number)
 }
 
-// How many cases there were, and how many of them failed.
-#[derive(Clone, Copy)]
-pub struct Tally {
-    pub cases: u64,
-    pub failed: u64,
-}
-
 // All cases of a file: their number, then each of them.
 fn run_file(stdout: Stdout, s: &[u8], table: &mut [u32], other: &mut [u32]) -> Tally
     ensures { RanFile s.now table.old other.old table.new other.new result }
 {
-    let count = word_at(s, 0) as u64;
+    let cases = u64::from(word_at(s, 0));
     let mut at = past(s, 0, 4);
-    let mut done: u64 = 0;
-    let mut failed: u64 = 0;
-    while done < count {
+    let mut failed = 0;
+    for done in 0..cases {
         let case = case_at(s, at);
         let from = case.from;
         let to = case.to;
@@ -176,12 +174,8 @@ fn run_file(stdout: Stdout, s: &[u8], table: &mut [u32], other: &mut [u32]) -> T
             failed += 1;
         }
         at = case.next;
-        done += 1;
     }
-    Tally {
-        cases: done,
-        failed,
-    }
+    Tally { cases, failed }
 }
 
 fn run_path<R: Files>(
@@ -199,32 +193,29 @@ fn run_path<R: Files>(
     run_file(stdout, &file[..length], table, other)
 }
 
-// Question 1: "Table 12,288 words of 32 bits", one word too few. 1 if the case fails.
-fn short_tables(stdout: Stdout, table: &mut [u32], other: &mut [u32]) -> u64
+// Question 1: "Table 12,288 words of 32 bits", one word too few. Does the case agree?
+fn short_tables(stdout: Stdout, table: &mut [u32], other: &mut [u32]) -> bool
     ensures { RanShort table.old other.old table.new other.new result }
 {
-    if table.len() < 12287 {
-        return 1;
+    if table.len() < SHORT_WORDS {
+        return false;
     }
-    if other.len() < 12287 {
-        return 1;
+    if other.len() < SHORT_WORDS {
+        return false;
     }
     let expected = Figures {
         number: 1,
         place: 0,
     };
     let listing = b"P\t1\t1\nR\trr\t0\nW\t0\nS\t1\t#1\nA\t1\t#60000\t#0\nW\t1\nG\t0\n";
-    if run_case(
+    run_case(
         stdout,
         listing,
-        &mut table[..12287],
-        &mut other[..12287],
-        12287,
+        &mut table[..SHORT_WORDS],
+        &mut other[..SHORT_WORDS],
+        SHORT_NAME,
         expected,
-    ) {
-        return 0;
-    }
-    1
+    )
 }
 
 fn main(rt: HostRuntime) -> io::Result<()> {
@@ -235,9 +226,11 @@ fn main(rt: HostRuntime) -> io::Result<()> {
     let short = short_tables(stdout, &mut table, &mut other);
     let many = run_path(&rt, errors, stdout, b"loads.dat", &mut table, &mut other);
     let long = run_path(&rt, errors, stdout, b"long.dat", &mut table, &mut other);
-    let cases = 1 + many.cases + long.cases;
-    let failed = short + many.failed + long.failed;
+    let tally = Tally {
+        cases: 1 + many.cases + long.cases,
+        failed: u64::from(!short) + many.failed + long.failed,
+    };
     let mut line = buffer();
-    let n = put_summary(&mut line, b"load: ", cases, failed);
+    let n = put_summary(&mut line, b"load: ", tally);
     rt.write_all(&line[..n])
 }

@@ -8,8 +8,5 @@ use Rattle.test_load.proofs.run_file.Given as goal
 
 abbrev pub invariant-loop-done : goal.invariant-loop-done
 invariant-loop-done l =
-    (l.count ≡ word_at l.s 0) × (l.count < 4294967296) × (l.done ≤ l.count) × (l.failed ≤ l.done) × (length l.table ≡ length l.initial.table) × (length l.other ≡ length l.initial.other)
-    × Rest (is_long_enough l.initial.table) l.s (onward l.s 0 4) l.count l.at l.done l.failed
-
-abbrev pub decreases-loop-done : goal.decreases-loop-done
-decreases-loop-done l = l.count - l.done
+    (l.failed ≤ l.done) × (length l.table ≡ length l.initial.table) × (length l.other ≡ length l.initial.other)
+    × Rest (is_long_enough l.initial.table) l.s (onward l.s 0 4) l.cases l.at l.done l.failed

@@ -7,12 +7,15 @@ ghost use Rattle.test_stored_calls.specs.Reports.{Reported};
 
 use crate::reports::report_in;
 use test_cases::frame::{moment_at, past, word_at};
-use test_lending::places::{all_but_one, least, lent};
+use test_lending::places::lent;
 use test_stored_answers::Report;
 use test_stored_answers::inputs::read_pairs;
 
+// No more inputs of a call are kept.
+const KEPT: usize = 16;
+
 // The kind (0 the start, 1 an instant), what is spoilt, the moment, the allowance, how many inputs, and where they stand.
-#[derive(Clone, Copy)]
+#[derive(Clone, Copy, Debug, PartialEq, Eq)]
 pub struct Call {
     pub kind: u32,
     pub spoil: u32,
@@ -91,7 +94,7 @@ fn make_lent(
     let machine_lent = lent(machine, spoil, 2, 12287);
     let numbers_lent = lent(numbers, spoil, 3, 15);
     let values_lent = lent(values, spoil, 4, 15);
-    let news_lent = lent(news, spoil, 5, all_but_one(news.len()));
+    let news_lent = lent(news, spoil, 5, news.len().saturating_sub(1));
     library_call(
         call,
         &table[..table_lent],
@@ -116,18 +119,17 @@ pub fn make_stored(
         machine.new numbers.new values.new
         (stored_outcome s.now call table.now machine.old numbers.old values.old) result }
 {
-    let mut ins = [0u32; 16];
-    let mut news = [0u32; 16];
+    let mut ins = [0u32; KEPT];
+    let mut news = [0u32; KEPT];
     let inputs = call.inputs as usize;
     read_pairs(s, call.at, inputs, &mut ins, &mut news);
-    let ins_lent = least(inputs, &ins);
-    let news_lent = least(inputs, &news);
+    let kept = inputs.min(KEPT);
     make_lent(
         call,
         table,
         machine,
-        &ins[..ins_lent],
-        &news[..news_lent],
+        &ins[..kept],
+        &news[..kept],
         numbers,
         values,
     )

@@ -12,5 +12,5 @@ run_case-n-requires c =
     let few_values = e.few_values in
     let values_long = e.values_long in
     let few_bytes = e.few_bytes in
-    let memory_long = c.loop-done.invariant.3 in
+    let memory_long = c.loop.invariant.3 in
     (rw moments_long few_moments, rw outputs_long few_outputs, rw values_long few_values, rw memory_long few_bytes)

@@ -58,5 +58,5 @@ returns c =
     (λ (i j k l w : ℕ). call_outcome a.call (take i t) (take j m) a.ins.now (take w a.news.now) (take k n) (take l v))
     s.result c.lent-table_lent.result c.lent-machine_lent.result c.lent-numbers_lent.result c.lent-values_lent.result c.lent-news_lent.result _
     c.lent-table_lent.ensures.1 c.lent-machine_lent.ensures.1 c.lent-numbers_lent.ensures.1 c.lent-values_lent.ensures.1
-    (c.lent-news_lent.ensures.1 ∙ ap (λ (k : ℕ). lent_places a.call.spoil 5 k a.news.now) c.all_but_one.ensures)
+    (c.lent-news_lent.ensures.1 ∙ ap (λ (k : ℕ). lent_places a.call.spoil 5 k a.news.now) c.saturating_sub.ensures)
     s.auto.machine s.ensures

@@ -1,5 +1,3 @@
-use mathlib.Core.Path.{ap, ◌∙◌}
-use Prim.Native.Nat.{min}
 use Rattle.test_stored_calls.proofs.Making.{by_stored}
 use Rattle.test_stored_calls.proofs.calls.make_stored.Goals as goal
 
@@ -15,7 +13,4 @@ shape_of-values c = c.make_lent.auto.values
 pub returns : goal.returns
 returns c =
     let pairs = c.read_pairs in
-    let call = c.args.call in
-    by_stored c.least-ins_lent.result c.least-news_lent.result pairs.ensures
-    (c.least-ins_lent.ensures.1 ∙ ap (min call.inputs) pairs.auto.numbers) (c.least-news_lent.ensures.1 ∙ ap (min call.inputs) pairs.auto.values)
-    c.make_lent.ensures
+    by_stored c.min-kept.result c.min-kept.result pairs.ensures c.min-kept.ensures c.min-kept.ensures c.make_lent.ensures

@@ -107,9 +107,7 @@ fn main(rt: HostRuntime) -> io::Result<()> {
         say(&rt.stderr(), &out[..n]);
         return Ok(());
     }
-    let mut page: u64 = 0;
-    while page < first.pages {
-        page += 1;
+    for page in 1..=first.pages {
         put_page(&moments, &outputs, &values, count, page, &mut memory);
         rt.write_all(&memory)?;
     }

@@ -21,9 +21,6 @@ use Rattle.test_windows.specs.Cases.{stored_figures, stored_inputs, stored_value
 figures : ℕ → ℕ → ℕ → Listed
 figures n p l = record { number = n; place = p; listed = l }
 
-pub other_part : (f : Listed → ℕ) (a b : Listed) → (f a ≡ f b → ⊥) → Tells false (a ≡ b)
-other_part f a b differs = tells_no (λ e. differs (ap f e))
-
 same_parts : (a b : Listed) → a.number ≡ b.number → a.place ≡ b.place → a.listed ≡ b.listed → a ≡ b
 unfolding figures
 same_parts a b n p l =
@@ -31,13 +28,6 @@ same_parts a b n p l =
     let second : figures b.number a.place a.listed ≡ figures b.number b.place a.listed = ap (λ (x : ℕ). figures b.number x a.listed) p in
     let last : figures b.number b.place a.listed ≡ b = ap (figures b.number b.place) l in
     first ∙ (second ∙ last)
-
-pub by_listed : (a b : Listed) → a.number ≡ b.number → a.place ≡ b.place → Tells (eqb a.listed b.listed) (a ≡ b)
-by_listed a b n p =
-    record {
-      means = λ y. same_parts a b n p (eqb-true a.listed b.listed y);
-      whenever = λ e. eq-eqb a.listed b.listed (ap (λ (x : Listed). x.listed) e);
-    }
 
 -- ── the lists lent: the first places of lists of junk ─────────────────────────────
 first_of : (n : ℕ) (l : List ℕ) → take (length (take n l)) l ≡ take n l

@@ -4,7 +4,7 @@ use Rattle.test_cases.specs.Frame.{word_at, onward}
 use Rattle.test_stored_windows.specs.Cases.{CaseAt}
 use Rattle.test_stored_windows.specs.declared.cases.Case.{Case}
 use Rattle.test_windows.specs.Cases.{CaseAgrees}
-use Rattle.test_windows.specs.declared.Tally.{Tally}
+use Rattle.test_cases.specs.declared.report.Tally.{Tally}
 
 -- of so many cases from a place on, each agrees
 pub data AllAgree (s : List ℕ) : ℕ → ℕ → Type 0 where

@@ -14,7 +14,7 @@ use std::io;
 use std::io::Stdout;
 use streams::{buffer, say};
 use test_cases::frame::{past, word_at};
-use test_cases::report::{put_summary, put_text, read_file, stored_cases};
+use test_cases::report::{Tally, put_summary, put_text, read_file, stored_cases};
 use test_stored_windows::cases::{Case, case_at};
 use test_stored_windows::lists::{junk_moments, junk_words, moments_right, words_right};
 use windows::{Listed, list_windows};
@@ -24,13 +24,7 @@ use windows_trace::schedules::first_bad_line;
 fn figures_right(case: Case, found: Listed) -> bool
     ensures { Tells result (stored_figures case ≡ found) }
 {
-    if case.number != found.number {
-        return false;
-    }
-    if case.place != found.place {
-        return false;
-    }
-    case.listed as u64 == found.listed
+    (case.number, case.place, case.listed as u64) == (found.number, found.place, found.listed)
 }
 
 // Makes the case's call on lists of junk. Are the figures those stored, and the lists as they must be left?
@@ -100,22 +94,14 @@ fn put_failure(out: &mut [u8], name: u32) -> usize
     put_text(out, b, b" fails\n")
 }
 
-// How many cases there were, and how many of them failed.
-#[derive(Clone, Copy)]
-pub struct Tally {
-    pub cases: u64,
-    pub failed: u64,
-}
-
 // All cases of a file: their number, then each of them.
 fn run_file(stdout: Stdout, s: &[u8]) -> Tally
     ensures { RanFile s.now result }
 {
-    let count = word_at(s, 0) as u64;
+    let cases = u64::from(word_at(s, 0));
     let mut at = past(s, 0, 4);
-    let mut done: u64 = 0;
-    let mut failed: u64 = 0;
-    while done < count {
+    let mut failed = 0;
+    for done in 0..cases {
         let case = case_at(s, at);
         if !run_case(s, case) {
             let mut line = buffer();
@@ -124,12 +110,8 @@ fn run_file(stdout: Stdout, s: &[u8]) -> Tally
             failed += 1;
         }
         at = case.next;
-        done += 1;
     }
-    Tally {
-        cases: done,
-        failed,
-    }
+    Tally { cases, failed }
 }
 
 fn main(rt: HostRuntime) -> io::Result<()> {
@@ -137,6 +119,6 @@ fn main(rt: HostRuntime) -> io::Result<()> {
     let length = read_file(&rt, rt.stderr(), b"windows.dat", &mut file);
     let tally = run_file(rt.stdout(), &file[..length]);
     let mut line = buffer();
-    let n = put_summary(&mut line, b"windows: ", tally.cases, tally.failed);
+    let n = put_summary(&mut line, b"windows: ", tally);
     rt.write_all(&line[..n])
 }

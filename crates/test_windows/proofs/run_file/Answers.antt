@@ -7,7 +7,7 @@ use Rattle.test_windows.proofs.run_file.Goals as goal
 use Rattle.test_windows.proofs.run_file.Goals.{then-not-run_case, else-not-run_case}
 
 pub loop-done-init : goal.loop-done-init
-loop-done-init c = (c.word_at-count.ensures, omega arith, omega arith, omega arith, begun c.past-at.ensures)
+loop-done-init c = (omega arith, begun c.past-at.ensures)
 
 pub run_case-requires : goal.run_case-requires
 run_case-requires c =
@@ -22,23 +22,19 @@ loop-done-preserved c =
     let case = c.case_at-case in
     let more = c.loop-done-test.true in
     let v = c.loop-done.invariant in (
-      v.0,
-      v.1,
-      omega arith,
       elim c.if-not-run_case.branch [ then-not-run_case w ↦ omega arith | else-not-run_case w ↦ omega arith ],
       elim c.if-not-run_case.branch [
         | then-not-run_case w ↦ one_fails c.loop-done.failed (omega arith)
-        | else-not-run_case w ↦ one_agrees case.result case.ensures (c.run_case.ensures.means w.if-not-run_case.false) more w.failed-is v.4
+        | else-not-run_case w ↦ one_agrees case.result case.ensures (c.run_case.ensures.means w.if-not-run_case.false) more w.failed-is v.1
       ],
     )
 
 pub returns : goal.returns
 returns c =
     let v = c.loop-done.invariant in
-    let e : c.loop-done.done ≡ c.word_at-count.result = omega arith in
     record {
-      count = e ∙ v.0;
+      count = c.from-cases.ensures ∙ c.word_at.ensures;
       few = omega arith;
-      failed = v.3;
-      agree = λ z. rw e (ended c.loop-done-test.false v.4 z);
+      failed = omega arith;
+      agree = λ z. ended c.loop-done-test.false v.1 z;
     }

@@ -4,7 +4,7 @@ ghost use Rattle.test_stored_items.specs.Calls.{RanCall, RanSpoilt};
 
 use std::io::Stdout;
 use test_lending::machine::{PATTERN, copy_of, machine_right};
-use test_lending::places::{least, spoil_first};
+use test_lending::places::spoil_first;
 use test_stored_answers::answer_right;
 use test_stored_calls::calls::{Call, answer_place, call_at, make_stored};
 
@@ -19,7 +19,7 @@ fn run_call(stdout: Stdout, s: &[u8], call: Call, table: &[u32], machine: &mut [
     if !answer_right(stdout, s, answer_place(s, call), found, &numbers, &values) {
         return false;
     }
-    let words = least(machine.len(), &before);
+    let words = before.len().min(machine.len());
     machine_right(stdout, machine, &before[..words], found.number)
 }
 

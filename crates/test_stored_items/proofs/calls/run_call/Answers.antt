@@ -18,9 +18,9 @@ pub returns : goal.returns
 returns c =
     let made = c.make_stored-found in
     let copy = c.copy_of-before in
-    let words = c.least-words in
+    let words = c.min-words in
     let machine = c.args.machine.now in
-    let is = words.ensures.1 in
+    let is = words.ensures in
     let long = made.auto.machine in
     let room = copy.ensures.0 in
     let e : words.result ≡ min (length machine) 12300 = omega arith in

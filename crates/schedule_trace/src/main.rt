@@ -77,11 +77,9 @@ fn main(rt: HostRuntime) -> io::Result<()> {
         return Ok(());
     }
     let hours = days * 24;
-    let mut hour: u64 = 0;
-    while hour < hours {
+    for hour in 0..hours {
         let put = put_hour(&mut out, &schedule[..n], hour * HOUR, hour * HOUR + HOUR);
         rt.write_all(&out[..put])?;
-        hour += 1;
     }
     let last = put_last_line(&mut out, hours * HOUR);
     rt.write_all(&out[..last])

@@ -1,10 +1,7 @@
 use mathlib.Core.Path.{◌≡◌}
-use Prim.Native.Nat.{◌-◌, ◌≤◌}
+use Prim.Native.Nat.{◌≤◌}
 use lib.ListN.{length}
 use Rattle.schedule_trace.proofs.main.Given as goal
 
 abbrev pub invariant-loop-hour : goal.invariant-loop-hour
-invariant-loop-hour l = (length l.out ≡ 65536) × (l.hour ≤ l.hours) × (l.hours ≤ 239976)
-
-abbrev pub decreases-loop-hour : goal.decreases-loop-hour
-decreases-loop-hour l = l.hours - l.hour
+invariant-loop-hour l = (length l.out ≡ 65536) × (l.hours ≤ 239976)

@@ -1,5 +1,5 @@
 // The arguments: a file and a number of days.
-ghost use Rattle.std.specs.Prelude.{◌≡◌, ◌≤◌};
+ghost use Rattle.std.specs.Prelude.{◌≡◌, ◌≤◌, IfSome};
 ghost use Rattle.streams.specs.Counts.{IsPrefixLen};
 ghost use Rattle.schedule_trace.specs.Days.{days_of};
 
@@ -14,30 +14,23 @@ pub const SCHEDULE_BYTES: usize = 262144;
 
 const MOST_DAYS: u64 = 9999;
 
-// What was read of a file: whether it could be read, and how many bytes were put into the lent ones.
-#[derive(Clone, Copy)]
-pub struct Taken {
-    pub is_read: bool,
-    pub count: usize,
-}
-
-// Reads the file that an argument names; having said why, if it cannot. Which bytes a file has, std does not promise.
-pub fn read_argument<R: Env + Files>(rt: &R, errors: Stderr, i: usize, text: &mut [u8]) -> Taken
-    ensures { IsPrefixLen result.count text.new }
+// Reads the file that an argument names: how many bytes; none, having said why, if it cannot be read. Which bytes a file has, std does not
+// promise.
+pub fn read_argument<R: Env + Files>(
+    rt: &R,
+    errors: Stderr,
+    i: usize,
+    text: &mut [u8],
+) -> Option<usize>
+    ensures { IfSome result (λ count. IsPrefixLen count text.new) }
 {
     let mut path = buffer();
     let length = argument(rt, i, &mut path);
     match read_file(rt, &path[..length], text) {
-        Ok(count) => Taken {
-            is_read: true,
-            count,
-        },
+        Ok(count) => Some(count),
         Err(why) => {
             say_failed(&errors, &path[..length], why);
-            Taken {
-                is_read: false,
-                count: 0,
-            }
+            None
         }
     }
 }

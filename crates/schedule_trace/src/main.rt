@@ -60,16 +60,15 @@ fn put_reason(out: &mut [u8], read: usize, line: usize) -> usize
 fn main(rt: HostRuntime) -> io::Result<()> {
     let errors = rt.stderr();
     let mut schedule = text();
-    let taken = read_argument(&rt, errors, 1, &mut schedule);
+    let read = read_argument(&rt, errors, 1, &mut schedule);
     let days = days_argument(&rt, 2);
-    if !taken.is_read || days == 0 {
+    let Some(n) = read.filter(|_| days != 0) else {
         say(
             &errors,
             b"usage: schedule_trace SCHEDULE DAYS\nSCHEDULE is a file that can be read, DAYS a number from 1 to 9999.\n",
         );
         return Ok(());
-    }
-    let n = taken.count;
+    };
     let mut out = large_buffer();
     let told = put_reason(&mut out, n, first_bad_line(&schedule[..n]));
     if told != 0 {

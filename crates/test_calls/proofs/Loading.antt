@@ -1,5 +1,6 @@
 -- Whether a listing loads.
 use mathlib.Core.Path.{◌≡◌, sym, ap, subst, ◌∙◌}
+use mathlib.Core.Bool.{true, false}
 use mathlib.Core.List.{List}
 use Prim.Native.Nat.{ℕ, ◌≤◌}
 use native.Mathlib.Omega.{arith}
@@ -16,10 +17,10 @@ module _ (text table table' : List ℕ) (a : Loaded) (l : LoadPromise layout tex
   table_is : TableAfter layout table table' (loading (is_long_enough table) text)
   table_is = subst (λ (x : Loading). TableAfter layout table table' x) l.0 l.1
 
-  pub it_loads : a ≡ LV.Done → LoadsInto text table table' 0
+  pub it_loads : a ≡ LV.Done → LoadsInto text table table' true
   it_loads e = loads (sym l.0 ∙ ap (outcome_of text) e) table_is
 
-  pub it_fails : (number place : ℕ) → a ≡ LV.Refused number place → LoadsInto text table table' 1
+  pub it_fails : (number place : ℕ) → a ≡ LV.Refused number place → LoadsInto text table table' false
   it_fails number place e =
       refuses
       (λ h.
@@ -27,8 +28,3 @@ module _ (text table table' : List ℕ) (a : Loaded) (l : LoadPromise layout tex
       let z : ◌≡◌ {A = ℕ} 0 1 = cc in
       omega arith)
       table_is
-
--- a listing is refused once at most
-pub once : {text table table' : List ℕ} {r : ℕ} → LoadsInto text table table' r → r ≤ 1
-once (loads e t) = omega arith
-once (refuses n t) = omega arith

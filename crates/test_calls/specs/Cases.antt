@@ -1,5 +1,5 @@
 -- The cases of a file, each a list of items.
-use Rattle.std.specs.Prelude.{◌≡◌, true, false, List, ℕ, zero, suc, ◌+◌, ◌-◌, ◌≤◌, ◌<◌, take, drop}
+use Rattle.std.specs.Prelude.{◌≡◌, Bool, true, false, List, ℕ, zero, suc, ◌+◌, ◌-◌, ◌≤◌, ◌<◌, take, drop}
 use Rattle.listing.specs.Load.{loading, loaded, is_long_enough}
 use Rattle.listing.specs.Questions.{listing_in}
 use Rattle.walk.specs.Promises.{TableAfter}
@@ -8,12 +8,17 @@ use Rattle.test_cases.specs.Frame.{word_at, onward}
 use Rattle.test_lending.specs.Memories.{unused_memory}
 use Rattle.test_stored_items.specs.Items.{after_item, RanItem}
 use Rattle.test_calls.specs.declared.Run.{Run}
-use Rattle.test_calls.specs.declared.Tally.{Tally}
+use Rattle.test_cases.specs.declared.report.Tally.{Tally}
 
--- 0 if the text is loaded, else 1; and the table is as loading leaves it
-pub data LoadsInto (text table table' : List ℕ) : ℕ → Type 0 where
-  loads : loading (is_long_enough table) text ≡ loaded (listing_in text) → TableAfter layout table table' (loading (is_long_enough table) text) → LoadsInto text table table' 0
-  refuses : (loading (is_long_enough table) text ≡ loaded (listing_in text) → ⊥) → TableAfter layout table table' (loading (is_long_enough table) text) → LoadsInto text table table' 1
+-- whether the text is loaded; and the table is as loading leaves it
+pub data LoadsInto (text table table' : List ℕ) : Bool → Type 0 where
+  loads : loading (is_long_enough table) text ≡ loaded (listing_in text) → TableAfter layout table table' (loading (is_long_enough table) text) → LoadsInto text table table' true
+  refuses : (loading (is_long_enough table) text ≡ loaded (listing_in text) → ⊥) → TableAfter layout table table' (loading (is_long_enough table) text) → LoadsInto text table table' false
+
+-- how many failures that is
+abbrev pub failures : Bool → ℕ
+failures true = 0
+failures false = 1
 
 -- ── the items of a case, one after the other ──────────────────────────────────────────────────────
 unfoldable pub after_items : List ℕ → ℕ → ℕ → ℕ
@@ -58,8 +63,8 @@ after_case s at = after_items s (items_at s at) (item_count s at)
 -- Of the case at a place so much fails: its listing, if it does not load, and so many of its items, on the table that loading leaves and unused
 -- memories.
 pub data CaseFailing (s : List ℕ) (at : ℕ) : ℕ → Type 0 where
-  case : {table machine kept : List ℕ} {j k n : ℕ} → LoadsInto (listing_text s at) unused_memory table j
-      → ItemsFailing s table machine kept unused_memory unused_memory (items_at s at) (item_count s at) k → n ≡ j + k → CaseFailing s at n
+  case : {table machine kept : List ℕ} {b : Bool} {k n : ℕ} → LoadsInto (listing_text s at) unused_memory table b
+      → ItemsFailing s table machine kept unused_memory unused_memory (items_at s at) (item_count s at) k → n ≡ failures b + k → CaseFailing s at n
 
 pub record RanCase (s : List ℕ) (at : ℕ) (r : Run) : Type 0 where
   pub next : r.next ≡ after_case s at

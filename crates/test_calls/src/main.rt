@@ -14,20 +14,20 @@ use std::io;
 use std::io::Stdout;
 use streams::{buffer, say};
 use test_cases::frame::{part_at, past, word_at};
-use test_cases::report::{put_summary, put_text, read_file, stored_cases};
+use test_cases::report::{Tally, put_summary, put_text, read_file, stored_cases};
 use test_lending::machine::unused_memory;
 use test_stored_items::items::{after_item, run_item};
 use text_questions::Loaded;
 
-// Loads a listing: 0, or 1 if it does not load, which is then said.
-fn refusals(stdout: Stdout, listing: &[u8], table: &mut [u32]) -> u64
+// Does a listing load? If not it says so.
+fn loads(stdout: Stdout, listing: &[u8], table: &mut [u32]) -> bool
     ensures { LoadsInto listing.now table.old table.new result }
 {
     match load(listing, table) {
-        Loaded::Done => 0,
+        Loaded::Done => true,
         Loaded::Refused(_, _) => {
             say(&stdout, b"a listing does not load\n");
-            1
+            false
         }
     }
 }
@@ -64,11 +64,9 @@ fn run_items(
     ensures { RanItems s.now from table.old machine.old kept.old
         table.new machine.new kept.new count result }
 {
-    let items = count as u64;
     let mut at = from;
-    let mut done: u64 = 0;
-    let mut failed: u64 = 0;
-    while done < items {
+    let mut failed = 0;
+    for done in 0..u64::from(count) {
         if !run_item(stdout, s, at, table, machine, kept) {
             let mut line = buffer();
             let n = put_failure(&mut line, name, done);
@@ -76,7 +74,6 @@ fn run_items(
             failed += 1;
         }
         at = after_item(s, at);
-        done += 1;
     }
     Run { next: at, failed }
 }
@@ -92,7 +89,7 @@ fn run_case(stdout: Stdout, s: &[u8], at: usize) -> Run
     let mut table = unused_memory();
     let mut machine = unused_memory();
     let mut kept = unused_memory();
-    let refused = refusals(stdout, &s[from..to], &mut table);
+    let loaded = loads(stdout, &s[from..to], &mut table);
     let count = word_at(s, to);
     let first = past(s, to, 4);
     let run = run_items(
@@ -107,37 +104,25 @@ fn run_case(stdout: Stdout, s: &[u8], at: usize) -> Run
     );
     Run {
         next: run.next,
-        failed: refused + run.failed,
+        failed: u64::from(!loaded) + run.failed,
     }
-}
-
-// How many cases there were, and how many of them failed.
-#[derive(Clone, Copy)]
-pub struct Tally {
-    pub cases: u64,
-    pub failed: u64,
 }
 
 // All cases of a file: their number, then each of them.
 fn run_file(stdout: Stdout, s: &[u8]) -> Tally
     ensures { RanFile s.now result }
 {
-    let count = word_at(s, 0) as u64;
+    let cases = u64::from(word_at(s, 0));
     let mut at = past(s, 0, 4);
-    let mut done: u64 = 0;
-    let mut failed: u64 = 0;
-    while done < count {
+    let mut failed = 0;
+    for done in 0..cases {
         let run = run_case(stdout, s, at);
         if run.failed != 0 {
             failed += 1;
         }
         at = run.next;
-        done += 1;
     }
-    Tally {
-        cases: done,
-        failed,
-    }
+    Tally { cases, failed }
 }
 
 fn main(rt: HostRuntime) -> io::Result<()> {
@@ -145,6 +130,6 @@ fn main(rt: HostRuntime) -> io::Result<()> {
     let length = read_file(&rt, rt.stderr(), b"calls.dat", &mut file);
     let tally = run_file(rt.stdout(), &file[..length]);
     let mut line = buffer();
-    let n = put_summary(&mut line, b"calls: ", tally.cases, tally.failed);
+    let n = put_summary(&mut line, b"calls: ", tally);
     rt.write_all(&line[..n])
 }

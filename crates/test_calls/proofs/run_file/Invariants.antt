@@ -5,7 +5,4 @@ use Rattle.test_calls.proofs.Turning.{CasesLeft}
 use Rattle.test_calls.proofs.run_file.Given as goal
 
 abbrev pub invariant-loop-done : goal.invariant-loop-done
-invariant-loop-done l = (l.count ≡ word_at l.s 0) × (l.count < 4294967296) × (l.done ≤ l.count) × (l.failed ≤ l.done) × CasesLeft l.s (onward l.s 0 4) l.count l.at l.done l.failed
-
-abbrev pub decreases-loop-done : goal.decreases-loop-done
-decreases-loop-done l = l.count - l.done
+invariant-loop-done l = (l.failed ≤ l.done) × CasesLeft l.s (onward l.s 0 4) l.cases l.at l.done l.failed

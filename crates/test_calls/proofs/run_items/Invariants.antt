@@ -5,7 +5,4 @@ use Rattle.test_calls.proofs.Turning.{Rest}
 use Rattle.test_calls.proofs.run_items.Given as goal
 
 abbrev pub invariant-loop-done : goal.invariant-loop-done
-invariant-loop-done l = (l.items ≡ l.count) × (l.done ≤ l.items) × (l.failed ≤ l.done) × (l.table ≡ l.initial.table) × (length l.machine ≡ length l.initial.machine) × (length l.kept ≡ length l.initial.kept) × Rest l.s l.initial.table l.initial.machine l.initial.kept l.from l.count l.machine l.kept l.at l.done l.failed
-
-abbrev pub decreases-loop-done : goal.decreases-loop-done
-decreases-loop-done l = l.items - l.done
+invariant-loop-done l = (l.failed ≤ l.done) × (l.table ≡ l.initial.table) × (length l.machine ≡ length l.initial.machine) × (length l.kept ≡ length l.initial.kept) × Rest l.s l.initial.table l.initial.machine l.initial.kept l.from l.count l.machine l.kept l.at l.done l.failed

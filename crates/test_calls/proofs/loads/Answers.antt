@@ -1,5 +1,5 @@
 use Rattle.test_calls.proofs.Loading.{it_loads, it_fails}
-use Rattle.test_calls.proofs.refusals.Goals as goal
+use Rattle.test_calls.proofs.loads.Goals as goal
 
 pub returns-in-Done : goal.returns-in-Done
 returns-in-Done c = it_loads _ _ _ c.load.result c.load.ensures c.in-Done.is

@@ -1,13 +1,12 @@
 -- What a case that passes shows of the defined outcome.
 use mathlib.Core.Bool.{Bool, true, false}
-use mathlib.Core.Path.{◌≡◌, refl, sym, ap, subst, ◌∙◌}
+use mathlib.Core.Path.{◌≡◌, sym, ap, subst, ◌∙◌}
 use mathlib.Core.List.{List}
 use Prim.Native.Nat.{ℕ}
-use lib.Dec.{leb, eqb}
-use borrow.Author.Tests.{eqb-true, eq-eqb}
+use lib.Dec.{leb}
 use lib.ListN.{length, replicate, length-replicate}
 use Rattle.test_cases.specs.Words.{Tells}
-use Rattle.test_cases.proofs.Telling.{tells_no, tells_same, tells_else}
+use Rattle.test_cases.proofs.Telling.{tells_same, tells_else}
 use Rattle.walk.specs.Promises.{TableAfter}
 use Rattle.layout.specs.Layout.{layout}
 use Rattle.listing.specs.Load.{Loading, loading, is_long_enough}

@@ -1,10 +1,7 @@
 -- A call made on what is lent of the memories.
-use mathlib.Core.Path.{◌≡◌, refl, sym, ap, subst, ◌∙◌}
-use mathlib.Core.Bool.{Bool, true, false, cond}
+use mathlib.Core.Path.{◌≡◌, ap, subst, ◌∙◌}
 use mathlib.Core.List.{List, ◌++◌}
-use Prim.Native.Nat.{ℕ, ◌≤◌, ◌<◌, min}
-use native.Mathlib.Omega.{arith}
-use lib.Dec.{eqb}
+use Prim.Native.Nat.{ℕ, ◌≤◌, min}
 use lib.ListN.{length, take, drop}
 use borrow.Author.Tests.{eq-eqb, ne_eqb}
 use Rattle.walk.specs.Calls.{Outcome}
@@ -12,7 +9,7 @@ use Rattle.test_cases.proofs.Storing.{front_is, rest_is_lem}
 use Rattle.walk.specs.Promises.{Result, StartPromise, InstantPromise}
 use Rattle.layout.specs.Layout.{layout}
 use Rattle.test_stored_calls.specs.Reports.{report_of, Reported}
-use Rattle.test_lending.specs.Places.{lent_places, lent_part}
+use Rattle.test_lending.specs.Places.{lent_places}
 use Rattle.test_lending.proofs.Lending.{lent_within}
 use Rattle.test_stored_calls.specs.Calls.{call_outcome, lent_outcome, stored_outcome, Made}
 use Rattle.test_stored_answers.specs.Pairs.{each_pair, values_at, PairsPut}

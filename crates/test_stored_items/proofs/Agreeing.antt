@@ -6,7 +6,6 @@ use Prim.Native.Nat.{ℕ, ◌<◌, min}
 use native.Mathlib.Omega.{arith}
 use lib.ListN.{length, get_or, take}
 use borrow.Author.Tests.{eq-eqb, ne_eqb, lt-ltb, le-ltb}
-use Rattle.walk.specs.Calls.{Outcome}
 use Rattle.walk.specs.Promises.{result_of}
 use Rattle.test_cases.specs.Frame.{word_at, onward}
 use Rattle.test_cases.specs.Words.{Tells}
@@ -18,7 +17,7 @@ use Rattle.test_stored_calls.specs.Reports.{report_of}
 use Rattle.test_stored_calls.specs.declared.calls.Call.{Call}
 use Rattle.test_stored_answers.specs.declared.Report.{Report}
 use Rattle.test_stored_answers.specs.Answers.{unlisted, AnswerRight}
-use Rattle.test_stored_items.specs.Calls.{outcome_of, CallAgrees, RanCall, RanSpoilt}
+use Rattle.test_stored_items.specs.Calls.{outcome_of, RanCall, RanSpoilt}
 use Rattle.test_stored_items.specs.Items.{after_call, after_item}
 
 module _ {s : List ℕ} {c : Call} {table machine machine' numbers values : List ℕ} {found : Report} {place : ℕ} {b : Bool}

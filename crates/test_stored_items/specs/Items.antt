@@ -1,5 +1,5 @@
 -- The items of a case, one after the other.
-use Rattle.std.specs.Prelude.{◌≡◌, Bool, true, cond, List, ℕ, zero, suc, ◌*◌, ◌<◌, min, ltb, eqb, length}
+use Rattle.std.specs.Prelude.{◌≡◌, Bool, true, cond, List, ℕ, ◌*◌, ◌<◌, min, ltb, eqb, length}
 use Rattle.test_cases.specs.Frame.{word_at, onward}
 use Rattle.test_cases.specs.Words.{Tells, copied}
 use Rattle.test_stored_comparisons.specs.Comparisons.{ComparisonAgrees}

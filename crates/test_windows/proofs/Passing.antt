@@ -1,21 +1,20 @@
 -- What the tests of a case tell.
 use mathlib.Core.Bool.{Bool, true, false}
 use mathlib.Core.Path.{◌≡◌, refl, sym, ap, subst, ◌∙◌}
-use mathlib.Core.List.{List, [], ◌∷◌, ◌++◌}
+use mathlib.Core.List.{List, [], ◌∷◌}
 use Prim.Native.Nat.{ℕ, zero, suc, ◌≤◌}
 use native.Mathlib.Omega.{arith}
 use lib.Dec.{eqb}
 use lib.ListN.{length, take, length-take, length-replicate}
 use borrow.Author.Tests.{eqb-true, eq-eqb}
-use Rattle.listing.specs.Bytes.{Bytes}
-use Rattle.windows.specs.Call.{Outcome, windows_call, ListedAs, WindowsFigures}
+use Rattle.windows.specs.Call.{WindowsFigures}
 use Rattle.windows.specs.declared.answer.Listed.{Listed}
 use Rattle.test_cases.specs.Words.{Tells}
-use Rattle.test_cases.proofs.Telling.{tells_no, tells_same, tells_else}
+use Rattle.test_cases.proofs.Telling.{tells_same, tells_else}
 use Rattle.test_stored_windows.specs.Lists.{junk_moments, junk_words, moments_put, WordsPut}
 use Rattle.test_stored_windows.specs.Cases.{schedule_in}
 use Rattle.test_stored_windows.specs.declared.cases.Case.{Case}
-use Rattle.test_windows.specs.Cases.{stored_figures, stored_inputs, stored_values, ListsRight, LineRight, CaseAgrees}
+use Rattle.test_windows.specs.Cases.{stored_figures, ListsRight, LineRight, CaseAgrees}
 
 -- ── figures compared part by part ─────────────────────────────────────────────────
 figures : ℕ → ℕ → ℕ → Listed

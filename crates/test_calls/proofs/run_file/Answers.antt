@@ -1,6 +1,5 @@
-use mathlib.Core.Path.{◌≡◌, ◌∙◌}
+use mathlib.Core.Path.{◌∙◌}
 use native.Mathlib.Omega.{arith}
-use Prim.Native.Nat.{◌-◌}
 use Rattle.test_calls.proofs.Turning.{cases_begun, case_agrees, case_fails, cases_ended}
 use Rattle.test_calls.proofs.run_file.Goals as goal
 use Rattle.test_calls.proofs.run_file.Goals.{then-run-ne0, else-run-ne0}

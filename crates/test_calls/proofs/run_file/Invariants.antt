@@ -1,6 +1,5 @@
-use mathlib.Core.Path.{◌≡◌}
-use Prim.Native.Nat.{◌-◌, ◌≤◌, ◌<◌}
-use Rattle.test_cases.specs.Frame.{word_at, onward}
+use Prim.Native.Nat.{◌≤◌}
+use Rattle.test_cases.specs.Frame.{onward}
 use Rattle.test_calls.proofs.Turning.{CasesLeft}
 use Rattle.test_calls.proofs.run_file.Given as goal
 

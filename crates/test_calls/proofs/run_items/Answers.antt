@@ -1,7 +1,6 @@
 -- `test_calls::run_items` meets its contract.
 use mathlib.Core.Path.{refl, ap, ◌∙◌}
 use native.Mathlib.Omega.{arith}
-use Prim.Native.Nat.{◌-◌}
 use lib.ListN.{length}
 use Rattle.test_calls.proofs.Turning.{begun, told_of, one_agrees, one_fails, ended, ended_place}
 use Rattle.test_calls.proofs.run_items.Goals as goal

@@ -1,8 +1,8 @@
 use mathlib.Core.Path.{◌≡◌}
-use Prim.Native.Nat.{◌-◌, ◌≤◌, ◌<◌}
+use Prim.Native.Nat.{◌≤◌}
 use lib.ListN.{length}
 use Rattle.listing.specs.Load.{is_long_enough}
-use Rattle.test_cases.specs.Frame.{word_at, onward}
+use Rattle.test_cases.specs.Frame.{onward}
 use Rattle.test_load.proofs.Turning.{Rest}
 use Rattle.test_load.proofs.run_file.Given as goal
 

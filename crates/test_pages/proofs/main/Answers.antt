@@ -1,5 +1,4 @@
 -- `test_pages::main` meets its contract.
-use Prim.Native.Nat.{◌-◌}
 use Rattle.test_pages.proofs.main.Goals as goal
 
 pub run_case-n-requires : goal.run_case-n-requires

@@ -1,6 +1,5 @@
 -- `test_windows::run_file` meets its contract.
-use mathlib.Core.Path.{◌≡◌, ◌∙◌}
-use Prim.Native.Nat.{◌-◌}
+use mathlib.Core.Path.{◌∙◌}
 use native.Mathlib.Omega.{arith}
 use Rattle.test_windows.proofs.Turning.{begun, one_agrees, one_fails, ended}
 use Rattle.test_windows.proofs.run_file.Goals as goal

@@ -1,6 +1,5 @@
-use mathlib.Core.Path.{◌≡◌}
-use Prim.Native.Nat.{◌-◌, ◌≤◌, ◌<◌}
-use Rattle.test_cases.specs.Frame.{word_at, onward}
+use Prim.Native.Nat.{◌≤◌}
+use Rattle.test_cases.specs.Frame.{onward}
 use Rattle.test_windows.proofs.Turning.{Rest}
 use Rattle.test_windows.proofs.run_file.Given as goal
 

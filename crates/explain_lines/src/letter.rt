@@ -56,7 +56,7 @@ pub fn letter_why(field: &[u8]) -> Option<Reason>
 }
 
 // Whether so many fields may come after a letter.
-pub fn fits_letter(letter: u8, count: usize) -> bool
+pub(crate) fn fits_letter(letter: u8, count: usize) -> bool
     ensures { result ≡ fits_letter letter count }
 {
     if letter == b'F' {

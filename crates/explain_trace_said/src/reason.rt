@@ -52,7 +52,7 @@ fn counted(why: Reason) -> Option<u64>
 }
 
 // A reason, put at a place; the place past it.
-fn put_reason(out: &mut [u8], at: usize, why: Reason) -> usize
+pub fn put_reason(out: &mut [u8], at: usize, why: Reason) -> usize
     requires { at ≤ 50000 }
     ensures { Puts out.old at (reason_text why) out.new result × (result ≤ at + 220) }
 {

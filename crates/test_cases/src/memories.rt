@@ -11,7 +11,7 @@ pub fn copy(from: &[u32], to: &mut [u32])
     to[..count].copy_from_slice(&from[..count]);
 }
 
-// Is every place w? A type has `same` where its `==` holds of the same values alone, as for words and bytes.
+// Is every place w, by the type's `==`? Of words and bytes that is: is it w alone (proofs Telling `all_words`).
 pub fn all_are<T: Copy + Eq>(m: &[T], w: T) -> bool
     ensures { result ≡ list_all (λ x. T.eq x w) m.now }
 {

@@ -2,25 +2,26 @@
 use mathlib.Core.Path.{◌≡◌, refl, sym, ap, ◌∙◌, fun_ext}
 use mathlib.Core.Bool.{Bool, true, false}
 use mathlib.Core.List.{List}
-use Rattle.std.specs.Prelude.{Ok}
-use Prim.Native.Nat.{ℕ, suc, ◌-◌, ◌<◌}
+use Prim.Native.Nat.{ℕ, zero, suc, ◌-◌, ◌≤◌, ◌<◌}
 use native.Mathlib.Decide.{ℕ_discrete}
 use native.Mathlib.Omega.{arith}
 use lib.Dec.{eqb}
+use lib.ListN.{length}
 use borrow.Author.Tests.{eq-eqb, ne_eqb}
 use Rattle.listing.specs.Listing.{Listing, end}
 use Rattle.engine_rows.specs.Rows.{Row, Rows, choose_row, with_row, at_place, with_children, free_row}
-use Rattle.engine_rows.specs.Engine.{join_rows, end_rows, execute_rows}
-use Rattle.engine_blocks.specs.Blocks.{Block, block, rows_of}
+use Rattle.engine_rows.specs.Engine.{RowsRunner, next_ready, join_rows, end_rows, execute_rows}
+use Rattle.engine_blocks.specs.Blocks.{Block, block, rows_of, environment_of}
 use Rattle.engine_blocks.specs.Store.{with_slot}
 use Rattle.engine_blocks.specs.Changes.{Changes, put_in, cleared, placed_block}
 use Rattle.engine_blocks.proofs.RowChanges.{with_row_other}
 use Rattle.engine_clean.specs.Clean.{Clean}
 use Rattle.engine_clean.proofs.Whole.{slot_keeps_clean, working_slot, freed_slot}
+use Rattle.engine_ready.specs.Slots.{slots_of}
 use Rattle.engine_steps.specs.declared.running.Running.{Running}
+use Rattle.engine_steps.specs.declared.running.Answer.TheVariants.{Goes, Ends}
 use Rattle.engine_steps.specs.declared.running.Stepped.{Stepped}
-use Rattle.engine_steps.specs.declared.running.Stepped.TheVariants.{Goes, Ends}
-use Rattle.engine_steps.specs.Outcome.{left_by, RunsLive, Pops, Joins, Executes}
+use Rattle.engine_steps.specs.Outcome.{left_by, RunsLive, Reading, Pops, Joins, Executes}
 use Rattle.engine_steps.specs.Asked.{MayPop}
 use Rattle.engine_steps.proofs.Stores.{rows_changed_lem, environment_kept, row_changed, change_stays, stays_then, live_word, placed_clean}
 
@@ -106,7 +107,7 @@ module _ {a b : List ℕ} {p : ℕ} (k : ℕ) (q : Changes p a b (put_in (block 
         ∙ with_row_twice (rows_of a) p _ _
 
     pub joins_last : (u v : Running) → k ≡ 0 → place ≡ suc (rows_of a p).place → (rows_of a p).children ≡ 1
-        → v.ready ≡ u.ready → v.live ≡ u.live → v.woken ≡ u.woken → v.me ≡ p → Joins a m u p (Goes v)
+        → v.ready ≡ u.ready → v.live ≡ u.live → v.woken ≡ u.woken → v.me ≡ p → Joins a m u p (record { answer = Goes; running = v })
     unfolding join_rows left_by RunsLive
     joins_last u v none next one ready live woken me =
         record {
@@ -123,7 +124,7 @@ module _ {a b : List ℕ} (u v : Running) (q : Changes u.me a b (cleared 0 144 (
   freed_clean clean = slot_keeps_clean q.in_block h (freed_slot (block a u.me)) clean
 
   -- Main's end ends the instant.
-  pub ends_main : (rows_of a u.me).level ≡ 0 → Executes listing moment end a b u (Ok (Ends v.live v.woken))
+  pub ends_main : (rows_of a u.me).level ≡ 0 → Executes listing moment end a b u (record { answer = Ends; running = v })
   unfolding execute_rows end_rows left_by
   ends_main main =
       record {
@@ -133,7 +134,7 @@ module _ {a b : List ℕ} (u v : Running) (q : Changes u.me a b (cleared 0 144 (
         clean = λ n triggers reading alive clean. freed_clean clean;
       }
 
-  pub ends_child : {m : List ℕ} {r : Stepped} → ((rows_of a u.me).level ≡ 0 → ⊥) → Joins b m v (rows_of a u.me).parent r → Executes listing moment end a m u (Ok r)
+  pub ends_child : {m : List ℕ} {r : Stepped} → ((rows_of a u.me).level ≡ 0 → ⊥) → Joins b m v (rows_of a u.me).parent r → Executes listing moment end a m u r
   unfolding execute_rows end_rows
   ends_child {m} {r} deeper j =
       record {

@@ -1,21 +1,24 @@
 -- The parent's live children counted: what else stays of its row, and what the fork then asks. Letters: a the words before, b the words after, u the running state.
-use mathlib.Core.Path.{◌≡◌, refl, sym, ap, ◌∙◌}
+use mathlib.Core.Path.{◌≡◌, refl, sym, ap, subst, ◌∙◌}
 use mathlib.Core.Bool.{true}
 use mathlib.Core.List.{List}
-use Prim.Native.Nat.{ℕ, ◌+◌, ◌≤◌, ◌<◌}
+use Prim.Native.Nat.{ℕ, zero, suc, ◌+◌, ◌≤◌, ◌<◌}
 use native.Mathlib.Decide.{ℕ_discrete}
 use native.Mathlib.Omega.{arith}
 use lib.ListN.{length}
-use Rattle.engine_rows.specs.Rows.{Owner, in_environment, in_slot, Row, Rows, with_children, owner_of}
+use Rattle.walk.specs.State.{Variable}
+use Rattle.engine_rows.specs.Rows.{Owner, in_environment, in_slot, Row, Rows, with_row, with_children, owner_of}
 use Rattle.engine_rows.proofs.Children.{used_below}
 use Rattle.engine_rows.proofs.Taking.{used_keep}
-use Rattle.engine_blocks.specs.Blocks.{Block, block, rows_of}
+use Rattle.engine_blocks.specs.Blocks.{Block, block, rows_of, environment_of}
 use Rattle.engine_blocks.specs.Store.{Store, store_of, with_slot}
 use Rattle.engine_blocks.specs.Changes.{Changes, put_in}
 use Rattle.engine_variables.specs.Bindings.{variables_beside}
+use Rattle.table.specs.Entry.{ChildStands}
+use Rattle.table.specs.Decode.{head_after}
 use Rattle.engine_clean.specs.Clean.{Clean}
 use Rattle.engine_clean.proofs.Whole.{slot_keeps_clean, working_slot}
-use Rattle.engine_evaluate.specs.Bound.{Bound, bindings_of}
+use Rattle.engine_evaluate.specs.Bound.{number_of, Bound, bindings_of}
 use Rattle.engine_new_rows.specs.NewRow.{MayDivide}
 use Rattle.engine_children.specs.Fork.{MayFork}
 use Rattle.engine_steps.specs.declared.running.Running.{Running}

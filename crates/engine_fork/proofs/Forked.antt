@@ -1,29 +1,32 @@
 -- An `F` executed. Letters: a the words before, b with the children counted, c with the new routines, m the words after, u the running state, v the one
 -- from which the first child goes on.
-use mathlib.Core.Path.{◌≡◌, refl, sym, ap, ◌∙◌}
-use mathlib.Core.List.{List, ◌++◌}
-use Prim.Native.Nat.{ℕ, ◌+◌, ◌≤◌, ◌<◌}
+use mathlib.Core.Path.{◌≡◌, refl, sym, ap, subst, ◌∙◌}
+use mathlib.Core.Bool.{Bool, true, false}
+use mathlib.Core.List.{List, [], ◌++◌}
+use Prim.Native.Nat.{ℕ, zero, suc, ◌+◌, ◌≤◌, ◌<◌}
 use native.Mathlib.Omega.{arith}
-use lib.ListN.{get_or}
-use Rattle.std.specs.Prelude.{Ok, Err}
+use lib.ListN.{length, get_or, take}
+use lib.Seq.{get_or-take}
 use borrow.Author.Tests.{le-leb, lt-leb}
 use Rattle.listing.specs.Listing.{fork}
 use Rattle.walk.specs.State.{Variable}
+use Rattle.walk.specs.Walk.{child_count}
 use Rattle.table.specs.Decode.{calls_at, table_listing}
 use Rattle.engine_rows.specs.Rows.{Row, Rows, with_row, with_children}
-use Rattle.engine_rows.specs.Engine.{or_halt, rows_with_new, new_slots, fork_rows, execute_rows}
+use Rattle.engine_rows.specs.Engine.{RowsRunner, next_ready, or_halt, rows_with_new, new_slots, fork_rows, execute_rows}
 use Rattle.engine_blocks.specs.Blocks.{block, rows_of, environment_of}
 use Rattle.engine_blocks.specs.Store.{store_of, with_slot}
 use Rattle.engine_blocks.specs.Changes.{Changes, put_in}
+use Rattle.engine_clean.specs.Clean.{Clean}
 use Rattle.engine_ready.specs.Slots.{slots_of}
 use Rattle.engine_evaluate.specs.Bound.{Bound, bindings_of}
 use Rattle.engine_children.specs.declared.fork.NewSlots.{NewSlots}
 use Rattle.engine_children.specs.Fork.{slots_in, MakesChildren}
 use Rattle.engine_steps.specs.declared.running.Running.{Running}
-use Rattle.engine_steps.specs.declared.stop.Stop.TheVariants.{Places, Level}
+use Rattle.engine_steps.specs.declared.running.Answer.TheVariants.{Goes, Ends, Stops}
 use Rattle.engine_steps.specs.declared.running.Stepped.{Stepped}
-use Rattle.engine_steps.specs.Outcome.{left_by, Pops, Executes}
-use Rattle.engine_steps.specs.Asked.{MayPop}
+use Rattle.engine_steps.specs.Outcome.{left_by, Reading, Pops, Executes}
+use Rattle.engine_steps.specs.Asked.{MayPop, Slots}
 use Rattle.engine_steps.proofs.Stores.{rows_changed_lem, environment_kept, change_stays, stays_then, stays_start}
 use Rattle.engine_fork.specs.Asked.{MayForkStep}
 use Rattle.engine_fork.proofs.NewSlots.{count_calls, new_small, new_sleepers, slots_each, slots_join}
@@ -31,7 +34,7 @@ use Rattle.engine_fork.proofs.Counted.{field_kept, bound_kept, counted_clean}
 
 module _ (t a : List ℕ) (u : Running) (cells n moment : ℕ) where
   -- 14: "live routines plus new children at most 64?"
-  pub too_many : 64 < u.live + n → Executes (table_listing t) moment (fork (calls_at t cells n)) a a u (Err Places)
+  pub too_many : 64 < u.live + n → Executes (table_listing t) moment (fork (calls_at t cells n)) a a u (record { answer = Stops 14; running = u })
   unfolding left_by execute_rows or_halt
   too_many over =
       record {
@@ -42,7 +45,7 @@ module _ (t a : List ℕ) (u : Running) (cells n moment : ℕ) where
 
   -- 15: "is this routine's level at most 9?"
   pub too_deep : u.live + n ≤ 64 → 9 < (rows_of a u.me).level
-      → Executes (table_listing t) moment (fork (calls_at t cells n)) a a u (Err Level)
+      → Executes (table_listing t) moment (fork (calls_at t cells n)) a a u (record { answer = Stops 15; running = u })
   unfolding left_by execute_rows or_halt
   too_deep room deep =
       record {
@@ -89,7 +92,7 @@ module _ {t a b c : List ℕ} {u : Running} {cells n : ℕ} {new : NewSlots}
         }
 
     pub forks : {m : List ℕ} {r : Stepped} (moment : ℕ) → v.live ≡ u.live + n → u.live + n ≤ 64 → (rows_of a u.me).level ≤ 9 → Pops c m v r
-        → Executes (table_listing t) moment (fork (calls_at t cells n)) a m u (Ok r)
+        → Executes (table_listing t) moment (fork (calls_at t cells n)) a m u r
     unfolding execute_rows or_halt fork_rows
     forks {m} {r} moment live room level pops =
         record {

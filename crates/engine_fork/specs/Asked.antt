@@ -1,9 +1,10 @@
 -- What an `F` of the running routine asks of the words and of the running state. Letters: t the table's words, u the running state,
 -- `cells` the address of the first child field, n the number of children.
-use Rattle.std.specs.Prelude.{true, List, ◌≡◌, ℕ, ◌≤◌, ◌<◌, length}
+use Rattle.std.specs.Prelude.{true, List, ◌≡◌, ℕ, ◌+◌, ◌≤◌, ◌<◌, length}
 use Rattle.table.specs.Decode.{head_after}
 use Rattle.table.specs.Entry.{ChildStands}
 use Rattle.table.specs.Question6.{is_table}
+use Rattle.engine_rows.specs.Rows.{Row}
 use Rattle.engine_rows.specs.Holds.{used_below}
 use Rattle.engine_blocks.specs.Blocks.{rows_of}
 use Rattle.engine_blocks.specs.Store.{store_of}

@@ -7,16 +7,10 @@ ghost use Rattle.table.specs.Decode.{calls_at, table_listing};
 ghost use Rattle.engine_steps.specs.Outcome.{Executes};
 ghost use Rattle.engine_fork.specs.Asked.{MayForkStep};
 
-use engine_steps::{Running, Stepped, Stop};
+use engine_steps::{Answer, Running, Stepped};
 
 // "`F|c|c..` forks 1 to 8 children", unless question 14 or 15 stops the machine. The first child runs at once.
-pub fn fork_step(
-    t: &[u32],
-    m: &mut [u32],
-    running: Running,
-    cells: usize,
-    n: usize,
-) -> Result<Stepped, Stop>
+pub fn fork_step(t: &[u32], m: &mut [u32], running: Running, cells: usize, n: usize) -> Stepped
     requires { MayForkStep t.now m.old running cells n }
     ensures { (moment : ℕ) → Executes (table_listing t.now) moment (fork (calls_at t.now cells n))
         m.old m.new running result }
@@ -26,10 +20,16 @@ pub fn fork_step(
     let count = n as u32;
     let live = running.live + count;
     if live > 64 {
-        return Err(Stop::Places);
+        return Stepped {
+            answer: Answer::Stops(14),
+            running,
+        };
     }
     if engine_row::level(m, me) > 9 {
-        return Err(Stop::Level);
+        return Stepped {
+            answer: Answer::Stops(15),
+            running,
+        };
     }
     engine_row_changes::set_children(m, me, count);
     let new = engine_children::fork_children(t, m, me, cells, n);
@@ -37,7 +37,7 @@ pub fn fork_step(
     let made = new.count;
     let q = running.ready;
     let ready = engine_ready::put_before(q, places, made);
-    Ok(engine_steps::next_ready(
+    engine_steps::next_ready(
         m,
         Running {
             ready,
@@ -45,5 +45,5 @@ pub fn fork_step(
             woken,
             me,
         },
-    ))
+    )
 }

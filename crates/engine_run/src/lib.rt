@@ -8,8 +8,8 @@ ghost use Rattle.engine_run.specs.Whole.{MayBeginRun, RunsReady};
 use engine_ready::ReadyList;
 use engine_ready_step::step;
 use engine_run_laws::{Left, Ran};
-use engine_steps::{Running, Stepped, Stop};
-use engine_straight::run_straight;
+use engine_steps::{Answer, Running};
+use engine_straight::{Straight, run_straight};
 use words::Moment;
 
 // The routine that runs goes on, and all that are ready after it. "13 Is a step left?"
@@ -22,22 +22,33 @@ pub fn run_on(t: &[u32], m: &mut [u32], present: Moment, running: Running, allow
     while left > 0 {
         let me = runs.me;
         match run_straight(t, m, present, me, left) {
-            Ok(on) => left = on,
-            Err(stop) => return Ran::Stopped(u32::from(stop)),
+            Straight::At(on) => {
+                left = on;
+            }
+            Straight::StopsWith(number) => {
+                return Ran::Stopped(number);
+            }
         }
         if left == 0 {
-            return Ran::Stopped(u32::from(Stop::Allowance));
+            return Ran::Stopped(13);
         }
         left -= 1;
-        match step(t, m, runs) {
-            Ok(Stepped::Goes(on)) => runs = on,
-            Ok(Stepped::Ends { live, woken }) => {
+        let stepped = step(t, m, runs);
+        let answer = stepped.answer;
+        runs = stepped.running;
+        match answer {
+            Answer::Goes => {}
+            Answer::Ends => {
+                let live = runs.live;
+                let woken = runs.woken;
                 return Ran::Ended(Left { left, live, woken });
             }
-            Err(stop) => return Ran::Stopped(u32::from(stop)),
+            Answer::Stops(k) => {
+                return Ran::Stopped(k);
+            }
         }
     }
-    Ran::Stopped(u32::from(Stop::Allowance))
+    Ran::Stopped(13)
 }
 
 // The first that is ready goes on, and all after it. If nobody is, the instant ends.
@@ -58,16 +69,22 @@ pub fn run_ready(
         woken: 0,
         me: 0,
     };
-    match engine_steps::next_ready(m, first) {
-        Stepped::Goes(running) => {
+    let stepped = engine_steps::next_ready(m, first);
+    let answer = stepped.answer;
+    let running = stepped.running;
+    match answer {
+        Answer::Goes => {
             return run_on(t, m, present, running, allowance);
         }
-        Stepped::Ends { live, woken } => {
+        Answer::Ends => {
             return Ran::Ended(Left {
                 left: allowance,
-                live,
-                woken,
+                live: running.live,
+                woken: running.woken,
             });
+        }
+        Answer::Stops(k) => {
+            return Ran::Stopped(k);
         }
     }
 }

@@ -1,21 +1,25 @@
 -- What each kind of instruction asks follows from what a step asks and from the entry that was read. Letters: t the table's words, m the machine's, u the running state.
-use mathlib.Core.Path.{◌≡◌, refl}
+use mathlib.Core.Path.{◌≡◌, refl, sym, ap, ◌∙◌}
+use mathlib.Core.Bool.{true}
 use mathlib.Core.List.{List}
-use Prim.Native.Nat.{ℕ, zero, suc, ◌≤◌, ◌<◌}
+use Prim.Native.Nat.{ℕ, zero, suc, ◌+◌, ◌*◌, ◌≤◌, ◌<◌}
 use native.Mathlib.Omega.{arith}
-use Rattle.std.specs.Prelude.{Option, Result}
+use lib.ListN.{length}
 use Rattle.listing.specs.Listing.{Listing, Instruction}
 use Rattle.walk.specs.Walk.{instruction_at}
-use Rattle.table.specs.Decode.{names_of, size_of, table_listing}
-use Rattle.table.specs.Entry.{ExpressionStands, Forks, Fetched}
+use Rattle.table.specs.Decode.{word, names_of, size_of, head_after, routine_entry, table_listing}
+use Rattle.table.specs.Entry.{ExpressionStands, ChildStands, Forks, Fetched}
+use Rattle.table.specs.Question6.{is_table}
 use Rattle.table.proofs.Bounds.{bounds}
+use Rattle.engine_rows.specs.Rows.{Row}
 use Rattle.engine_blocks.specs.Blocks.{rows_of}
+use Rattle.engine_evaluate.specs.Bound.{bindings_of}
 use Rattle.engine_evaluate.specs.Evaluable.{Evaluable}
 use Rattle.engine_evaluate.proofs.Standing.{standing_evaluable}
 use Rattle.engine_steps.specs.declared.running.Running.{Running}
 use Rattle.engine_steps.specs.declared.running.Stepped.{Stepped}
-use Rattle.engine_steps.specs.Asked.{MayGoOn, MayChange, MayWrite, MayEnd}
-use Rattle.engine_steps.specs.declared.stop.Stop.{Stop}
+use Rattle.engine_steps.specs.Asked.{MayPop, MayGoOn, MayChange, MayWrite, MayEnd}
+use Rattle.engine_steps.specs.declared.running.Onward.{Onward}
 use Rattle.engine_steps.specs.Outcome.{Executes, NeedsReady, Onwards}
 use Rattle.engine_fork.specs.Asked.{MayForkStep}
 use Rattle.engine_run_laws.specs.Asked.{MayStep}
@@ -63,10 +67,10 @@ module _ {t m : List ℕ} {u : Running} (may : MayStep t m u) where
       }
 
 -- The instruction that was read is executed.
-pub as_read : {listing : Listing} {moment : ℕ} {i j : Instruction} {a m : List ℕ} {u : Running} {r : Result Stepped Stop} → i ≡ j → Executes listing moment j a m u r → Executes listing moment i a m u r
+pub as_read : {listing : Listing} {moment : ℕ} {i j : Instruction} {a m : List ℕ} {u : Running} {r : Stepped} → i ≡ j → Executes listing moment j a m u r → Executes listing moment i a m u r
 as_read e x = rw e x
 
-pub as_read_on : (listing : Listing) (moment : ℕ) {i j : Instruction} (a m : List ℕ) (me : ℕ) (r : Result (Option ℕ) Stop) → i ≡ j → Onwards listing moment j a m me r → Onwards listing moment i a m me r
+pub as_read_on : (listing : Listing) (moment : ℕ) {i j : Instruction} (a m : List ℕ) (me : ℕ) (r : Onward) → i ≡ j → Onwards listing moment j a m me r → Onwards listing moment i a m me r
 as_read_on listing moment a m me r e x = rw e x
 
 -- ── the last kind ─────────────────────────────────────────────────────────────────────────────────

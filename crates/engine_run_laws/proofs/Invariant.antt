@@ -1,17 +1,19 @@
 -- A state that is reached, with every routine at an instruction and clean words, meets all that one step asks, and is read as a step is read.
 -- Letters: t the table's words, w the machine's, n the number of environment variables, u the running state; the others as in scheduler's Reachable.
-use mathlib.Core.Path.{◌≡◌, sym, subst, ◌∙◌}
+use mathlib.Core.Path.{◌≡◌, refl, sym, ap, subst, ◌∙◌}
 use mathlib.Core.Bool.{true}
-use mathlib.Core.List.{List}
-use Prim.Native.Nat.{ℕ, suc, ◌+◌, ◌*◌, ◌≤◌, ◌<◌}
+use mathlib.Core.List.{List, [], ◌∷◌}
+use Prim.Native.Nat.{ℕ, zero, suc, ◌+◌, ◌*◌, ◌^◌, ◌≤◌, ◌<◌, min}
 use native.Mathlib.Omega.{arith}
 use lib.ListN.{length}
-use Rattle.table.specs.Decode.{table_listing}
+use Rattle.listing.specs.Listing.{Listing}
+use Rattle.walk.specs.State.{Variable}
+use Rattle.table.specs.Decode.{word, names_of, size_of, table_listing}
 use Rattle.table.specs.Question6.{is_table}
 use Rattle.table.proofs.Bounds.{bounds}
-use Rattle.engine_rows.specs.Rows.{Owner, Row}
-use Rattle.engine_rows.proofs.Place.{nil}
-use Rattle.engine_rows.proofs.Held.{row_for, path_length}
+use Rattle.engine_rows.specs.Rows.{Owner, Row, Rows}
+use Rattle.engine_rows.proofs.Place.{nil, Frame, memory_of}
+use Rattle.engine_rows.proofs.Held.{path_of, row_for, path_length}
 use Rattle.engine_rows.proofs.Standing.{head_of}
 use Rattle.engine_rows.proofs.Steady.{TableFits, steady_record}
 use Rattle.engine_rows.proofs.Reachable.{Reached}
@@ -28,7 +30,9 @@ use Rattle.engine_triggers.specs.Chains.{triggers_at}
 use Rattle.engine_evaluate.specs.Bound.{Bound, bindings_of}
 use Rattle.engine_evaluate.proofs.Bound.{running_bound}
 use Rattle.engine_evaluate.proofs.Standing.{table_names}
+use Rattle.engine_new_rows.specs.NewRow.{MayDivide}
 use Rattle.engine_steps.specs.declared.running.Running.{Running}
+use Rattle.engine_steps.specs.Asked.{MayPop}
 use Rattle.engine_steps.specs.Outcome.{Reading}
 use Rattle.engine_run_laws.specs.Asked.{MayStep}
 use Rattle.engine_run_laws.specs.Placed.{GoesOn, Placed}

@@ -1,10 +1,11 @@
 -- Every routine stays at an instruction of its routine when one row is changed. Letters: t the table's words, σ rows, s a slot, r its new row.
 use mathlib.Core.Path.{◌≡◌, refl, sym, ap, subst, ◌∙◌}
 use mathlib.Core.Bool.{Bool, true, false}
-use mathlib.Core.List.{List}
-use Prim.Native.Nat.{ℕ, suc, ◌<◌}
+use mathlib.Core.List.{List, [], ◌∷◌}
+use Prim.Native.Nat.{ℕ, zero, suc, ◌≤◌, ◌<◌}
 use native.Mathlib.Decide.{ℕ_discrete}
 use native.Mathlib.Omega.{arith}
+use lib.ListN.{length}
 use Rattle.listing.specs.Listing.{Listing}
 use Rattle.walk.specs.State.{Variable}
 use Rattle.table.specs.Decode.{word, size_of}

@@ -1,8 +1,8 @@
 -- Each kind of instruction keeps every routine at an instruction of its routine. Letters as in Placing.
-use mathlib.Core.Path.{◌≡◌}
+use mathlib.Core.Path.{◌≡◌, refl}
 use mathlib.Core.Bool.{Bool, true, false}
 use mathlib.Core.List.{List}
-use Prim.Native.Nat.{ℕ, suc, ◌+◌, ◌-◌, ◌<◌}
+use Prim.Native.Nat.{ℕ, zero, suc, ◌+◌, ◌-◌, ◌≤◌, ◌<◌}
 use native.Mathlib.Omega.{arith}
 use lib.Dec.{eqb, ltb, leb}
 use Rattle.words.specs.Words.{is_positive}
@@ -13,9 +13,9 @@ use Rattle.table.specs.Decode.{word, size_of, names_of, table_listing, instructi
 use Rattle.table.specs.Entry.{ChildStands}
 use Rattle.table.specs.Question6.{is_table}
 use Rattle.table.proofs.Entry.{fetched}
-use Rattle.engine_rows.specs.Rows.{Owner, Rows, with_row, at_place, free_row, rows_with, owner_of, variable_of, named}
+use Rattle.engine_rows.specs.Rows.{Owner, Row, Rows, with_row, at_place, free_row, rows_with, owner_of, variable_of, named}
 use Rattle.engine_rows.specs.Engine.{fork_rows, execute_rows}
-use Rattle.engine_run_laws.specs.Placed.{Placed}
+use Rattle.engine_run_laws.specs.Placed.{GoesOn, Placed}
 use Rattle.engine_run_laws.proofs.Keeping.{placed_on, placed_free, placed_variable, placed_count}
 use Rattle.engine_run_laws.proofs.Arms.{by_kind}
 use Rattle.engine_run_laws.proofs.Placing.{saying, KeptBy, go_kept, halt_kept, value_kept, pop_kept, ended_kept, news_placed, same_children}

@@ -5,19 +5,20 @@ use mathlib.Core.Bool.{Bool, true, false}
 use mathlib.Core.List.{List, [], ◌∷◌}
 use mathlib.Core.Option.{Option, none, some}
 use Prim.Native.Nat.{ℕ, zero, suc, ◌-◌, ◌≤◌, ◌<◌}
+use native.Mathlib.Decide.{ℕ_discrete}
 use native.Mathlib.Omega.{arith}
 use lib.Dec.{eqb}
 use borrow.Author.Tests.{eqb-true}
-use Rattle.listing.specs.Listing.{Call}
+use Rattle.listing.specs.Listing.{Call, fork, end}
 use Rattle.walk.specs.State.{Variable}
 use Rattle.table.specs.Decode.{word, table_listing, calls_at, call_at, after_call, head_after}
 use Rattle.table.specs.Entry.{ChildStands}
 use Rattle.table.specs.Question6.{is_table}
 use Rattle.table.proofs.Bounds.{bounds}
-use Rattle.engine_rows.specs.Rows.{Row, Rows, with_row, at_place}
+use Rattle.engine_rows.specs.Rows.{Owner, in_environment, in_slot, Row, Rows, with_row, with_own, at_place, rows_with}
 use Rattle.engine_rows.specs.Engine.{RowsResult, halts, ends, RowsRunner, first_place, count_if, next_ready, or_halt, value_or_halt, join_rows, end_rows, Caller, caller_at, child_row, free_slot, rows_with_child, rows_with_new}
-use Rattle.engine_blocks.proofs.RowChanges.{with_row_same}
-use Rattle.engine_run_laws.specs.Placed.{Placed}
+use Rattle.engine_blocks.proofs.RowChanges.{with_row_same, with_row_other}
+use Rattle.engine_run_laws.specs.Placed.{GoesOn, Placed}
 use Rattle.engine_run_laws.proofs.Keeping.{PlacedRow, placed_with, placed_pop, placed_count, placed_join}
 
 -- ── a step told by its outcome ────────────────────────────────────────────────────────────────────

@@ -1,10 +1,12 @@
 -- What one step asks follows from the run's invariant: the ready list is in order, the slots are below 64, the running routine has a parent.
 -- Letters: σ rows, q a ready list; the others as in scheduler's Reachable.
-use mathlib.Core.Path.{◌≡◌, ap}
-use mathlib.Core.List.{List}
-use Prim.Native.Nat.{ℕ, ◌<◌}
+use mathlib.Core.Path.{◌≡◌, refl, sym, ap, subst, ◌∙◌}
+use mathlib.Core.Bool.{Bool, true, false}
+use mathlib.Core.List.{List, [], ◌∷◌}
+use Prim.Native.Nat.{ℕ, zero, suc, ◌+◌, ◌*◌, ◌^◌, ◌≤◌, ◌<◌}
 use native.Mathlib.Omega.{arith}
-use Rattle.engine_rows.specs.Rows.{Rows}
+use lib.ListN.{length}
+use Rattle.engine_rows.specs.Rows.{Row, Rows}
 use Rattle.engine_rows.proofs.RowBounds.{LowsRise, rise_none, rise_put}
 use Rattle.engine_ready.specs.Ordered.{Later, later_none, later_one, Ordered, ordered_none, ordered_one}
 use Rattle.engine_steps.specs.Asked.{Slots, slots_none, slots_one}

@@ -1,7 +1,8 @@
 -- What one step asks of the words and of the running state. Letters: t the table's words, u the running state.
-use Rattle.std.specs.Prelude.{true, List, ◌≡◌, ℕ, suc, ◌≤◌, ◌<◌, length}
+use Rattle.std.specs.Prelude.{true, List, ◌≡◌, ℕ, suc, ◌+◌, ◌≤◌, ◌<◌, length}
 use Rattle.table.specs.Decode.{word, names_of, size_of}
 use Rattle.table.specs.Question6.{is_table}
+use Rattle.engine_rows.specs.Rows.{Row}
 use Rattle.engine_rows.specs.Holds.{used_below}
 use Rattle.engine_blocks.specs.Blocks.{rows_of}
 use Rattle.engine_blocks.specs.Store.{store_of}

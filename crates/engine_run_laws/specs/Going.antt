@@ -1,10 +1,10 @@
 -- A run on its way: what is left of it equals the whole, and everything that a step asks still holds.
 -- Letters: t the table's words, m₀ and u₀ the words and the running state at the beginning, m and u those now.
-use Rattle.std.specs.Prelude.{List, ◌≡◌, ℕ, ◌+◌, ◌≤◌}
+use Rattle.std.specs.Prelude.{List, ◌≡◌, ℕ, ◌+◌, ◌≤◌, ◌<◌}
 use Rattle.listing.specs.Listing.{Listing}
 use Rattle.walk.specs.Instant.{environment_size}
 use Rattle.table.specs.Decode.{table_listing}
-use Rattle.engine_rows.specs.Rows.{Owner}
+use Rattle.engine_rows.specs.Rows.{Owner, Row}
 use Rattle.engine_rows.specs.Engine.{RowsResult, run_rows}
 use Rattle.engine_rows.specs.Reached.{Reached}
 use Rattle.engine_blocks.specs.Blocks.{rows_of, environment_of}

@@ -1,8 +1,8 @@
 -- Rows, environment and tidiness after one row is changed. Letters: s a slot, a the words before, m the words after, b the block afterwards.
-use mathlib.Core.Path.{◌≡◌, sym, ap, subst, ◌∙◌}
-use mathlib.Core.Bool.{true}
+use mathlib.Core.Path.{◌≡◌, refl, sym, ap, subst, ◌∙◌}
+use mathlib.Core.Bool.{Bool, true, false}
 use mathlib.Core.List.{List}
-use Prim.Native.Nat.{ℕ, zero, suc, ◌<◌}
+use Prim.Native.Nat.{ℕ, zero, suc, ◌≤◌, ◌<◌}
 use native.Mathlib.Omega.{arith}
 use Rattle.engine_rows.specs.Rows.{Row, Rows, with_row, at_place}
 use Rattle.engine_blocks.specs.Blocks.{Block, block, nonzero, row_at, rows_of, environment_of}

@@ -1,3 +1,2 @@
-pub mod Stops
 pub mod Outcome
 pub mod Asked

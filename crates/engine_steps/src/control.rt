@@ -8,7 +8,6 @@ ghost use Rattle.engine_steps.specs.Asked.{MayPop, MayGoOn};
 ghost use Rattle.engine_steps.specs.Outcome.{Executes, Onwards};
 
 use crate::running::{Onward, Running, Stepped, next_ready};
-use crate::stop::Stop;
 use engine_evaluate::NO_VALUE;
 
 // "`G|k` goes to k."
@@ -17,7 +16,7 @@ pub fn jump_on(m: &mut [u32], me: usize, k: u32) -> Onward
     ensures { (listing : Listing) (moment : ℕ) → Onwards listing moment (jump k) m.old m.new me result }
 {
     engine_row_changes::set_place(m, me, k);
-    Ok(Some(k))
+    Onward::To(k)
 }
 
 // "`U|e|k` goes to instruction k if e is 0." Question 18.
@@ -36,7 +35,7 @@ pub fn branch_on(
 {
     let condition = engine_evaluate::evaluate(t, m, me, cells, pieces);
     if NO_VALUE <= condition {
-        return Err(Stop::Divisor);
+        return Onward::StopsWith(18);
     }
     if condition == 0 {
         return jump_on(m, me, k);
@@ -47,7 +46,7 @@ pub fn branch_on(
 // "A wait reached now sleeps, even if its name was written earlier in this instant."
 pub fn wait_step(m: &mut [u32], running: Running) -> Stepped
     requires { MayPop m.old running }
-    ensures { (listing : Listing) (moment : ℕ) (names : List ℕ) → Executes listing moment (wait names) m.old m.new running (Ok result) }
+    ensures { (listing : Listing) (moment : ℕ) (names : List ℕ) → Executes listing moment (wait names) m.old m.new running result }
 {
     next_ready(m, running)
 }

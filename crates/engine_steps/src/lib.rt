@@ -4,8 +4,6 @@
 
 pub mod control;
 pub mod running;
-pub mod stop;
 
 pub use control::{branch_on, jump_on, wait_step};
-pub use running::{Onward, Running, Stepped, next_ready};
-pub use stop::Stop;
+pub use running::{Answer, Onward, Running, Stepped, next_ready};

@@ -2,7 +2,6 @@
 ghost use Rattle.engine_steps.specs.Asked.{MayPop};
 ghost use Rattle.engine_steps.specs.Outcome.{Pops};
 
-use crate::stop::Stop;
 use engine_ready::ReadyList;
 
 // Who is ready, how many routines live, how many waits were passed, the slot of the routine that runs.
@@ -14,15 +13,29 @@ pub struct Running {
     pub me: usize,
 }
 
-// Somebody runs; the instant ends, so many routines live then, and so many waits were passed.
+// Somebody runs; the instant ends; the machine stops under a number.
 #[derive(Clone, Copy)]
-pub enum Stepped {
-    Goes(Running),
-    Ends { live: u32, woken: u32 },
+pub enum Answer {
+    Goes,
+    Ends,
+    Stops(u32),
 }
 
-// A step made without the ready list: the place where the routine goes on, or none if it was not made, since it may change the ready list.
-pub type Onward = Result<Option<u32>, Stop>;
+// An answer beside the running state, and no Result that holds it: so tried, a step that wakes took 1.6 times as long (docs/BENCHMARKS.md has the bar).
+#[derive(Clone, Copy)]
+pub struct Stepped {
+    pub answer: Answer,
+    pub running: Running,
+}
+
+// A step made without the ready list: the routine goes on at this place; the machine stops under a number; it was not made, since it
+// may change the ready list.
+#[derive(Clone, Copy)]
+pub enum Onward {
+    To(u32),
+    StopsWith(u32),
+    Unmade,
+}
 
 // The first that is ready goes on: a sleeper after its wait, a new routine where it begins. If nobody is, the instant ends.
 pub fn next_ready(m: &mut [u32], running: Running) -> Stepped
@@ -33,7 +46,10 @@ pub fn next_ready(m: &mut [u32], running: Running) -> Stepped
     let live = running.live;
     let woken = running.woken;
     if engine_ready::is_empty(q) {
-        return Stepped::Ends { live, woken };
+        return Stepped {
+            answer: Answer::Ends,
+            running,
+        };
     }
     let popped = engine_ready::pop(q);
     let s = popped.slot;
@@ -41,18 +57,24 @@ pub fn next_ready(m: &mut [u32], running: Running) -> Stepped
     let place = engine_row::place(m, s);
     if engine_row::asleep(m, s) {
         engine_row_changes::set_place(m, s, place + 1);
-        return Stepped::Goes(Running {
-            ready: rest,
-            live,
-            woken: woken + 1,
-            me: s,
-        });
+        return Stepped {
+            answer: Answer::Goes,
+            running: Running {
+                ready: rest,
+                live,
+                woken: woken + 1,
+                me: s,
+            },
+        };
     }
     engine_row_changes::set_place(m, s, place);
-    Stepped::Goes(Running {
-        ready: rest,
-        live,
-        woken,
-        me: s,
-    })
+    Stepped {
+        answer: Answer::Goes,
+        running: Running {
+            ready: rest,
+            live,
+            woken,
+            me: s,
+        },
+    }
 }

@@ -1,10 +1,9 @@
 -- The running routine goes on without the ready list, and the whole run goes on from there. Letters as in Going.
 use mathlib.Core.Path.{◌≡◌, refl, sym, ap, subst, ◌∙◌}
 use mathlib.Core.List.{List}
-use Prim.Native.Nat.{ℕ, ◌+◌, ◌*◌, ◌-◌, ◌≤◌, ◌<◌}
+use Prim.Native.Nat.{ℕ, suc, ◌+◌, ◌*◌, ◌-◌, ◌≤◌, ◌<◌}
 use native.Mathlib.Omega.{arith}
 use lib.ListN.{length}
-use Rattle.std.specs.Prelude.{Option, Some, None, Result, Ok, Err}
 use Rattle.walk.specs.Walk.{instruction_at}
 use Rattle.table.specs.Decode.{table_listing, instruction_entry}
 use Rattle.table.specs.Areas.{TableLong}
@@ -13,13 +12,14 @@ use Rattle.table.proofs.Bounds.{bounds}
 use Rattle.table_read.specs.Opened.{code_at, entry_of}
 use Rattle.table_read.specs.declared.Entry.{Entry}
 use Rattle.table_read.proofs.Fetching.{has_entry, entry_fetched}
+use Rattle.engine_rows.specs.Rows.{Row}
 use Rattle.engine_blocks.specs.Blocks.{rows_of}
 use Rattle.engine_triggers.proofs.Chaining.{lists_stay}
 use Rattle.engine_steps.specs.declared.running.Running.{Running}
-use Rattle.engine_steps.specs.declared.running.Stepped.{Stepped}
-use Rattle.engine_steps.specs.declared.running.Stepped.TheVariants.{Goes}
-use Rattle.engine_steps.specs.declared.stop.Stop.{Stop}
-use Rattle.engine_steps.specs.Stops.{number_of_stop}
+use Rattle.engine_steps.specs.declared.running.Answer.{Answer}
+use Rattle.engine_steps.specs.declared.running.Answer.TheVariants.{Goes, Stops}
+use Rattle.engine_steps.specs.declared.running.Onward.{Onward}
+use Rattle.engine_steps.specs.declared.running.Onward.TheVariants.{To, StopsWith, Unmade}
 use Rattle.engine_steps.specs.Outcome.{Executes, GoesOn, NeedsReady, Onwards}
 use Rattle.engine_steps.proofs.Stores.{stays_then}
 use Rattle.engine_run_laws.specs.Runs.{MayRunOn, RunsOn}
@@ -27,6 +27,8 @@ use Rattle.engine_run_laws.specs.Going.{Going}
 use Rattle.engine_run_laws.specs.declared.Ran.TheVariants.{Stopped}
 use Rattle.engine_run_laws.proofs.Going.{one_taken, going_begins, may_step_now, going_on, going_halts, still_long}
 use Rattle.engine_straight.specs.Straight.{MayStepAlone, MayGoAlone, WentStraight, GoesStraight}
+use Rattle.engine_straight.specs.declared.Straight.{Straight}
+use Rattle.engine_straight.specs.declared.Straight.TheVariants as straight
 
 module _ (t : List ℕ) (moment : ℕ) where
   -- ── the loop ────────────────────────────────────────────────────────────────────────────────────
@@ -77,39 +79,39 @@ module _ (t : List ℕ) (moment : ℕ) where
           omega (arith, entry_there code is, b)
 
       module _ (m' : List ℕ) (some : 0 < left) (size : length m' ≡ length m) where
-        abbrev Leaves : Result (Option ℕ) Stop → Type 0
+        abbrev Leaves : Onward → Type 0
         Leaves r = Onwards (table_listing t) moment (instruction_at (table_listing t) (rows_of m me).routine (rows_of m me).place) m m' me r
 
         -- the step is one of the running state u
-        stepped_by : (u : Running) → u.me ≡ me → (a : Running → Result Stepped Stop) → GoesOn (table_listing t) moment (instruction_at (table_listing t) (rows_of m me).routine (rows_of m me).place) m m' me a →
-            Executes (table_listing t) moment (instruction_at (table_listing t) (rows_of m u.me).routine (rows_of m u.me).place) m m' u (a u)
+        stepped_by : (u : Running) → u.me ≡ me → (a : Answer) → GoesOn (table_listing t) moment (instruction_at (table_listing t) (rows_of m me).routine (rows_of m me).place) m m' me a →
+            Executes (table_listing t) moment (instruction_at (table_listing t) (rows_of m u.me).routine (rows_of m u.me).place) m m' u (record { answer = a; running = u })
         unfolding GoesOn
         stepped_by u is a x =
-            subst (λ (s : ℕ). Executes (table_listing t) moment (instruction_at (table_listing t) (rows_of m s).routine (rows_of m s).place) m m' u (a u)) (sym is) (x u is)
+            subst (λ (s : ℕ). Executes (table_listing t) moment (instruction_at (table_listing t) (rows_of m s).routine (rows_of m s).place) m m' u (record { answer = a; running = u })) (sym is) (x u is)
 
-        went_on : (to : ℕ) → Leaves (Ok (Some to)) → OnItsWay m₀ allowance me m' to (left - 1)
+        went_on : (to : ℕ) → Leaves (To to) → OnItsWay m₀ allowance me m' to (left - 1)
         unfolding Onwards
         went_on to x =
             record {
-              going = λ u is may. going_on t moment (one_taken t moment (w.going u is may) some) (stepped_by u is (λ v. Ok (Goes v)) x.2) may u refl;
+              going = λ u is may. going_on t moment (one_taken t moment (w.going u is may) some) (stepped_by u is Goes x.2) may refl;
               here = sym x.0;
               same = x.1 ∙ w.same;
               fewer = omega (arith, w.fewer);
               long = size ∙ w.long;
             }
 
-        pub way_on : (r : Result (Option ℕ) Stop) (to : ℕ) → r ≡ Ok (Some to) → Leaves r → OnItsWay m₀ allowance me m' to (left - 1)
+        pub way_on : (r : Onward) (to : ℕ) → r ≡ To to → Leaves r → OnItsWay m₀ allowance me m' to (left - 1)
         way_on r to e x = went_on to (rw e at x)
 
-        stopped_on : (stop : Stop) → Leaves (Err stop) → GoesStraight t moment m₀ allowance me m' (Err stop)
+        stopped_on : (k : ℕ) → Leaves (StopsWith k) → GoesStraight t moment m₀ allowance me m' (straight.StopsWith k)
         unfolding Onwards WentStraight
-        stopped_on stop x =
-            record { went = λ u is may. going_halts t moment (one_taken t moment (w.going u is may) some) (stepped_by u is (λ v. Err stop) x) stop refl; long = size ∙ w.long }
+        stopped_on k x =
+            record { went = λ u is may. going_halts t moment (one_taken t moment (w.going u is may) some) (stepped_by u is (Stops k) x) k refl; long = size ∙ w.long }
 
-        pub way_stops : (r : Result (Option ℕ) Stop) (stop : Stop) → r ≡ Err stop → Leaves r → GoesStraight t moment m₀ allowance me m' (Err stop)
-        way_stops r stop e x = stopped_on stop (rw e at x)
+        pub way_stops : (r : Onward) (k : ℕ) → r ≡ StopsWith k → Leaves r → GoesStraight t moment m₀ allowance me m' (straight.StopsWith k)
+        way_stops r k e x = stopped_on k (rw e at x)
 
-        needs_list : Leaves (Ok None) → GoesStraight t moment m₀ allowance me m' (Ok left)
+        needs_list : Leaves Unmade → GoesStraight t moment m₀ allowance me m' (straight.At left)
         unfolding Onwards WentStraight
         needs_list x = record {
           went = λ u is may. rw x.0 (
@@ -121,10 +123,10 @@ module _ (t : List ℕ) (moment : ℕ) where
           long = size ∙ w.long;
         }
 
-        pub way_needs : (r : Result (Option ℕ) Stop) → r ≡ Ok None → Leaves r → GoesStraight t moment m₀ allowance me m' (Ok left)
+        pub way_needs : (r : Onward) → r ≡ Unmade → Leaves r → GoesStraight t moment m₀ allowance me m' (straight.At left)
         way_needs r e x = needs_list (rw e at x)
 
-      pub way_used_up : left ≡ 0 → GoesStraight t moment m₀ allowance me m (Ok left)
+      pub way_used_up : left ≡ 0 → GoesStraight t moment m₀ allowance me m (straight.At left)
       unfolding WentStraight
       way_used_up none = record { went = λ u is may. (w.going u is may, w.fewer, λ more. absurd (omega (arith, none))); long = w.long }
 
@@ -169,12 +171,12 @@ module _ (t : List ℕ) (moment : ℕ) where
           }
 
   -- ── what the straight run said ──────────────────────────────────────────────────────────────────
-  module _ (m : List ℕ) (left : ℕ) (u : Running) (m' : List ℕ) (r : Result ℕ Stop) where
-    pub went_to : (on : ℕ) → r ≡ Ok on → WentStraight t moment m left u m' r →
+  module _ (m : List ℕ) (left : ℕ) (u : Running) (m' : List ℕ) (r : Straight) where
+    pub went_to : (on : ℕ) → r ≡ straight.At on → WentStraight t moment m left u m' r →
         Going t moment m left u m' on u × (on ≤ left) × (0 < on → NeedsReady (instruction_at (table_listing t) (rows_of m' u.me).routine (rows_of m' u.me).place))
     unfolding WentStraight
     went_to on e x = rw e at x
 
-    pub went_to_stop : (stop : Stop) → r ≡ Err stop → WentStraight t moment m left u m' r → RunsOn t m m' moment left u (Stopped (number_of_stop stop))
+    pub went_to_stop : (k : ℕ) → r ≡ straight.StopsWith k → WentStraight t moment m left u m' r → RunsOn t m m' moment left u (Stopped k)
     unfolding WentStraight
-    went_to_stop stop e x = rw e at x
+    went_to_stop k e x = rw e at x

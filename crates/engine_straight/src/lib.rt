@@ -10,10 +10,17 @@ ghost use Rattle.engine_blocks.specs.Blocks.{rows_of};
 ghost use Rattle.engine_steps.specs.Outcome.{Onwards};
 ghost use Rattle.engine_straight.specs.Straight.{MayStepAlone, MayGoAlone, GoesStraight};
 
-use engine_steps::{Onward, Stop};
+use engine_steps::Onward;
 use table::{ASSIGN, BRANCH, ENTRY_WORDS, JUMP, SCHEDULE};
 use table_read::Entry;
 use words::{Moment, number};
+
+// So many steps are left, and the next needs the ready list, or none is left; or the machine stops under a number.
+#[derive(Clone, Copy)]
+pub enum Straight {
+    At(u32),
+    StopsWith(u32),
+}
 
 // The instruction whose entry was read, executed, unless it needs the ready list. `place` is where the running routine is.
 fn straight_step(
@@ -51,30 +58,39 @@ fn straight_step(
             return engine_steps::jump_on(m, me, operand as u32);
         }
         _ => {
-            return Ok(None);
+            return Onward::Unmade;
         }
     }
 }
 
-// The running routine goes on, its code found once, until an instruction needs the ready list or no step is left. Gives how many are left.
+// The running routine goes on, its code found once, until an instruction needs the ready list.
 pub fn run_straight(
     t: &[u32],
     m: &mut [u32],
     present: Moment,
     me: usize,
     allowance: u32,
-) -> Result<u32, Stop>
+) -> Straight
     requires { MayGoAlone t.now m.old present.0 allowance me }
     ensures { GoesStraight t.now present.0 m.old allowance me m.new result }
 {
     let code = table_read::code_at(t, number(engine_row::routine(m, me)));
     let mut place = engine_row::place(m, me);
-    for made in 0..allowance {
+    let mut left = allowance;
+    while left > 0 {
         let entry = table_read::entry_at(t, code + ENTRY_WORDS * number(place));
-        match straight_step(t, m, present, me, place, entry)? {
-            Some(to) => place = to,
-            None => return Ok(allowance - made),
+        match straight_step(t, m, present, me, place, entry) {
+            Onward::To(to) => {
+                place = to;
+                left -= 1;
+            }
+            Onward::StopsWith(k) => {
+                return Straight::StopsWith(k);
+            }
+            Onward::Unmade => {
+                return Straight::At(left);
+            }
         }
     }
-    Ok(0)
+    Straight::At(left)
 }

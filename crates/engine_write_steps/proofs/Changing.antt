@@ -3,32 +3,31 @@ use mathlib.Core.Path.{◌≡◌, refl, sym, ap, subst, ◌∙◌}
 use mathlib.Core.Bool.{Bool, true, false, cond}
 use mathlib.Core.List.{List, []}
 use mathlib.Core.Option.{none, some}
-use Rattle.std.specs.Prelude.{Ok, Err}
-use Prim.Native.Nat.{ℕ, zero, suc, ◌+◌, ◌<◌}
+use Prim.Native.Nat.{ℕ, zero, suc, ◌+◌, ◌≤◌, ◌<◌}
 use native.Mathlib.Omega.{arith}
-use lib.Dec.{ltb}
+use lib.Dec.{ltb, leb}
 use lib.ListN.{length}
 use Rattle.words.specs.Words.{is_positive}
-use Rattle.words.specs.Moments.{later_at, stops_with, later_moment}
+use Rattle.words.specs.Moments.{LaterMoment, later_at, stops_with, later_moment}
 use Rattle.listing.specs.Listing.{Listing, Piece, assign, schedule}
-use Rattle.walk.specs.State.{written_to, scheduled_on}
-use Rattle.engine_rows.specs.Rows.{owner_of, named}
+use Rattle.walk.specs.State.{Variable, written_to, scheduled_on}
+use Rattle.engine_rows.specs.Rows.{Owner, owner_of, named}
 use Rattle.engine_rows.specs.Ready.{insert_all_lem}
 use Rattle.engine_rows.specs.Triggers.{triggered}
-use Rattle.engine_rows.specs.Engine.{or_halt, value_or_halt, execute_rows}
-use Rattle.engine_blocks.specs.Blocks.{block, rows_of}
+use Rattle.engine_rows.specs.Engine.{RowsRunner, or_halt, value_or_halt, execute_rows}
+use Rattle.engine_blocks.specs.Blocks.{block, owner_at, rows_of, environment_of}
 use Rattle.engine_variables.specs.Bindings.{BoundTo}
 use Rattle.engine_variables.specs.declared.Binding.{Binding}
 use Rattle.engine_ready.specs.Slots.{slots_of}
 use Rattle.engine_triggers.specs.Chains.{triggers_at}
 use Rattle.engine_triggers.proofs.Chaining.{chained_none}
-use Rattle.engine_evaluate.specs.Bound.{bindings_of}
+use Rattle.engine_evaluate.specs.Bound.{bindings_of, FromNames}
 use Rattle.engine_steps.specs.declared.running.Running.{Running}
-use Rattle.engine_steps.specs.declared.running.Stepped.TheVariants.{Goes}
-use Rattle.engine_steps.specs.declared.stop.Stop.TheVariants.{Delay, Moment, Divisor}
-use Rattle.engine_steps.specs.Outcome.{left_by, RunsLive, Executes, GoesOn, ChangesName}
+use Rattle.engine_steps.specs.declared.running.Answer.TheVariants.{Goes, Ends, Stops}
+use Rattle.engine_steps.specs.Outcome.{left_by, RunsLive, Reading, Executes, GoesOn, ChangesName}
 use Rattle.engine_steps.proofs.Stores.{stays_start}
-use Rattle.engine_write_steps.proofs.Writing.{rows_named, environment_named}
+use Rattle.engine_write_steps.proofs.Writing.{new_variable, rows_named, environment_named}
+use Rattle.walk.specs.Memory.{evaluate_by}
 use Rattle.engine_evaluate.specs.Evaluable.{Evaluates}
 
 -- "`S|n|e` writes expression e to name n", and wakes.
@@ -37,7 +36,7 @@ pub assigns : (listing : Listing) (moment : ℕ) {a m : List ℕ} (u v : Running
     → BoundTo (rows_of a u.me) name binding → name < length (bindings_of a u.me) → Evaluates a u.me e (some x)
     → slots_of v.ready ≡ insert_all_lem (rows_of a) (triggered (rows_of a) (rows_of a u.me).low (triggers_at a binding.block binding.index)) (slots_of u.ready)
     → v.live ≡ u.live → v.woken ≡ u.woken → v.me ≡ u.me
-    → Executes listing moment (assign name e) a m u (Ok (Goes v))
+    → Executes listing moment (assign name e) a m u (record { answer = Goes; running = v })
 unfolding left_by execute_rows value_or_halt RunsLive named
 assigns listing moment {a} {m} u v name x e binding p bound few value ready live woken me =
     record {
@@ -57,7 +56,7 @@ nobody_listed words s index no_first = rw no_first (chained_none words 256)
 -- Nobody awaits it: the ready list stays.
 pub assigns_alone : (listing : Listing) (moment : ℕ) {a m : List ℕ} (me name x : ℕ) (e : List Piece) (binding : Binding)
     → ChangesName a m me name (λ y. written_to moment y x) → BoundTo (rows_of a me) name binding → name < length (bindings_of a me) → Evaluates a me e (some x)
-    → triggers_at a binding.block binding.index ≡ [] → GoesOn listing moment (assign name e) a m me (λ u. Ok (Goes u))
+    → triggers_at a binding.block binding.index ≡ [] → GoesOn listing moment (assign name e) a m me Goes
 unfolding GoesOn triggered insert_all_lem
 assigns_alone listing moment {a} {m} me name x e binding p bound few value nobody u same =
     assigns listing moment u u name x e binding (subst (λ (s : ℕ). ChangesName a m s name (λ y. written_to moment y x)) (sym same) p)
@@ -65,10 +64,10 @@ assigns_alone listing moment {a} {m} me name x e binding p bound few value nobod
     (subst (λ (s : ℕ). Evaluates a s e (some x)) (sym same) value) (rw nobody) refl refl refl
 
 -- "18: is every divisor other than 0?"
-pub assign_fails : (listing : Listing) (moment : ℕ) (a : List ℕ) (u : Running) (name : ℕ) (e : List Piece)
-    → Evaluates a u.me e none → Executes listing moment (assign name e) a a u (Err Divisor)
+pub assign_fails : (listing : Listing) (moment : ℕ) (a : List ℕ) (u v : Running) (name : ℕ) (e : List Piece)
+    → Evaluates a u.me e none → Executes listing moment (assign name e) a a u (record { answer = Stops 18; running = v })
 unfolding left_by execute_rows value_or_halt
-assign_fails listing moment a u name e fails =
+assign_fails listing moment a u v name e fails =
     record {
       outcome = λ n triggers reading go left. rw (sym ((fails moment).equal n reading.bound));
       stays = stays_start a;
@@ -76,10 +75,10 @@ assign_fails listing moment a u name e fails =
     }
 
 pub assign_fails_alone : (listing : Listing) (moment : ℕ) (a : List ℕ) (me name : ℕ) (e : List Piece)
-    → Evaluates a me e none → GoesOn listing moment (assign name e) a a me (λ u. Err Divisor)
+    → Evaluates a me e none → GoesOn listing moment (assign name e) a a me (Stops 18)
 unfolding GoesOn
 assign_fails_alone listing moment a me name e fails u is =
-    assign_fails listing moment a u name e (subst (λ (s : ℕ). Evaluates a s e none) (sym is) fails)
+    assign_fails listing moment a u u name e (subst (λ (s : ℕ). Evaluates a s e none) (sym is) fails)
 
 -- ── `A` ───────────────────────────────────────────────────────────────────────────────────────────
 pub positive_some : (d : ℕ) → is_positive d ≡ true → 0 < d
@@ -103,7 +102,7 @@ too_late present delay e = later_false (ltb (present + delay) 184467440737095516
 
 -- 18, of the delay.
 pub delay_fails : (a : List ℕ) (me name present : ℕ) (d e : List Piece) (listing : Listing) → Evaluates a me d none
-    → GoesOn listing present (schedule name d e) a a me (λ u. Err Divisor)
+    → GoesOn listing present (schedule name d e) a a me (Stops 18)
 unfolding GoesOn left_by execute_rows value_or_halt
 delay_fails a me name present d e listing fails u is =
     let no_delay = subst (λ (s : ℕ). Evaluates a s d none) (sym is) fails in
@@ -115,7 +114,7 @@ delay_fails a me name present d e listing fails u is =
 
 -- 18, of the value.
 pub value_fails : (a : List ℕ) (me name delay present : ℕ) (d e : List Piece) (listing : Listing) → Evaluates a me d (some delay) → Evaluates a me e none
-    → GoesOn listing present (schedule name d e) a a me (λ u. Err Divisor)
+    → GoesOn listing present (schedule name d e) a a me (Stops 18)
 unfolding GoesOn left_by execute_rows value_or_halt
 value_fails a me name delay present d e listing after fails u is =
     let later = subst (λ (s : ℕ). Evaluates a s d (some delay)) (sym is) after in
@@ -129,7 +128,7 @@ value_fails a me name delay present d e listing after fails u is =
 module _ {a : List ℕ} (me name delay x present : ℕ) (d e : List Piece) (listing : Listing) (after : Evaluates a me d (some delay))
     (given : Evaluates a me e (some x)) where
   -- 16: "is the delay at least 1?"
-  pub delay_short : is_positive delay ≡ false → GoesOn listing present (schedule name d e) a a me (λ u. Err Delay)
+  pub delay_short : is_positive delay ≡ false → GoesOn listing present (schedule name d e) a a me (Stops 16)
   unfolding GoesOn left_by execute_rows or_halt value_or_halt
   delay_short short u is =
       let later = subst (λ (s : ℕ). Evaluates a s d (some delay)) (sym is) after in
@@ -142,7 +141,7 @@ module _ {a : List ℕ} (me name delay x present : ℕ) (d e : List Piece) (list
 
   module _ (positive : is_positive delay ≡ true) where
     -- 17: "is the due moment below 2 to the 64?"
-    pub moment_late : ltb (present + delay) 18446744073709551616 ≡ false → GoesOn listing present (schedule name d e) a a me (λ u. Err Moment)
+    pub moment_late : ltb (present + delay) 18446744073709551616 ≡ false → GoesOn listing present (schedule name d e) a a me (Stops 17)
     unfolding GoesOn left_by execute_rows or_halt value_or_halt
     moment_late late u is =
         let later = subst (λ (s : ℕ). Evaluates a s d (some delay)) (sym is) after in
@@ -155,7 +154,7 @@ module _ {a : List ℕ} (me name delay x present : ℕ) (d e : List Piece) (list
 
     scheduled : {m : List ℕ} {t : ℕ} (u : Running) → Evaluates a u.me d (some delay) → ChangesName a m u.me name (λ y. scheduled_on y t x) → Evaluates a u.me e (some x)
         → ltb (present + delay) 18446744073709551616 ≡ true → t ≡ present + delay
-        → Executes listing present (schedule name d e) a m u (Ok (Goes u))
+        → Executes listing present (schedule name d e) a m u (record { answer = Goes; running = u })
     unfolding left_by execute_rows or_halt value_or_halt RunsLive named
     scheduled u later p value below is =
         record {
@@ -167,7 +166,7 @@ module _ {a : List ℕ} (me name delay x present : ℕ) (d e : List Piece) (list
 
     -- "`A|n|d|e` puts a waiting write of e on n, d milliseconds from now".
     pub schedules : {m : List ℕ} (t : ℕ) → ChangesName a m me name (λ y. scheduled_on y t x)
-        → ltb (present + delay) 18446744073709551616 ≡ true → t ≡ present + delay → GoesOn listing present (schedule name d e) a m me (λ u. Ok (Goes u))
+        → ltb (present + delay) 18446744073709551616 ≡ true → t ≡ present + delay → GoesOn listing present (schedule name d e) a m me Goes
     unfolding GoesOn
     schedules {m} t p below is u same =
         scheduled u (subst (λ (s : ℕ). Evaluates a s d (some delay)) (sym same) after) (subst (λ (s : ℕ). ChangesName a m s name (λ y. scheduled_on y t x)) (sym same) p)

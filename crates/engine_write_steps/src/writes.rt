@@ -8,7 +8,7 @@ ghost use Rattle.engine_steps.specs.Asked.{MayChange, MayWrite};
 ghost use Rattle.engine_steps.specs.Outcome.{Executes, Onwards, ChangesName};
 
 use engine_evaluate::NO_VALUE;
-use engine_steps::{Onward, Running, Stepped, Stop};
+use engine_steps::{Answer, Onward, Running, Stepped};
 use machine::{FIRST_TRIGGERS, MAY_WAIT};
 use words::{Delay, Later, Moment};
 
@@ -30,16 +30,16 @@ pub fn assign_on(
     let block = binding.block;
     let index = binding.index;
     if engine_blocks::word_at(m, block, FIRST_TRIGGERS + index) != 0 {
-        return Ok(None);
+        return Onward::Unmade;
     }
     let value = engine_evaluate::evaluate(t, m, me, cells, pieces);
     if NO_VALUE <= value {
-        return Err(Stop::Divisor);
+        return Onward::StopsWith(18);
     }
     engine_variable_changes::assign(m, block, index, value as u32);
     let next = place + 1;
     engine_row_changes::set_place(m, me, next);
-    Ok(Some(next))
+    Onward::To(next)
 }
 
 // The same if somebody may await it: the sleepers that it wakes are put into the ready list.
@@ -50,7 +50,7 @@ pub fn assign_step(
     name: usize,
     cells: usize,
     pieces: usize,
-) -> Result<Stepped, Stop>
+) -> Stepped
     requires { (MayWrite m.old running name) × (Evaluable t.now m.old running.me cells pieces) }
     ensures { (listing : Listing) (moment : ℕ) → Executes listing moment (assign name (pieces_at t.now cells pieces))
         m.old m.new running result }
@@ -58,7 +58,10 @@ pub fn assign_step(
     let me = running.me;
     let value = engine_evaluate::evaluate(t, m, me, cells, pieces);
     if NO_VALUE <= value {
-        return Err(Stop::Divisor);
+        return Stepped {
+            answer: Answer::Stops(18),
+            running,
+        };
     }
     let binding = engine_variables::owner(m, me, name);
     let block = binding.block;
@@ -69,12 +72,15 @@ pub fn assign_step(
     let next = engine_row::place(m, me) + 1;
     engine_variable_changes::assign(m, block, index, value as u32);
     engine_row_changes::set_place(m, me, next);
-    Ok(Stepped::Goes(Running {
-        ready,
-        live: running.live,
-        woken: running.woken,
-        me,
-    }))
+    Stepped {
+        answer: Answer::Goes,
+        running: Running {
+            ready,
+            live: running.live,
+            woken: running.woken,
+            me,
+        },
+    }
 }
 
 // The waiting write put on the name's variable, and the next instruction. Word 7 of the variable's block is 1 from then on: the next
@@ -112,21 +118,21 @@ pub fn schedule_on(
 {
     let delay = engine_evaluate::evaluate(t, m, me, cells, first);
     if NO_VALUE <= delay {
-        return Err(Stop::Divisor);
+        return Onward::StopsWith(18);
     }
     let value = engine_evaluate::evaluate(t, m, me, cells + 2 * first, second);
     if NO_VALUE <= value {
-        return Err(Stop::Divisor);
+        return Onward::StopsWith(18);
     }
     if !words::is_positive(delay as u32) {
-        return Err(Stop::Delay);
+        return Onward::StopsWith(16);
     }
     match words::later_moment(present, Delay(delay as u32)) {
         Later::At(moment) => {
             schedule_at(m, me, place, name, moment, value as u32);
             let next = place + 1;
-            Ok(Some(next))
+            Onward::To(next)
         }
-        Later::TooLate => Err(Stop::Moment),
+        Later::TooLate => Onward::StopsWith(17),
     }
 }

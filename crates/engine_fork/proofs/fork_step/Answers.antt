@@ -1,9 +1,11 @@
 -- `fork_step` meets its contract.
-use mathlib.Core.Path.{refl}
-use Prim.Native.Nat.{◌+◌, ◌≤◌, ◌<◌}
+use mathlib.Core.Path.{◌≡◌, refl, sym, ap, ◌∙◌}
+use Prim.Native.Nat.{ℕ, suc, ◌+◌, ◌≤◌, ◌<◌}
 use native.Mathlib.Omega.{arith}
 use borrow.Author.Rules.{rules}
+use Rattle.engine_rows.specs.Rows.{Row}
 use Rattle.engine_blocks.specs.Blocks.{rows_of}
+use Rattle.engine_steps.specs.declared.running.Running.{Running}
 use Rattle.engine_fork.proofs.Counted.{counted_clean, may_fork}
 use Rattle.engine_fork.proofs.Forked.{too_many, too_deep, may_put, may_pop_child, forks}
 use Rattle.engine_fork.proofs.fork_step.Goals as goal

@@ -1,4 +1,10 @@
 -- `engine_ready_step::execute` meets its contract: each kind of instruction by what was read of it.
+use mathlib.Core.Path.{◌≡◌}
+use Prim.Native.Nat.{ℕ, ◌+◌, ◌*◌, ◌≤◌, ◌<◌}
+use native.Mathlib.Omega.{arith}
+use borrow.Author.Rules.{rules}
+use Rattle.engine_rows.specs.Rows.{Row}
+use Rattle.engine_blocks.specs.Blocks.{rows_of}
 use Rattle.table.specs.Decode.{names_at, table_listing}
 use Rattle.engine_run_laws.proofs.Arms.{may_write, may_evaluate, may_end, may_fork_step, as_read, no_schedule, no_branch, no_jump, last_kind}
 use Rattle.engine_ready_step.proofs.execute.Goals as goal

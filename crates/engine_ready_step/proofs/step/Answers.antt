@@ -1,8 +1,10 @@
 -- `step` meets its contract.
 use mathlib.Core.Path.{◌≡◌, ◌∙◌}
 use Prim.Native.Nat.{◌<◌}
+use borrow.Author.Rules.{rules}
 use Rattle.table.specs.Decode.{word, size_of}
 use Rattle.table_read.proofs.Fetching.{has_entry, entry_fetched}
+use Rattle.engine_rows.specs.Rows.{Row}
 use Rattle.engine_blocks.specs.Blocks.{rows_of}
 use Rattle.engine_ready_step.proofs.step.Goals as goal
 

@@ -1,6 +1,10 @@
 -- `engine_straight::straight_step` meets its contract: each kind of instruction by what was read of it.
-use mathlib.Core.Path.{refl}
+use mathlib.Core.Path.{◌≡◌, refl}
+use Prim.Native.Nat.{ℕ, ◌+◌, ◌*◌, ◌≤◌, ◌<◌}
+use native.Mathlib.Omega.{arith}
 use borrow.Author.Rules.{rules}
+use Rattle.engine_rows.specs.Rows.{Row}
+use Rattle.engine_blocks.specs.Blocks.{rows_of}
 use Rattle.table.specs.Decode.{table_listing}
 use Rattle.engine_steps.specs.Outcome.{Onwards}
 use Rattle.engine_run_laws.proofs.Arms.{place_fits, may_go_on, may_change, may_evaluate, as_read_on, needs_ready}

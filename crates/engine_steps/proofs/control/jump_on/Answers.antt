@@ -1,4 +1,5 @@
 -- `engine_steps::control::jump_on` meets its contract.
+use borrow.Author.Rules.{rules}
 use Rattle.engine_steps.specs.Outcome.{Onwards}
 use Rattle.engine_steps.proofs.Going.{jumps, now_at, still_in}
 use Rattle.engine_steps.proofs.control.jump_on.Goals as goal

@@ -1,4 +1,5 @@
 -- `wait_step` meets its contract.
+use borrow.Author.Rules.{rules}
 use Rattle.engine_steps.proofs.Going.{waits}
 use Rattle.engine_steps.proofs.control.wait_step.Goals as goal
 

@@ -1,13 +1,15 @@
 -- `next_ready` meets its contract.
 use mathlib.Core.Path.{◌≡◌, refl, sym, ap, ◌∙◌}
 use mathlib.Core.Bool.{true, false}
-use Prim.Native.Nat.{suc, ◌+◌, ◌<◌}
+use Prim.Native.Nat.{ℕ, suc, ◌+◌, ◌<◌}
 use native.Mathlib.Numerals.{add-one}
 use native.Mathlib.Omega.{arith}
 use borrow.Author.Rules.{rules}
 use borrow.Author.Tests.{eqb-true, eqb-false}
+use Rattle.engine_rows.specs.Rows.{Row}
 use Rattle.engine_rows.specs.Engine.{first_place, count_if}
 use Rattle.engine_blocks.specs.Blocks.{rows_of}
+use Rattle.engine_steps.specs.declared.running.Running.{Running}
 use Rattle.engine_steps.proofs.Going.{first_small, pops_none, pops_first}
 use Rattle.engine_steps.proofs.running.next_ready.Goals as goal
 

@@ -1,10 +1,12 @@
 -- `engine_write_steps::writes::assign_on` meets its contract.
 use mathlib.Core.Path.{◌≡◌, refl, sym, ap, ◌∙◌}
-use Prim.Native.Nat.{suc, ◌+◌, ◌<◌}
+use Prim.Native.Nat.{ℕ, suc, ◌+◌, ◌<◌}
 use native.Mathlib.Numerals.{add-one}
 use native.Mathlib.Omega.{arith}
+use borrow.Author.Rules.{rules}
 use Rattle.walk.specs.State.{Variable, written_to}
 use Rattle.table.specs.Decode.{pieces_at}
+use Rattle.engine_rows.specs.Rows.{Row}
 use Rattle.engine_blocks.specs.Blocks.{rows_of}
 use Rattle.engine_values.proofs.Values.{value_given, none_given}
 use Rattle.engine_evaluate.proofs.Names.{names_few}

@@ -3,8 +3,10 @@ use mathlib.Core.Path.{◌≡◌, refl, ap, subst}
 use Prim.Native.Nat.{ℕ, suc, ◌+◌, ◌<◌}
 use native.Mathlib.Numerals.{add-one}
 use native.Mathlib.Omega.{arith}
+use borrow.Author.Rules.{rules}
 use Rattle.walk.specs.State.{Variable, written_to}
 use Rattle.table.specs.Decode.{pieces_at}
+use Rattle.engine_rows.specs.Rows.{Row}
 use Rattle.engine_rows.specs.Ready.{insert_all_lem}
 use Rattle.engine_rows.specs.Triggers.{triggered}
 use Rattle.engine_blocks.specs.Blocks.{rows_of}
@@ -12,6 +14,7 @@ use Rattle.engine_ready.specs.Slots.{slots_of}
 use Rattle.engine_triggers.specs.Chains.{triggers_at}
 use Rattle.engine_values.proofs.Values.{value_given, none_given}
 use Rattle.engine_evaluate.proofs.Names.{names_few}
+use Rattle.engine_steps.specs.declared.running.Running.{Running}
 use Rattle.engine_steps.proofs.Stores.{placed_as}
 use Rattle.engine_write_steps.proofs.Writing.{changes_name, assigned_all}
 use Rattle.engine_write_steps.proofs.Changing.{assigns, assign_fails}
@@ -22,7 +25,7 @@ returns-then-value-ge-NO_VALUE c =
     λ listing moment.
     let a = c.args in
     let v = c.evaluate-value.result in
-    assign_fails listing moment _ a.running a.name (pieces_at a.t.now a.cells a.pieces) (rw (none_given v c.if-value-ge-NO_VALUE.true) at c.evaluate-value.ensures.0)
+    assign_fails listing moment _ a.running _ a.name (pieces_at a.t.now a.cells a.pieces) (rw (none_given v c.if-value-ge-NO_VALUE.true) at c.evaluate-value.ensures.0)
 
 pub owner-binding-requires : goal.owner-binding-requires
 owner-binding-requires c =

@@ -9,6 +9,7 @@ use Rattle.engine_blocks.proofs.Queued.{then_queued}
 use Rattle.engine_evaluate.proofs.Names.{names_few}
 use Rattle.engine_steps.proofs.Stores.{placed_as}
 use Rattle.engine_write_steps.proofs.Writing.{scheduled_all, changes_name}
+use borrow.Author.Rules.{rules}
 use Rattle.engine_write_steps.proofs.writes.schedule_at.Goals as goal
 
 pub owner-binding-requires : goal.owner-binding-requires

@@ -1,13 +1,16 @@
 -- `schedule_on` meets its contract.
-use mathlib.Core.Path.{◌≡◌, sym, ap, ◌∙◌}
+use mathlib.Core.Path.{◌≡◌, refl, sym, ap, ◌∙◌}
 use mathlib.Core.Bool.{true, false}
-use Prim.Native.Nat.{suc, ◌+◌, ◌*◌, ◌<◌}
+use Prim.Native.Nat.{ℕ, suc, ◌+◌, ◌*◌, ◌<◌}
 use native.Mathlib.Omega.{arith}
+use borrow.Author.Rules.{rules}
+use borrow.Author.Tests.{not-true, not-false}
 use Rattle.words.specs.Words.{is_positive}
 use Rattle.words.specs.Moments.{later_at, stops_with, later_moment, later_of}
 use Rattle.table.specs.Decode.{pieces_at}
 use Rattle.engine_values.proofs.Values.{value_given, none_given}
 use Rattle.engine_steps.specs.Outcome.{GoesOn, Onwards}
+use Rattle.engine_rows.specs.Rows.{Row}
 use Rattle.engine_blocks.specs.Blocks.{rows_of}
 use native.Mathlib.Numerals.{add-one}
 use Rattle.engine_write_steps.proofs.Writing.{place_named, routine_named}

@@ -3,28 +3,32 @@
 ghost use Rattle.std.specs.Prelude.{◌≡◌, ◌<◌};
 ghost use Rattle.words.specs.Words.{wrapping_add, wrapping_subtract, wrapping_multiply, bit, signed_less, is_positive, all_zero};
 
+// 2 to the 32: a product's remainder by it is the product's word.
+const SIZE: u64 = 4294967296;
+
 // 2 to the 31: the words from here on stand for negative numbers.
 const HALF: u32 = 2147483648;
 
-// The sum.
+// The sum, as std supplies it.
 pub fn wrapping_add(a: u32, b: u32) -> u32
     ensures { result ≡ wrapping_add a b }
 {
     a.wrapping_add(b)
 }
 
-// The difference.
+// The difference, as std supplies it.
 pub fn wrapping_subtract(a: u32, b: u32) -> u32
     ensures { result ≡ wrapping_subtract a b }
 {
     a.wrapping_sub(b)
 }
 
-// The product.
+// The whole product has 64 bits; its word is the remainder. Document 01 asks for an own product.
 pub fn wrapping_multiply(a: u32, b: u32) -> u32
     ensures { result ≡ wrapping_multiply a b }
 {
-    a.wrapping_mul(b)
+    let product = u64::from(a) * u64::from(b);
+    (product % SIZE) as u32
 }
 
 // 1 if a's number is below b's, else 0. Moved up by half of all words, the negative numbers come before the others.

@@ -244,5 +244,14 @@ module _ (w : List ℕ) (small : Words w) (names size e at : ℕ) where
       let k = word w (e + 0) in
       rw (ne_eqb k 1 n1, ne_eqb k 2 n2, ne_eqb k 3 n3, ne_eqb k 4 n4, ne_eqb k 5 n5, ne_eqb k 6 n6, ne_eqb k 7 n7, five_kind w e 7 0 at 0 0 (ne_eqb k 7 n7)) (simp and_no)
 
+-- at a match on the kind, a law on entries of one kind tells what the check of such an entry gives
+abbrev pub Law : ℕ → (List ℕ → ℕ → ℕ → ℕ → ℕ → Option ℕ) → Type 0
+Law k f =
+    (w : List ℕ) → Words w → (names size e at : ℕ) → word w (e + 2) ≡ at → word w (e + 0) ≡ k → entry_past w names size e at ≡ f w names size e at
+
+pub past : (w : List ℕ) → Words w → (names size e at : ℕ) → word w (e + 2) ≡ at → {k : ℕ} {r : Option ℕ} {f : List ℕ → ℕ → ℕ → ℕ → ℕ → Option ℕ} → Law k f
+    → word w (e + 0) ≡ k → r ≡ f w names size e at → r ≡ entry_past w names size e at
+past w small names size e at x law h z = rw (law w small names size e at x h) z
+
 -- the check of an entry, by the number of its kind
 pub ruleset by_kind = (past_other_place, past_assign, past_schedule, past_branch, past_jump, past_wait, past_fork, past_end, past_no_kind)

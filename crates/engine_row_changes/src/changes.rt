@@ -9,7 +9,6 @@ use engine_blocks::{clear_words, put_word};
 use machine::{ASLEEP, CHILDREN, FIRST_TRIGGERS, PLACE};
 
 // The routine goes on at an instruction: it is not asleep.
-#[tactic(auto, using(engine_blocks::proofs::InBlocks::in_block_put_then, engine_blocks::proofs::RowChanges::place_changes), unfolding(engine_blocks::specs::Changes::placed_block))]
 pub fn set_place(m: &mut [u32], s: usize, place: u32)
     requires { AtSlot m.old s }
     ensures { Changes s m.old m.new (placed_block (block m.old s) place) (with_slot s (λ r. at_place r place)) }
@@ -19,7 +18,6 @@ pub fn set_place(m: &mut [u32], s: usize, place: u32)
 }
 
 // So many children live.
-#[tactic(auto, using(engine_blocks::proofs::RowChanges::children_changes))]
 pub fn set_children(m: &mut [u32], s: usize, count: u32)
     requires { AtSlot m.old s }
     ensures { Changes s m.old m.new (put_in (block m.old s) 106 count) (with_slot s (λ r. with_children r count)) }
@@ -29,7 +27,6 @@ pub fn set_children(m: &mut [u32], s: usize, count: u32)
 
 // The slot is free: "the routine's own variables vanish with their waiting writes", and their written marks with them.
 // The trigger words stay, since the trigger lists of an instant stay.
-#[tactic(auto, using(engine_blocks::proofs::RowChanges::free_changes))]
 pub fn free(m: &mut [u32], s: usize)
     requires { AtSlot m.old s }
     ensures { Changes s m.old m.new (cleared 0 144 (block m.old s)) (with_slot s (λ r. free_row)) }

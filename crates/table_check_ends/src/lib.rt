@@ -14,7 +14,6 @@ use table::{
 use words::all_zero;
 
 // May the instruction whose entry stands at `e` be the last of its routine: `E` or `G`?
-#[tactic(auto, unfolding(table::specs::Decode::instruction_at_entry, table::specs::Decode::instruction_of, listing::specs::Questions::may_be_last))]
 pub fn may_end(t: &[u32], e: usize) -> bool
     requires { e + 5 ≤ length t.now }
     ensures { result ≡ may_be_last (instruction_at_entry t.now e) }

@@ -10,14 +10,20 @@ use Rattle.std.proofs.lemmas.List.{drop-drop}
 use Rattle.walk.specs.Calls.{halted_words}
 use Rattle.machine_halt.specs.Zeroed.{zeroed, blank_words}
 
--- The words from one place up to 12,288, filled with 0.
-pub filled : (from : ℕ) (l ys : List ℕ) → from ≤ 12288 → 12288 ≤ length l → ys ≡ replicate (length (take (12288 - from) (drop from l))) 0
+filled_from : (from : ℕ) (l ys : List ℕ) → from ≤ 12288 → 12288 ≤ length l → ys ≡ replicate (length (take (12288 - from) (drop from l))) 0
     → put_mid from (12288 - from) l ys ≡ zeroed from 12288 l
 unfolding zeroed
-filled from l ys h g e =
+filled_from from l ys h g e =
     let n : length (take (12288 - from) (drop from l)) ≡ 12288 - from = length-take (12288 - from) (drop from l) ∙ omega (arith, length-drop from l) in
     let p : from + (12288 - from) ≡ 12288 = omega arith in
     rw (e, n, drop-drop (12288 - from) from l, p)
+
+-- The words from one place up to 12,288, filled with 0: as many words from `start` on.
+pub filled : (from start count : ℕ) (l ys : List ℕ) → from ≤ 12288 → 12288 ≤ length l → start ≡ from → from + count ≡ 12288
+    → ys ≡ replicate (length (take count (drop start l))) 0 → put_mid start count l ys ≡ zeroed from 12288 l
+filled from start count l ys h g s k e =
+    let n : count ≡ 12288 - from = omega arith in
+    rw (s, n) (filled_from from l ys h g (rw (s, n) at e))
 
 pub zeroed_length : (from to : ℕ) (l : List ℕ) → from ≤ to → to ≤ length l → length (zeroed from to l) ≡ length l
 unfolding zeroed

@@ -9,7 +9,7 @@ use crate::moment_at;
 use machine::VARIABLE_WORDS;
 
 // The sooner of two moments due.
-#[tactic(auto, using(crate::proofs::DueLaws::first_none, crate::proofs::DueLaws::second_none, crate::proofs::DueLaws::sooner_is_least))]
+#[tactic(auto, using(crate::proofs::DueLaws::first_none, crate::proofs::DueLaws::second_none))]
 pub fn sooner(a: u64, b: u64) -> u64
     ensures { due_at result ≡ earlier (due_at a) (due_at b) }
 {

@@ -1,11 +1,16 @@
 -- `engine_inputs::inputs::write_inputs` meets its contract.
 use mathlib.Core.Path.{◌≡◌}
 use native.Mathlib.Omega.{arith}
-use lib.ListN.{length}
+use Prim.Native.Nat.{ℕ}
+use lib.ListN.{length, get_or}
 use borrow.Author.Rules.{rules}
 use Rattle.std.proofs.Common.{[], ◌∷◌, ◌++◌, ◌+◌}
 use Rattle.std.proofs.lemmas.Slice.Zip.{zip_turn, zip_end}
 use Rattle.std.proofs.lemmas.List.{length_push}
+use Rattle.walk.specs.State.{input_to}
+use Rattle.engine_blocks.specs.Blocks.{block, owner_at}
+use Rattle.engine_blocks.specs.Store.{with_variable}
+use Rattle.engine_blocks.specs.Changes.{Changes, overwritten_block}
 use Rattle.engine_ready.specs.Slots.{slots_of}
 use Rattle.engine_inputs.proofs.InputPass.{inputs_begun, one_more_input, inputs_done}
 use Rattle.engine_due.proofs.Reached.{reaches_none, reaches_then}
@@ -48,7 +53,10 @@ loop-number-preserved c =
     (rw begun c.zip-number-items.ensures.second.0) v.yielded_by _ c.in-Some.is c.next.ensures.steps in
     let w = c.wake_all-woken.ensures in
     let below = c.requires.2.below (length v.yielded) here.0 in
-    let next = rw (here.2 0, here.3 0) at c.overwrite.ensures in
+    let number = get_or a.numbers.now (length v.yielded) 0 in
+    let value = get_or a.values.now (length v.yielded) 0 in
+    let next : (moment : ℕ) → Changes 64 v.m c.overwrite.new.m (overwritten_block number value (block v.m 64)) (with_variable (owner_at 64 number) (λ x. input_to moment x value)) =
+    λ moment. rw (← here.2 0, ← here.3 0) (c.overwrite.ensures moment) in
     let reached = rw (here.2 0) at w.0 in
     let more : length (v.yielded ++ ((c.in-Some.number, c.in-Some.value) ∷ [])) ≡ length v.yielded + 1 = length_push v.yielded (c.in-Some.number, c.in-Some.value) in (
       rw more (one_more_input a.numbers.now a.values.now (length v.yielded) here.0 (search rules) v.invariant.0 next),

@@ -32,10 +32,10 @@ is_letter_field field = cond (eqb (length field) 1) (is_some (fields_after (get_
 unfoldable pub letter_why : Bytes → Option Reason
 letter_why field = cond (is_letter_field field) None (Some (strange_or WV.NoSuchLetter (strange_field field)))
 
--- may so many fields come after a letter, and why not
+-- may so many fields come after a letter, and why not; 255 stand for those of no letter
 abbrev pub counts : ℕ → Option ℕ → Bool
 counts count (Some fields) = eqb count fields
-counts count None = false
+counts count None = eqb count 255
 
 unfoldable pub fits_letter : ℕ → ℕ → Bool
 fits_letter letter count = cond (eqb letter (code "F")) (cond (eqb count 0) false (leb count most_children)) (counts count (fields_after letter))

@@ -4,6 +4,9 @@ ghost use Rattle.explain_lines.specs.Letters.{fields_after, is_letter_field, fit
 
 use explain_fields::{Reason, Role, strange_field};
 
+// So many fields stand for those of a byte that begins no record.
+pub const NO_RECORD: usize = 255;
+
 // How many fields come after a letter, of an `F` at most; none if no record begins so.
 fn fields_after(letter: u8) -> Option<usize>
     ensures { result ≡ fields_after letter }
@@ -55,8 +58,8 @@ pub fn letter_why(field: &[u8]) -> Option<Reason>
     }
 }
 
-// Whether so many fields may come after a letter.
-pub(crate) fn fits_letter(letter: u8, count: usize) -> bool
+// Whether so many fields may come after a letter; after a byte that begins no record, whether they are 255.
+pub fn fits_letter(letter: u8, count: usize) -> bool
     ensures { result ≡ fits_letter letter count }
 {
     if letter == b'F' {
@@ -67,7 +70,7 @@ pub(crate) fn fits_letter(letter: u8, count: usize) -> bool
     }
     match fields_after(letter) {
         Some(fields) => count == fields,
-        None => false,
+        None => count == NO_RECORD,
     }
 }
 

@@ -6,7 +6,7 @@ ghost use Rattle.explain_trace.specs.Forms.{fields_after, is_letter_field, lette
 
 use crate::reasons::Reason;
 use explain_fields::{Fault, Spot, about, strange_field, strange_in};
-use explain_lines::letter::first_byte;
+use explain_lines::letter::{NO_RECORD, first_byte};
 use explain_parts::{count_parts, part_end, part_of};
 use session_trace_lines::figure::{Bounded, MOST_32, MOST_64, figure_up_to, value_of};
 
@@ -50,7 +50,7 @@ fn fits_letter(letter: u8, count: usize) -> bool
 {
     match fields_after(letter) {
         Some(fields) => count == fields,
-        None => false,
+        None => count == NO_RECORD,
     }
 }
 

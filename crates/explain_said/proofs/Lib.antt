@@ -1,2 +1,3 @@
 pub mod Saying
 pub mod Numbered
+pub mod ByNumber

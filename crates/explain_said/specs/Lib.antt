@@ -1,3 +1,4 @@
+pub mod Numbers
 pub mod Reasons
 pub mod Sentences
 pub mod Spots

@@ -26,7 +26,10 @@ spot_text line PV.Line = []
 spot_text line (PV.Field field) = field_text field ++ bytes_of ": "
 spot_text line (PV.Piece field piece) = field_text field ++ (numbered_text line field piece ++ bytes_of ": ")
 
--- of a rule that has no reasons of its own, that the line does not meet it
+-- by how a reason is said; of a rule that has no reasons of its own, that the line does not meet it
+abbrev pub fault_said : {R : Type 0} → (R → Bytes) → Bytes → Option (Fault R) → Bytes
+fault_said said line (Some fault) = spot_text line fault.spot ++ said fault.why
+fault_said said line None = bytes_of "the line does not meet the rule below"
+
 abbrev pub fault_text : Bytes → Option (Fault Reason) → Bytes
-fault_text line (Some fault) = spot_text line fault.spot ++ reason_text fault.why
-fault_text line None = bytes_of "the line does not meet the rule below"
+fault_text line fault = fault_said reason_text line fault

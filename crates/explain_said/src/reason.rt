@@ -1,7 +1,7 @@
 // The sentences of the reasons. They are those of specs/Reasons, as the contracts say.
 ghost use Rattle.std.specs.Prelude.{◌≡◌, ◌+◌, ◌≤◌, length};
 ghost use Rattle.session_print.specs.Puts.{Puts};
-ghost use Rattle.listing.specs.Bytes.{bytes_of};
+ghost use Rattle.listing.specs.Bytes.{Bytes, bytes_of};
 ghost use Rattle.explain_parts.specs.Parts.{part_of};
 ghost use Rattle.explain_said.specs.Reasons.{strange_sentence, sentence, counted, with_figure, reason_text};
 
@@ -104,10 +104,27 @@ pub fn put_with_figure(out: &mut [u8], at: usize, text: &[u8], figure: Option<u6
     }
 }
 
+// What can be said as a reason: a reason itself, or its number (numbers.rt).
+pub trait Said: Copy {
+    ghost said: { Self → Bytes };
+
+    fn put(self, out: &mut [u8], at: usize) -> usize
+        requires { at ≤ 60000 }
+        ensures { Puts out.old at (said self) out.new result × (result ≤ at + 220) };
+}
+
+impl Said for Reason {
+    ghost said = { reason_text };
+
+    fn put(self, out: &mut [u8], at: usize) -> usize {
+        put_with_figure(out, at, sentence(self), counted(self))
+    }
+}
+
 // A reason, put at a place; the place past it.
-pub fn put_reason(out: &mut [u8], at: usize, why: Reason) -> usize
+pub fn put_reason<R: Said>(out: &mut [u8], at: usize, why: R) -> usize
     requires { at ≤ 60000 }
-    ensures { Puts out.old at (reason_text why) out.new result × (result ≤ at + 220) }
+    ensures { Puts out.old at (R.said why) out.new result × (result ≤ at + 220) }
 {
-    put_with_figure(out, at, sentence(why), counted(why))
+    why.put(out, at)
 }

@@ -1,10 +1,10 @@
 // Where in its line a reason applies.
 ghost use Rattle.std.specs.Prelude.{◌≡◌, ◌+◌, ◌≤◌, length};
 ghost use Rattle.session_print.specs.Puts.{Puts};
-ghost use Rattle.explain_said.specs.Spots.{piece_text, field_text, numbered_text, spot_text, fault_text};
+ghost use Rattle.explain_said.specs.Spots.{piece_text, field_text, numbered_text, spot_text, fault_said};
 
-use crate::reason::put_reason;
-use explain_fields::{Fault, Reason, Spot};
+use crate::reason::{Said, put_reason};
+use explain_fields::{Fault, Spot};
 use explain_parts::{part_of, put_shown};
 use session_print::figure::put_figure;
 use test_cases::report::put_text;
@@ -63,9 +63,10 @@ pub fn put_spot(out: &mut [u8], at: usize, line: &[u8], spot: Spot) -> usize
 }
 
 // The reason with its spot; of a rule that has no reasons of its own that the line does not meet it.
-pub fn put_fault(out: &mut [u8], at: usize, line: &[u8], fault: Option<Fault<Reason>>) -> usize
+// Of numbers: proofs ByNumber `numbered` says the text.
+pub fn put_fault<R: Said>(out: &mut [u8], at: usize, line: &[u8], fault: Option<Fault<R>>) -> usize
     requires { at ≤ 30000 }
-    ensures { Puts out.old at (fault_text line.now fault) out.new result × (result ≤ at + 4400) }
+    ensures { Puts out.old at (fault_said R.said line.now fault) out.new result × (result ≤ at + 4400) }
 {
     match fault {
         Some(fault) => {

@@ -1,4 +1,4 @@
--- The ends of a table: words of 0, operands.
+-- The ends of a table: the last instruction by its kind, words of 0, operands.
 use mathlib.Core.Path.{◌≡◌, refl, ap}
 use mathlib.Core.Bool.{Bool, true, false, not, ◌&&◌}
 use mathlib.Core.List.{List}
@@ -18,7 +18,7 @@ use Rattle.table.specs.Decode.{word, instruction_of, instruction_at_entry}
 use Rattle.table_check_ends.specs.Ends.{zeros_at, operand_count}
 
 -- ── the last instruction of a routine ────────────────────────────────────────────
--- By the number of its kind, it is none of those that go on to another line.
+-- An instruction may be the last if its kind is none of those that go on to another line.
 pub ends_by_kind : (w : List ℕ) (e : ℕ) (goes_on : Bool)
     → (word w (e + 0) ≡ 1 → goes_on ≡ true) → (word w (e + 0) ≡ 2 → goes_on ≡ true) → (word w (e + 0) ≡ 3 → goes_on ≡ true)
     → (word w (e + 0) ≡ 5 → goes_on ≡ true) → (word w (e + 0) ≡ 6 → goes_on ≡ true)
@@ -29,6 +29,7 @@ ends_by_kind w e b y1 y2 y3 y5 y6 other = go (ℕ_discrete k 1) (ℕ_discrete k 
   where
     k : ℕ
     k = word w (e + 0)
+
     go : Dec (k ≡ 1) → Dec (k ≡ 2) → Dec (k ≡ 3) → Dec (k ≡ 5) → Dec (k ≡ 6) → Dec (k ≡ 4) → Dec (k ≡ 7) → not b ≡ may_be_last (instruction_at_entry w e)
     go (yes h) _ _ _ _ _ _ = rw (y1 h, h)
     go (no _) (yes h) _ _ _ _ _ = rw (y2 h, h)

@@ -7,4 +7,4 @@ pub returns : goal.returns
 returns c =
     let a = c.args in
     ends.ends_by_kind a.t.now a.e _ (λ h. grind arith) (λ h. grind arith) (λ h. grind arith) (λ h. grind arith) (λ h. grind arith)
-        (λ f g h i j. grind arith)
+    (λ f g h i j. grind arith)

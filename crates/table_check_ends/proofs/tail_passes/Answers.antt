@@ -18,11 +18,11 @@ returns-then-zeros_pass-4 c =
       | then-zeros_pass-3 u ↦ elim c.if-zeros_pass-2.branch [
         | then-zeros_pass-2 v ↦ elim c.if-zeros_pass.branch [
           | then-zeros_pass w ↦
-            let h : zeros_at a.t.now 3 5 ≡ true = sym c.zeros_pass.ensures ∙ w.if-zeros_pass.true in
-            let k : zeros_at a.t.now (8 + 5 * a.n) (328 - (8 + 5 * a.n)) ≡ true = sym w.zeros_pass-then-zeros_pass.ensures ∙ (sym w.value-is ∙ v.if-zeros_pass-2.true) in
-            let j : zeros_at a.t.now (328 + 5 * a.first) (2888 - (328 + 5 * a.first)) ≡ true = sym v.zeros_pass-then-zeros_pass-2.ensures ∙ (sym v.value-is ∙ u.if-zeros_pass-3.true) in
-            let i : zeros_at a.t.now a.cells (12288 - a.cells) ≡ true = sym u.zeros_pass-then-zeros_pass-3.ensures ∙ (sym u.value-is ∙ c.if-zeros_pass-4.true) in
-            rw (h, ← z, k, ← y, j, i, ← c.operand_count.ensures)
+              let h : zeros_at a.t.now 3 5 ≡ true = sym c.zeros_pass.ensures ∙ w.if-zeros_pass.true in
+              let k : zeros_at a.t.now (8 + 5 * a.n) (328 - (8 + 5 * a.n)) ≡ true = sym w.zeros_pass-then-zeros_pass.ensures ∙ (sym w.value-is ∙ v.if-zeros_pass-2.true) in
+              let j : zeros_at a.t.now (328 + 5 * a.first) (2888 - (328 + 5 * a.first)) ≡ true = sym v.zeros_pass-then-zeros_pass-2.ensures ∙ (sym v.value-is ∙ u.if-zeros_pass-3.true) in
+              let i : zeros_at a.t.now a.cells (12288 - a.cells) ≡ true = sym u.zeros_pass-then-zeros_pass-3.ensures ∙ (sym u.value-is ∙ c.if-zeros_pass-4.true) in
+              rw (h, ← z, k, ← y, j, i, ← c.operand_count.ensures)
           | else-zeros_pass w ↦ absurd (false≢true (sym w.if-zeros_pass.false ∙ (sym w.value-is ∙ v.if-zeros_pass-2.true)))
         ]
         | else-zeros_pass-2 v ↦ absurd (false≢true (sym v.if-zeros_pass-2.false ∙ (sym v.value-is ∙ u.if-zeros_pass-3.true)))

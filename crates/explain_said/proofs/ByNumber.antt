@@ -7,10 +7,8 @@ use lib.ListN.{get_or}
 use Rattle.std.specs.Prelude.{map, slice_get, Some, None}
 use Rattle.listing.specs.Bytes.{Bytes, bytes_of, figure}
 use Rattle.explain_parts.specs.Parts.{part_of}
-use Rattle.explain_fields.specs.declared.reasons.Reason.{Reason}
-use Rattle.explain_said.specs.Reasons.{sentence}
 use Rattle.explain_said.specs.Spots.{piece_text, field_text, numbered_text, spot_text, fault_said}
-use Rattle.explain_said.specs.Numbers.{number_texts, number_text, piece_part, place_text, spot_of}
+use Rattle.explain_said.specs.Numbers.{number_text, piece_part, place_text, spot_of}
 
 -- what stands in a list of texts is the text of what stands in the list itself
 text_at : {A : Type 0} (f : A → Bytes) (l : List A) (k : ℕ) (x : A) → slice_get l k ≡ Some x → f x ≡ get_or (map f l) k []
@@ -21,22 +19,18 @@ text_at f [] k x e = absurd (none_there e)
 text_at f (y ∷ l) zero x e = grind arith
 text_at f (y ∷ l) (suc k) x e = text_at f l k x e
 
-no_text : {A : Type 0} (f : A → Bytes) (l : List A) (k : ℕ) → slice_get l k ≡ None → [] ≡ get_or (map f l) k []
-no_text f [] k e = refl
-no_text f (y ∷ l) zero e = cc
-no_text f (y ∷ l) (suc k) e = no_text f l k e
+none_at : {A : Type 0} (f : A → Bytes) (l : List A) (k : ℕ) → slice_get l k ≡ None → [] ≡ get_or (map f l) k []
+none_at f [] k e = refl
+none_at f (y ∷ l) zero e = cc
+none_at f (y ∷ l) (suc k) e = none_at f l k e
 
--- the sentences are those of the reasons, which the code has in a list, behind one that is of none
-module _ (reasons : List Reason) (first : Bytes) (same : number_texts ≡ first ∷ map (λ why. bytes_of (sentence why)) reasons) (number k : ℕ) (is : number ≡ suc k) where
-  pub some_sentence : (why : Reason) → Some why ≡ slice_get reasons k → bytes_of (sentence why) ≡ number_text number
-  some_sentence why e =
-      text_at (λ (w : Reason). bytes_of (sentence w)) reasons k why (sym e)
-      ∙ ap (λ (l : List Bytes). get_or l (suc k) []) (sym same) ∙ ap number_text (sym is)
+-- the texts are those of the reasons, which the code has in a list, behind one that is of none
+module _ {R : Type 0} (text : R → Bytes) (texts : List Bytes) (reasons : List R) (first : Bytes) (same : texts ≡ first ∷ map text reasons) (number k : ℕ) (is : number ≡ suc k) where
+  pub some_text : (why : R) → Some why ≡ slice_get reasons k → text why ≡ get_or texts number []
+  some_text why e = text_at text reasons k why (sym e) ∙ ap (λ (l : List Bytes). get_or l (suc k) []) (sym same) ∙ ap (λ (n : ℕ). get_or texts n []) (sym is)
 
-  pub no_sentence : None ≡ slice_get reasons k → [] ≡ number_text number
-  no_sentence e =
-      no_text (λ (w : Reason). bytes_of (sentence w)) reasons k (sym e)
-      ∙ ap (λ (l : List Bytes). get_or l (suc k) []) (sym same) ∙ ap number_text (sym is)
+  pub no_text : None ≡ slice_get reasons k → [] ≡ get_or texts number []
+  no_text e = none_at text reasons k (sym e) ∙ ap (λ (l : List Bytes). get_or l (suc k) []) (sym same) ∙ ap (λ (n : ℕ). get_or texts n []) (sym is)
 
 -- a spot by its numbers
 pub placed : (line : Bytes) (field piece : ℕ) → spot_text line (spot_of field piece) ≡ place_text line field piece

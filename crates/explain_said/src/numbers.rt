@@ -44,8 +44,8 @@ const REASONS: [Reason; 33] = [
     Reason::MainAsStated,
 ];
 
-// The reason of a list with a number from 1 on.
-fn reason_of(reasons: &[Reason], number: u32) -> Option<Reason>
+// The reason of a list with a number, from 1 on.
+pub fn reason_of<R: Copy>(reasons: &[R], number: u32) -> Option<R>
     ensures { result ≡ slice_get reasons.now (number - 1) }
 {
     reasons.get((number as usize).saturating_sub(1)).copied()

@@ -1,13 +1,24 @@
 -- What is said, by its cases.
 use mathlib.Core.Path.{◌≡◌, sym, ◌∙◌}
+use mathlib.Core.List.{[]}
 use Prim.Native.Nat.{ℕ, ◌-◌, ◌≤◌, ◌<◌}
 use lib.ListN.{length}
 use borrow.Author.Tests.{lt-ltb, le-ltb, eq-eqb, ne_eqb}
-use Rattle.listing.specs.Bytes.{Bytes, bytes_of}
+use Rattle.listing.specs.Bytes.{Bytes, bytes_of, figure}
 use Rattle.explain_parts.specs.Parts.{part_of}
 use Rattle.schedule.specs.Form.{place19}
 use Rattle.explain_schedule.specs.Faults.{fault_at, schedule_fault}
+use Rattle.explain_schedule_said.specs.Numbers.{allowed_text}
 use Rattle.explain_schedule_said.specs.Said.{plain_text, refused_text, schedule_text}
+
+-- ── the figure behind a number ────────────────────────────────────────────────────
+pub no_figure : (why allowed : ℕ) → why < 16 → [] ≡ allowed_text why allowed
+unfolding allowed_text
+no_figure why allowed h = rw (lt-ltb why 16 h)
+
+pub some_figure : (why allowed : ℕ) → 16 ≤ why → figure allowed ≡ allowed_text why allowed
+unfolding allowed_text
+some_figure why allowed h = rw (le-ltb why 16 h)
 
 -- ── a schedule ───────────────────────────────────────────────────────────────────
 module _ (path text : Bytes) where

@@ -3,10 +3,12 @@ ghost use Rattle.std.specs.Prelude.{◌≡◌, ◌+◌, ◌≤◌, length};
 ghost use Rattle.session_print.specs.Puts.{Puts};
 ghost use Rattle.listing.specs.Bytes.{bytes_of};
 ghost use Rattle.explain_schedule_said.specs.Reasons.{sentence, counted, reason_text, fault_text, rule, question_text, usage_text};
+ghost use Rattle.explain_schedule_said.specs.Numbers.{number_text, allowed_text, why_text};
 
-use explain_fields::Fault;
-use explain_said::{put_spot, put_with_figure, sentence as form_sentence};
+use explain_fields::{Fault, Reason as Form, Strange};
+use explain_said::{put_spot, put_with_figure, reason_of, sentence as form_sentence};
 use explain_schedule::Reason;
+use session_print::figure::put_figure;
 use test_cases::report::put_text;
 
 // A reason's sentence, without the figure behind it.
@@ -51,6 +53,64 @@ pub fn put_reason(out: &mut [u8], at: usize, why: Reason) -> usize
     ensures { Puts out.old at (reason_text why) out.new result × (result ≤ at + 220) }
 {
     put_with_figure(out, at, sentence(why), counted(why))
+}
+
+// The reasons from number 1 on; the figures are said apart.
+const REASONS: [Reason; 17] = [
+    Reason::Form(Form::Strange(Strange::Nothing)),
+    Reason::Form(Form::Strange(Strange::CarriageReturn)),
+    Reason::Form(Form::Strange(Strange::NotAscii)),
+    Reason::Form(Form::Strange(Strange::SpacesForTabs)),
+    Reason::DateCount,
+    Reason::WindowCount,
+    Reason::NoDate,
+    Reason::Form(Form::BadFigure),
+    Reason::Form(Form::SecondPiece),
+    Reason::NoLineFeed,
+    Reason::NoYear,
+    Reason::NoMonth,
+    Reason::NoInput,
+    Reason::NoWeekday,
+    Reason::NoMinute,
+    Reason::NoDay(0),
+    Reason::NotBelow(0),
+];
+
+// From this number on a figure stands behind the sentence.
+const NO_DAY: u32 = 16;
+
+// The sentence of a reason by its number, 0 being none; none for other numbers.
+fn sentence_of(number: u32) -> &'static [u8]
+    ensures is { result.now ≡ number_text number }
+    ensures short { length result.now ≤ 200 }
+{
+    if number == 0 {
+        return b"nothing is wrong";
+    }
+    match reason_of(&REASONS, number) {
+        Some(why) => sentence(why),
+        None => b"",
+    }
+}
+
+// The figure behind a number that asks for it; the place past it.
+fn put_allowed(out: &mut [u8], at: usize, why: u32, allowed: u64) -> usize
+    requires { at ≤ 60000 }
+    ensures { Puts out.old at (allowed_text why allowed) out.new result × (result ≤ at + 20) }
+{
+    if why < NO_DAY {
+        return at;
+    }
+    put_figure(out, at, allowed)
+}
+
+// A reason by its number, with its figure; the place past them.
+pub fn put_why(out: &mut [u8], at: usize, why: u32, allowed: u64) -> usize
+    requires { at ≤ 50000 }
+    ensures { Puts out.old at (why_text why allowed) out.new result × (result ≤ at + 220) }
+{
+    let a = put_text(out, at, sentence_of(why));
+    put_allowed(out, a, why, allowed)
 }
 
 // What is wrong in a line, and where, or that nothing is; the place past it.

@@ -5,7 +5,9 @@ use borrow.Author.Tests.{le-leb, lt-leb, eq-eqb, ne_eqb}
 use Rattle.listing.specs.Bytes.{Bytes, bytes_of}
 use Rattle.std.specs.Prelude.{Option}
 use Rattle.explain_trace.specs.Scans.{fault_of}
+use Rattle.explain_trace.specs.declared.reasons.Reason.{Reason}
 use Rattle.explain_trace.specs.declared.scan.TraceFault.{TraceFault}
+use Rattle.explain_trace_said.specs.Reasons.{reason_text}
 use Rattle.explain_played.specs.Endings.{leading_figure}
 use Rattle.explain_played.specs.declared.ending.Ended.{Ended}
 use Rattle.explain_session.specs.Told.{refused_text, stopped_text, plain_text, ended_text}
@@ -20,9 +22,9 @@ module _ (path trace listingPath listing : Bytes) (ended : Ended) where
     unfolding ended_text
     stops h = rw (ne_eqb ended.code 0 n, le-leb 13 ended.code h)
 
-    pub refuses : ended.code < 13 → (inputs : ℕ) (fault : Option TraceFault) → inputs ≡ leading_figure listing → fault ≡ fault_of inputs trace →
-        refused_text path trace fault ended.code ≡ ended_text path trace listingPath listing ended
+    pub refuses : ended.code < 13 → (inputs : ℕ) (fault : Option (TraceFault Reason)) → inputs ≡ leading_figure listing → fault ≡ fault_of inputs trace →
+        refused_text reason_text path trace fault ended.code ≡ ended_text path trace listingPath listing ended
     unfolding ended_text
     refuses h inputs fault e f =
-        ap (λ (x : Option TraceFault). refused_text path trace x ended.code) (f ∙ ap (λ (k : ℕ). fault_of k trace) e)
+        ap (λ (x : Option (TraceFault Reason)). refused_text reason_text path trace x ended.code) (f ∙ ap (λ (k : ℕ). fault_of k trace) e)
         ∙ rw (ne_eqb ended.code 0 n, lt-leb 13 ended.code h)

@@ -6,8 +6,8 @@ ghost use Rattle.explain_session.specs.Told.{line_of, wrong_in, told_line, refus
 use explain_fields::Fault;
 use explain_parts::{part_of, put_shown};
 use explain_played::Ended;
-use explain_trace::{Reason, TraceFault};
-use explain_trace_said::{put_asked, put_code, put_fault, put_place};
+use explain_trace::TraceFault;
+use explain_trace_said::{Said, put_asked, put_code, put_fault, put_place};
 use session_print::figure::put_figure;
 use test_cases::report::put_text;
 
@@ -17,7 +17,7 @@ pub const NAME_SHOWN: usize = 4096;
 const LINE_SHOWN: usize = 120;
 
 // The line of a fault; 0 for none.
-fn line_of(fault: Option<TraceFault>) -> usize
+fn line_of<R: Copy>(fault: Option<TraceFault<R>>) -> usize
     ensures { result ≡ line_of fault }
 {
     match fault {
@@ -27,7 +27,7 @@ fn line_of(fault: Option<TraceFault>) -> usize
 }
 
 // What is wrong in it.
-fn wrong_in(fault: Option<TraceFault>) -> Option<Fault<Reason>>
+fn wrong_in<R: Copy>(fault: Option<TraceFault<R>>) -> Option<Fault<R>>
     ensures { result ≡ wrong_in fault }
 {
     match fault {
@@ -37,15 +37,15 @@ fn wrong_in(fault: Option<TraceFault>) -> Option<Fault<Reason>>
 }
 
 // The reason at a line, the line as it is shown, and the rule; the place past them.
-fn put_told(
+fn put_told<R: Said>(
     out: &mut [u8],
     at: usize,
     line: &[u8],
-    fault: Option<Fault<Reason>>,
+    fault: Option<Fault<R>>,
     code: u32,
 ) -> usize
     requires { at ≤ 20000 }
-    ensures { Puts out.old at (told_line line.now fault code) out.new result × (result ≤ at + 10000) }
+    ensures { Puts out.old at (told_line R.said line.now fault code) out.new result × (result ≤ at + 10000) }
 {
     let a = put_fault(out, at, line, fault);
     let b = put_text(out, a, b"\n    ");
@@ -53,15 +53,15 @@ fn put_told(
     put_code(out, c, code)
 }
 
-// A refusal: where, why, and its rule; how many bytes.
-pub fn put_refused(
+// A refusal: where, why, and its rule; how many bytes. Of numbers proofs Numbered `refused` says the text.
+pub fn put_refused<R: Said>(
     out: &mut [u8],
     path: &[u8],
     trace: &[u8],
-    fault: Option<TraceFault>,
+    fault: Option<TraceFault<R>>,
     code: u32,
 ) -> usize
-    ensures { Puts out.old 0 (refused_text path.now trace.now fault code) out.new result × (result ≤ 50000) }
+    ensures { Puts out.old 0 (refused_text R.said path.now trace.now fault code) out.new result × (result ≤ 50000) }
 {
     let number = line_of(fault);
     let a = put_place(out, 0, path, NAME_SHOWN, number);

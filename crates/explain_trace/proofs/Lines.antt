@@ -25,6 +25,7 @@ use Rattle.explain_trace.specs.Scans.{judge_input, judge_last, unformed, judge_l
 use Rattle.std.specs.Prelude.{Option, Some}
 use Rattle.explain_fields.specs.Fields.{about}
 use Rattle.explain_trace.specs.declared.reasons.Reason.TheVariants as WV
+use Rattle.explain_trace.specs.declared.reasons.Reason.{Reason}
 use Rattle.explain_trace.specs.declared.scan.TraceFault.{TraceFault}
 use Rattle.explain_trace.specs.declared.scan.Judged.{Judged}
 use Rattle.explain_trace.specs.declared.scan.Judged.TheVariants as JV
@@ -115,7 +116,7 @@ module _ (inputs : ℕ) (s : Bytes) (at line time least end : ℕ) (v : Scanning
   abbrev here : Bytes
   here = first_part_lem 10 (drop at s)
 
-  abbrev later : ℕ → ℕ → Option TraceFault
+  abbrev later : ℕ → ℕ → Option (TraceFault Reason)
   later t next = fault_from inputs (unclosed (drop (end + 1) s)) t next (line + 1) (closed_lines (drop (end + 1) s))
 
   module _ (h : end < length s) (r : Judged) (is : r ≡ judge_line inputs line here (eqb (end + 1) (length s)) time least (read_trace_line here)) where
@@ -127,7 +128,7 @@ module _ (inputs : ℕ) (s : Bytes) (at line time least end : ℕ) (v : Scanning
         (is ∙ ap (λ (t : Bool). judge_line inputs line here t time least (read_trace_line here)) (sym (nothing_after s (end + 1) (omega (arith, h)))))
         ∙ first
 
-    pub scan_ends : (fault : Option TraceFault) → r ≡ JV.Ends fault → fault ≡ fault_of inputs s
+    pub scan_ends : (fault : Option (TraceFault Reason)) → r ≡ JV.Ends fault → fault ≡ fault_of inputs s
     unfolding resume
     scan_ends fault d = ap (λ (x : Judged). resume x later) (sym d) ∙ one_line
 

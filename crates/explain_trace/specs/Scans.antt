@@ -43,7 +43,7 @@ judge_last line true = JV.Ends None
 judge_last line false = JV.Ends (Some (record { line = line + 1; fault = about WV.AfterLast }))
 
 -- a line out of form
-abbrev pub unformed : ℕ → Bytes → Reason → TraceFault
+abbrev pub unformed : ℕ → Bytes → Reason → TraceFault Reason
 unformed line bytes other = record { line = line; fault = unwrap_or (form_fault bytes) (about other) }
 
 unfoldable pub judge_line : ℕ → ℕ → Bytes → Bool → ℕ → ℕ → TraceLine → Judged
@@ -52,22 +52,22 @@ judge_line inputs line bytes nothingAfter time least (last_line_lem t) = judge_l
 judge_line inputs line bytes nothingAfter time least out_of_form = JV.Ends (Some (unformed line bytes WV.NoForm))
 
 -- what comes after the last line feed: "no `Q` at the end"
-unfoldable pub end_fault : ℕ → Bytes → TraceFault
+unfoldable pub end_fault : ℕ → Bytes → TraceFault Reason
 end_fault line [] = record { line = line; fault = about WV.NoLast }
 end_fault line (byte ∷ bytes) = unformed line (byte ∷ bytes) WV.NoLineFeed
 
 -- the end, with its fault if there is one, or it goes on
-unfoldable pub resume : Judged → (ℕ → ℕ → Option TraceFault) → Option TraceFault
+unfoldable pub resume : Judged → (ℕ → ℕ → Option (TraceFault Reason)) → Option (TraceFault Reason)
 resume (JV.Goes time least) next = next time least
 resume (JV.Ends fault) next = fault
 
 -- closed lines, the first of which has this number, and what comes after them
-unfoldable pub fault_from : ℕ → Bytes → ℕ → ℕ → ℕ → List Bytes → Option TraceFault
+unfoldable pub fault_from : ℕ → Bytes → ℕ → ℕ → ℕ → List Bytes → Option (TraceFault Reason)
 fault_from inputs last time least line [] = Some (end_fault line last)
 fault_from inputs last time least line (bytes ∷ lines) =
     resume (judge_line inputs line bytes (is_empty lines && is_empty last) time least (read_trace_line bytes))
     (λ t next. fault_from inputs last t next (line + 1) lines)
 
 -- the first line that a session on a listing of so many inputs would refuse; none if it would play them all
-unfoldable pub fault_of : ℕ → Bytes → Option TraceFault
+unfoldable pub fault_of : ℕ → Bytes → Option (TraceFault Reason)
 fault_of inputs trace = fault_from inputs (unclosed trace) 0 0 1 (closed_lines trace)

@@ -13,16 +13,16 @@ use text_place::Place;
 
 // The line, from 1, and what is wrong in it.
 #[derive(Clone, Copy)]
-pub struct TraceFault {
+pub struct TraceFault<R> {
     pub line: usize,
-    pub fault: Fault<Reason>,
+    pub fault: Fault<R>,
 }
 
 // After a line: the time of its call, and the least number that may come next in it; or the end, with the fault if there is one.
 #[derive(Clone, Copy)]
 pub enum Judged {
     Goes(u64, u64),
-    Ends(Option<TraceFault>),
+    Ends(Option<TraceFault<Reason>>),
 }
 
 // Why a call of which the next number is at least `least` has no such input.
@@ -94,7 +94,7 @@ fn judge_last(line: usize, nothing_after: bool) -> Judged
 }
 
 // A line out of form; another reason if its form tells none.
-fn unformed(line: usize, bytes: &[u8], other: Reason) -> TraceFault
+fn unformed(line: usize, bytes: &[u8], other: Reason) -> TraceFault<Reason>
     requires { length bytes.now ≤ 100000 }
     ensures { result ≡ unformed line bytes.now other }
 {
@@ -138,7 +138,7 @@ fn judge_line(
 }
 
 // What comes after the last line feed.
-fn end_fault(line: usize, bytes: &[u8]) -> TraceFault
+fn end_fault(line: usize, bytes: &[u8]) -> TraceFault<Reason>
     requires { length bytes.now ≤ 100000 }
     ensures { result ≡ end_fault line bytes.now }
 {
@@ -152,7 +152,7 @@ fn end_fault(line: usize, bytes: &[u8]) -> TraceFault
 }
 
 // The first line that a session on a listing of so many inputs would refuse; none if it would play them all.
-pub fn trace_fault(trace: &[u8], inputs: u64) -> Option<TraceFault>
+pub fn trace_fault(trace: &[u8], inputs: u64) -> Option<TraceFault<Reason>>
     requires { length trace.now ≤ 100000 }
     ensures { result ≡ fault_of inputs trace.now }
 {

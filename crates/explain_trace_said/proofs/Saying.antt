@@ -1,17 +1,17 @@
 -- What is said, put piece by piece.
-use mathlib.Core.Path.{◌≡◌, refl, ap, ◌∙◌}
+use mathlib.Core.Path.{◌≡◌, refl, ap}
 use mathlib.Core.Bool.{Bool, true, false, cond, ◌||◌}
 use mathlib.Core.List.{[], ◌∷◌, ◌++◌}
-use Prim.Native.Nat.{ℕ, suc, ◌-◌, ◌≤◌, ◌<◌}
+use Prim.Native.Nat.{ℕ, ◌-◌, ◌≤◌, ◌<◌}
 use native.Mathlib.Omega.{arith}
 use lib.Dec.{eqb, ltb}
 use Rattle.std.specs.List.{list_any}
-use lib.ListN.{length}
 use borrow.Author.Tests.{lt-ltb, le-ltb}
 use Rattle.listing.specs.Bytes.{Bytes, bytes_of, split, extend, join, figure}
 use Rattle.session_print.specs.Puts.{Puts}
 use Rattle.explain_parts.specs.Parts.{part_of}
 use Rattle.explain_trace_said.specs.Reasons.{rule_texts, rule_text, joined_rules}
+use Rattle.explain_trace_said.specs.Numbers.{allowed_text}
 use Rattle.explain_trace_said.specs.Asked.{stands_in, asks, count_all, asked_line, asked_here_lem, room, more_text, asked_all, asked_text}
 
 -- nothing is put
@@ -22,6 +22,15 @@ none_put l at = record { past = omega arith; stored = refl }
 pub rule_by_line : (t : Bytes) (k : ℕ) → t ≡ joined_rules → part_of 10 t k ≡ rule_text k
 unfolding joined_rules rule_texts bytes_of split extend join
 rule_by_line t k e = ap (λ (l : Bytes). part_of 10 l k) e
+
+-- ── the figure behind a number ────────────────────────────────────────────────────
+pub no_figure : (why allowed : ℕ) → why < 15 → [] ≡ allowed_text why allowed
+unfolding allowed_text
+no_figure why allowed h = rw (lt-ltb why 15 h)
+
+pub some_figure : (why allowed : ℕ) → 15 ≤ why → figure allowed ≡ allowed_text why allowed
+unfolding allowed_text
+some_figure why allowed h = rw (le-ltb why 15 h)
 
 -- ── how many more ────────────────────────────────────────────────────────────────
 pub none_more : (seen : ℕ) → seen ≤ 8 → [] ≡ more_text seen

@@ -1,3 +1,4 @@
 pub mod Places
 pub mod Reasons
 pub mod Asked
+pub mod Numbers

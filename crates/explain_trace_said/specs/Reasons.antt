@@ -36,10 +36,13 @@ counted _ = None
 abbrev pub reason_text : Reason → Bytes
 reason_text why = with_figure (bytes_of (sentence why)) (counted why)
 
--- what is wrong in a line, and where, or that nothing is
+-- what is wrong in a line, by how a reason is said, and where, or that nothing is
+abbrev pub fault_said : {R : Type 0} → (R → Bytes) → Bytes → Option (Fault R) → Bytes
+fault_said said line (Some fault) = spot_text line fault.spot ++ said fault.why
+fault_said said line None = bytes_of "nothing is wrong"
+
 abbrev pub fault_text : Bytes → Option (Fault Reason) → Bytes
-fault_text line (Some fault) = spot_text line fault.spot ++ reason_text fault.why
-fault_text line None = bytes_of "nothing is wrong"
+fault_text line fault = fault_said reason_text line fault
 
 -- the rules of the codes that a session may end with, by their number; none for other numbers
 abbrev pub rules : List String

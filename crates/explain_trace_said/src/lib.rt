@@ -7,4 +7,4 @@ pub mod reason;
 
 pub use asked::put_asked;
 pub use place::put_place;
-pub use reason::{put_code, put_fault};
+pub use reason::{Numbered, Said, put_code, put_fault, put_why};

@@ -1,11 +1,12 @@
 // The sentences of the reasons and of the codes. They are those of specs/Reasons, as the contracts say.
 ghost use Rattle.std.specs.Prelude.{◌≡◌, ◌+◌, ◌≤◌, length};
 ghost use Rattle.session_print.specs.Puts.{Puts};
-ghost use Rattle.listing.specs.Bytes.{bytes_of};
-ghost use Rattle.explain_trace_said.specs.Reasons.{sentence, counted, reason_text, fault_text, rule_text, code_text};
+ghost use Rattle.listing.specs.Bytes.{Bytes, bytes_of};
+ghost use Rattle.explain_trace_said.specs.Reasons.{sentence, counted, reason_text, fault_said, rule_text, code_text};
+ghost use Rattle.explain_trace_said.specs.Numbers.{number_text, allowed_text, why_text};
 
-use explain_fields::Fault;
-use explain_said::{put_line, put_spot, put_with_figure, strange_sentence};
+use explain_fields::{Fault, Strange};
+use explain_said::{put_line, put_spot, put_with_figure, reason_of, strange_sentence};
 use explain_trace::Reason;
 use session_print::figure::put_figure;
 use test_cases::report::put_text;
@@ -59,15 +60,105 @@ pub fn put_reason(out: &mut [u8], at: usize, why: Reason) -> usize
     put_with_figure(out, at, sentence(why), counted(why))
 }
 
+// The reasons from number 1 on; the figures are said apart.
+const REASONS: [Reason; 17] = [
+    Reason::Strange(Strange::Nothing),
+    Reason::Strange(Strange::CarriageReturn),
+    Reason::Strange(Strange::NotAscii),
+    Reason::Strange(Strange::SpacesForTabs),
+    Reason::NoSuchLetter,
+    Reason::FieldCount,
+    Reason::BadTime,
+    Reason::BadInput,
+    Reason::BadValue,
+    Reason::SecondPiece,
+    Reason::NoForm,
+    Reason::NoLineFeed,
+    Reason::NoLast,
+    Reason::AfterLast,
+    Reason::NotAfter(0),
+    Reason::NoInput(0),
+    Reason::NotRising(0),
+];
+
+// From this number on a figure stands behind the sentence.
+const NOT_AFTER: u32 = 15;
+
+// The sentence of a reason by its number, 0 being none; none for other numbers.
+fn sentence_of(number: u32) -> &'static [u8]
+    ensures is { result.now ≡ number_text number }
+    ensures short { length result.now ≤ 200 }
+{
+    if number == 0 {
+        return b"nothing is wrong";
+    }
+    match reason_of(&REASONS, number) {
+        Some(why) => sentence(why),
+        None => b"",
+    }
+}
+
+// The figure behind a number that asks for it; the place past it.
+fn put_allowed(out: &mut [u8], at: usize, why: u32, allowed: u64) -> usize
+    requires { at ≤ 60000 }
+    ensures { Puts out.old at (allowed_text why allowed) out.new result × (result ≤ at + 20) }
+{
+    if why < NOT_AFTER {
+        return at;
+    }
+    put_figure(out, at, allowed)
+}
+
+// A reason by its number, with its figure; the place past them.
+pub fn put_why(out: &mut [u8], at: usize, why: u32, allowed: u64) -> usize
+    requires { at ≤ 50000 }
+    ensures { Puts out.old at (why_text why allowed) out.new result × (result ≤ at + 220) }
+{
+    let a = put_text(out, at, sentence_of(why));
+    put_allowed(out, a, why, allowed)
+}
+
+// What can be said as a reason: a reason itself, or its number with its figure.
+pub trait Said: Copy {
+    ghost said: { Self → Bytes };
+
+    fn put(self, out: &mut [u8], at: usize) -> usize
+        requires { at ≤ 50000 }
+        ensures { Puts out.old at (said self) out.new result × (result ≤ at + 220) };
+}
+
+impl Said for Reason {
+    ghost said = { reason_text };
+
+    fn put(self, out: &mut [u8], at: usize) -> usize {
+        put_reason(out, at, self)
+    }
+}
+
+// A reason's number, and the figure that stands behind some.
+#[derive(Clone, Copy, Debug, PartialEq, Eq)]
+pub struct Numbered {
+    pub why: u32,
+    pub allowed: u64,
+}
+
+impl Said for Numbered {
+    ghost said = { λ number. why_text number.why number.allowed };
+
+    fn put(self, out: &mut [u8], at: usize) -> usize {
+        put_why(out, at, self.why, self.allowed)
+    }
+}
+
 // What is wrong in a line, and where, or that nothing is; the place past it.
-pub fn put_fault(out: &mut [u8], at: usize, line: &[u8], fault: Option<Fault<Reason>>) -> usize
+pub fn put_fault<R: Said>(out: &mut [u8], at: usize, line: &[u8], fault: Option<Fault<R>>) -> usize
     requires { at ≤ 30000 }
-    ensures { Puts out.old at (fault_text line.now fault) out.new result × (result ≤ at + 4420) }
+    ensures { Puts out.old at (fault_said R.said line.now fault) out.new result × (result ≤ at + 4420) }
 {
     match fault {
         Some(fault) => {
             let past = put_spot(out, at, line, fault.spot);
-            put_reason(out, past, fault.why)
+            fault.why.put(out, past)
         }
         None => put_text(out, at, b"nothing is wrong"),
     }

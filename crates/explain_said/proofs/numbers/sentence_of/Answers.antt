@@ -3,9 +3,11 @@ use Prim.Native.Nat.{suc, ◌-◌}
 use mathlib.Core.Path.{◌≡◌, refl, ◌∙◌}
 use native.Mathlib.Omega.{arith}
 use Rattle.listing.specs.Bytes.{bytes_of}
+use Rattle.explain_fields.specs.declared.reasons.Reason.{Reason}
+use Rattle.explain_said.specs.Reasons.{sentence}
 use Rattle.explain_said.specs.Numbers.{number_texts}
 use Rattle.explain_said.specs.declared.numbers.TheConstants.{REASONS}
-use Rattle.explain_said.proofs.ByNumber.{some_sentence, no_sentence}
+use Rattle.explain_said.proofs.ByNumber.{some_text, no_text}
 use Rattle.explain_said.proofs.numbers.sentence_of.Goals as goal
 
 pub returns-then-number-eq0-clause-is : goal.returns-then-number-eq0-clause-is
@@ -17,11 +19,12 @@ unfolding number_texts
 returns-in-Some-clause-is c =
     let n = c.args.number in
     let later : n ≡ suc (n - 1) = omega (arith, c.if-number-eq0.false) in
-    c.sentence.ensures.is ∙ some_sentence REASONS (bytes_of "the line does not meet the rule below") refl n (n - 1) later _ c.in-Some.ensures
+    c.sentence.ensures.is
+    ∙ some_text (λ (why : Reason). bytes_of (sentence why)) number_texts REASONS (bytes_of "the line does not meet the rule below") refl n (n - 1) later _ c.in-Some.ensures
 
 pub returns-in-None-clause-is : goal.returns-in-None-clause-is
 unfolding number_texts
 returns-in-None-clause-is c =
     let n = c.args.number in
     let later : n ≡ suc (n - 1) = omega (arith, c.if-number-eq0.false) in
-    no_sentence REASONS (bytes_of "the line does not meet the rule below") refl n (n - 1) later c.in-None.ensures
+    no_text (λ (why : Reason). bytes_of (sentence why)) number_texts REASONS (bytes_of "the line does not meet the rule below") refl n (n - 1) later c.in-None.ensures

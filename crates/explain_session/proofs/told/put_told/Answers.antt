@@ -7,7 +7,7 @@ use Rattle.explain_session.proofs.told.put_told.Goals as goal
 
 pub returns : goal.returns
 unfolding told_line bytes_of
-returns c =
+returns g c =
     let a = c.put_fault-a.ensures in
     let b = c.put_text-b.ensures in
     let d = c.put_shown-c.ensures in

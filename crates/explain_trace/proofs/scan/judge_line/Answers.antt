@@ -12,6 +12,7 @@ use Rattle.explain_parts.specs.Parts.{first_part_lem}
 use Rattle.explain_parts.proofs.Parts.{part_taken}
 use Rattle.std.specs.Prelude.{Some}
 use Rattle.explain_trace.specs.declared.reasons.Reason.TheVariants as WV
+use Rattle.explain_trace.specs.declared.reasons.Reason.{Reason}
 use Rattle.explain_trace.specs.declared.scan.TraceFault.{TraceFault}
 use Rattle.explain_trace.specs.Scans.{unformed}
 use Rattle.explain_trace.specs.declared.scan.Judged.TheVariants as JV
@@ -44,6 +45,6 @@ returns-in-Bad c =
     let a = c.args in
     let s = a.trace.now in
     let b = first_part_lem 10 (drop a.at s) in
-    ap (λ (f : TraceFault). JV.Ends (Some f)) (c.unformed.ensures ∙ ap (λ (l : Bytes). unformed a.line l WV.NoForm) (part_taken 10 s a.at a.end (omega (arith, c.requires.0, c.requires.1)) c.requires.2))
+    ap (λ (f : TraceFault Reason). JV.Ends (Some f)) (c.unformed.ensures ∙ ap (λ (l : Bytes). unformed a.line l WV.NoForm) (part_taken 10 s a.at a.end (omega (arith, c.requires.0, c.requires.1)) c.requires.2))
     ∙ ap (judge_as a.inputs a.line b (eqb (a.end + 1) (length s)) a.time a.least) (sym c.in-Bad.is ∙ c.read_trace_line-read.ensures)
     ∙ judged_as a.inputs a.line b (eqb (a.end + 1) (length s)) a.time a.least (read_trace_line b) (get_or s (line_end s a.at) 0) (passed s 0 (line_end s a.at))

@@ -3,6 +3,7 @@ use mathlib.Core.Path.{ap, ◌∙◌}
 use native.Mathlib.Omega.{arith}
 use Rattle.explain_parts.proofs.Parts.{part_taken}
 use Rattle.std.specs.Prelude.{Some}
+use Rattle.explain_trace.specs.declared.reasons.Reason.{Reason}
 use Rattle.explain_trace.specs.declared.scan.TraceFault.{TraceFault}
 use Rattle.explain_trace.specs.Scans.{end_fault}
 use Rattle.explain_trace.proofs.Lines.{scanning_begun, scan_ends, scanning_on, scanned, part_long}
@@ -20,7 +21,7 @@ end_fault-requires c = part_long _ _ _ c.part_end-end.ensures.1 c.part_end-end.e
 pub returns-then-end-trace : goal.returns-then-end-trace
 returns-then-end-trace c =
     let v = c.loop-inputs in
-    ap (λ (f : TraceFault). Some f) (c.end_fault.ensures ∙ ap (end_fault v.line) (part_taken 10 _ _ _ v.invariant.inside c.part_end-end.ensures.0))
+    ap (λ (f : TraceFault Reason). Some f) (c.end_fault.ensures ∙ ap (end_fault v.line) (part_taken 10 _ _ _ v.invariant.inside c.part_end-end.ensures.0))
     ∙ scanned _ _ _ _ _ _ _ v.invariant c.part_end-end.ensures.0 c.if-end-trace.true
 
 pub judge_line-judged-requires : goal.judge_line-judged-requires
